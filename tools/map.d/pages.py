@@ -8,7 +8,7 @@ from tree import (
 )
 
 RESERVED = {"NOT_YET"}  # faults that are never answered
-NO_ANSWERS = {"base_bytes", "bench"}  # crates that name faults and answer none of the table
+NO_ANSWERS = {"dex_base", "bench"}  # crates that name faults and answer none of the table
 # How definitions name the number of a fault.
 NUMBER = (
     r"(?:\bon [\w.]+|Breaks N c|BreaksLimit N c|Breaks b i|differences k|LimitBreaks p|code =|code ≡|broken|base"
@@ -42,8 +42,8 @@ END = "\n---\n\nBack to the [README](../README.md).\n"
 
 def faults() -> dict[int, tuple[str, str]]:
     """The faults by number: their names in the code and in answers."""
-    names = dict(re.findall(r"row!\(fault::(\w+), \"(\w+)\"", read("crates/base_bytes/src/fault_names.rt")))
-    consts = re.findall(r"pub const (\w+): u16 = (\d+);", read("crates/base_bytes/src/fault.rt"))
+    names = dict(re.findall(r"row!\(fault::(\w+), \"(\w+)\"", read("crates/dex_base/src/fault_names.rt")))
+    consts = re.findall(r"pub const (\w+): u16 = (\d+);", read("crates/dex_base/src/fault.rt"))
     return {int(number): (const, names[const]) for const, number in consts}
 
 
@@ -61,7 +61,7 @@ class Places:
     def numbers(self, crate: str, path: str, line: str) -> list[int]:
         """The faults that a line of a file names."""
         if path.endswith(".antt"):
-            found = [int(number) for number in re.findall(NUMBER, line)] if crate != "base_bytes" else []
+            found = [int(number) for number in re.findall(NUMBER, line)] if crate != "dex_base" else []
         else:
             consts = re.findall(r"\bfault::(\w+)", line) if crate not in NO_ANSWERS else []
             found = [self.by_const.get(const) for const in consts]

@@ -101,7 +101,7 @@ def lay_out(layers: dict[str, list[str]], edges: dict[str, list[str]]) -> tuple[
     level, which is that of the picture where the lane is empty."""
     level, boxes = levels_of(edges), {}
     top = {layer: min((level[by] for by in edges if layer in edges[by]), default=level[layer] + 1) for layer in layers}
-    lane = {layer for layer in layers if top[layer] > level[layer] + 1}
+    lane = [layer for layer in layers if top[layer] > level[layer] + 1]
     y = 40
     for at in range(max(level.values()), -1, -1):
         here = [layer for layer in layers if level[layer] == at and layer not in lane]

@@ -1,8 +1,7 @@
 //! An instruction of each format, and each payload, from its units and back, by the layouts of the pages "Dalvik Executable
 //! instruction formats" and "Dalvik bytecode".
 
-use base_bytes::are_bytes;
-use dex_base::Fault;
+use dex_base::{Fault, are_bytes};
 use dex_insn::{RawInsn, put_insn, read_insn, size_of, what_stands_can_be_written};
 use dex_samples::{Case, all_hold, is_so};
 use std::alloc::Global;

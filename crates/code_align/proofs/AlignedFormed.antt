@@ -4,7 +4,7 @@ use Rattle.std.specs.Prelude.{option_map, IfSome, IfNone}
 use Rattle.std.specs.List.{AllByRecursion}
 use Rattle.std.proofs.lemmas.Bool.{cases_lt}
 use Rattle.std.proofs.lemmas.List.{length-map, get_or-map}
-use Rattle.program_types.specs.Opcodes.{formats}
+use Rattle.dex_insn.specs.Opcodes.{formats}
 use Rattle.program_types.specs.Content.{Insn, Code, Try, Catch}
 use Rattle.program_types.specs.Content as made
 use Rattle.program_types.specs.declared.payload.Payload.{Payload}
@@ -13,7 +13,7 @@ use Rattle.program_types.specs.Operands.{IsOperand}
 use Rattle.program_types.specs.Formed.{insn_at, try_at, insn_payload, insn_wants, insn_reach, insn_branch, insn_short_branch, insn_targets, insn_registers, AreAmong, AreAlike, IsSwitch, RefersToPayload, IsTarget, TargetHolds, PayloadHolds, TryFormed, IsFormed}
 use Rattle.code_align.specs.Aligned.{with_nops, PadsPayloads, nops_to, moved, moved_insn, moved_catch, moved_try, padded, Aligned}
 use Rattle.code_align.proofs.PadLaws.{length-with_nops, pads-count}
-use Rattle.base_bytes.proofs.OptionLaws.{IfSome-map}
+use Rattle.dex_base.proofs.OptionLaws.{IfSome-map}
 
 -- ---- the new numbers rise
 

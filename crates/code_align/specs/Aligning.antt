@@ -1,7 +1,7 @@
 -- What the private functions of aligning say.
 use Rattle.std.specs.Prelude.{ℕ, ◌≡◌, ◌+◌, ◌%◌, ◌<◌, ◌≤◌, ◌==◌, if◌then◌else◌, List, [], ◌∷◌, length, slice_index, Bool, true, false, Option, Some, None, IfSome}
 use Rattle.std.specs.List.{AllByRecursion}
-use Rattle.base_bytes.specs.declared.fault.Fault.{Fault}
+use Rattle.dex_base.specs.declared.fault.Fault.{Fault}
 use Rattle.program_types.specs.Content.{Insn, Try}
 use Rattle.program_types.specs.Formed.{insn_payload}
 use Rattle.program_types.specs.Sizes.{insn_units}

@@ -1,7 +1,7 @@
 //! Which instructions get nops before them, and the new numbers of all.
 
 ghost use Rattle.std.specs.Prelude.{◌≡◌, ◌≢◌, ◌≤◌, ◌<◌, ◌+◌, ◌^◌, if◌then◌else◌, ℕ, length, map, IfOk, IfErr, IsOkUnless};
-ghost use Rattle.base_bytes.specs.Fault.{memory};
+ghost use Rattle.dex_base.specs.Fault.{memory};
 ghost use Rattle.program_types.specs.View.{insn};
 ghost use Rattle.program_types.specs.Formed.{insn_at};
 ghost use Rattle.program_types.specs.Operands.{IsOperand};

@@ -2,22 +2,22 @@
 use Rattle.std.proofs.Common.{◌≡◌, ℕ, ◌<◌, ◌++◌, List, [], ◌∷◌, length, refl, sym, ◌∙◌, arith, zero, suc, subst}
 use Rattle.std.specs.Prelude.{slice_index}
 use Rattle.std.specs.List.{AllByRecursion}
-use Rattle.base_bytes.specs.Fields.{AreBytes}
-use Rattle.base_bytes.proofs.ShortestLaws.{AllBytes}
+use Rattle.dex_base.specs.Fields.{AreBytes}
+use Rattle.dex_base.proofs.ShortestLaws.{AllBytes}
 use Rattle.dex_insn.specs.Raw.{Raw}
 use Rattle.dex_insn.specs.Written.{written}
 use Rattle.program_types.specs.Content.{Name, Insn, Code}
 use Rattle.program_types.specs.Formed.{IsFormed, insn_at, insn_leads}
 use Rattle.program_types.specs.Sizes.{addresses_of, length_of}
-use Rattle.code_insns.specs.Walk.{raw_at}
+use Rattle.code_read.specs.Walk.{raw_at}
 use Rattle.code_put.specs.Packs.{joined, IsLowered, Lowers, PacksCode, head_bytes, padding, items_bytes}
 use Rattle.code_put.proofs.HandlerOnce.{IsInjective}
 use Rattle.code_put.proofs.LayoutOnce.{layout-once}
-use Rattle.code_insns.proofs.InsnsOnce.{origin-one}
+use Rattle.code_read.proofs.InsnsOnce.{origin-one}
 use Rattle.code_read.proofs.CodesFormed.{leads-inside}
 use Rattle.code_put.proofs.FormLaws.{length-addresses}
 use Rattle.code_put.proofs.RawOnce.{raw_once}
-use Rattle.base_bytes.proofs.ListFacts.{all_front, all_back, all_of}
+use Rattle.dex_base.proofs.ListFacts.{all_front, all_back, all_of}
 
 raw_bytes : (rs : List Raw) (k : ℕ) → k < length rs → AllBytes (joined rs) → AllBytes (written (raw_at rs k))
 unfolding raw_at

@@ -2,9 +2,9 @@
 use Rattle.std.proofs.Common.{◌≡◌, ℕ, ℤ, pos, ◌+ℤ◌, ◌-ℤ◌, ◌<◌, List, length, get_or, sym, ap, arith, Option, Some, None, subst}
 use Rattle.std.specs.Prelude.{unwrap_or}
 use Rattle.std.proofs.lemmas.Int.{ints}
-use Rattle.code_insns.specs.Places.{Rises, target_at}
-use Rattle.code_insns.specs.Linked.{lead}
-use Rattle.code_insns.proofs.PlaceLaws.{target-to}
+use Rattle.code_read.specs.Places.{Rises, target_at}
+use Rattle.code_read.specs.Linked.{lead}
+use Rattle.code_read.proofs.PlaceLaws.{target-to}
 use Rattle.code_put.specs.Fits.{distance_of}
 
 back : (m n : ℕ) → (pos m +ℤ (pos n -ℤ pos m)) ≡ pos n

@@ -2,21 +2,21 @@
 use Rattle.std.proofs.Common.{◌≡◌, ℕ, ◌+◌, ◌<◌, ◌≤◌, ◌++◌, List, [], ◌∷◌, length, get_or, refl, ap, sym, ◌∙◌, arith, zero, suc, subst, Option, Some, None, inl, inr, length-append, append_assoc, append-nil, take, ◌*◌, ℤ}
 use Rattle.std.specs.Prelude.{slice_get}
 use Rattle.std.specs.List.{AllZip, AllByRecursion, flat_map}
-use Rattle.base_bytes.specs.Leb128.{Spells, SpellsSigned, Shortest}
+use Rattle.dex_base.specs.Leb128.{Spells, SpellsSigned, Shortest}
 use Rattle.code_put.specs.Fits.{catches_in}
 use Rattle.std.proofs.lemmas.Bool.{cases_lt}
-use Rattle.base_bytes.proofs.ShortestLaws.{AllBytes}
-use Rattle.base_bytes.specs.Grammar.{IsPrefixUnique, Each}
+use Rattle.dex_base.proofs.ShortestLaws.{AllBytes}
+use Rattle.dex_base.specs.Grammar.{IsPrefixUnique, Each}
 use Rattle.program_types.specs.Content.{Name, Try, Catch}
 use Rattle.program_types.specs.Formed.{try_at}
-use Rattle.code_insns.proofs.Lists.{at-old, at-new}
+use Rattle.code_read.proofs.Lists.{at-old, at-new}
 use Rattle.code_read.specs.Handlers.{Handler, AllBy}
 use Rattle.code_read.specs.Tries.{handler_of}
-use Rattle.code_insns.specs.Places.{Rises}
+use Rattle.code_read.specs.Places.{Rises}
 use Rattle.code_put.specs.Packs.{IsFirstUse, PacksHandler, PacksCatch}
 use Rattle.code_put.specs.Writing.{Numbers, IsDistinct, joined_keys}
 use Rattle.code_put.proofs.ListLaws.{all-at}
-use Rattle.base_bytes.proofs.ListFacts.{zip_length, zip_more, get_last, slice_left, all_get, all_append}
+use Rattle.dex_base.proofs.ListFacts.{zip_length, zip_more, get_last, slice_left, all_get, all_append}
 
 -- ---- elements
 

@@ -1,19 +1,19 @@
 -- What is written of a handler is one list of bytes.
 use Rattle.std.proofs.Common.{◌≡◌, ℕ, ℤ, pos, negsuc, ◌<◌, ◌++◌, List, [], ◌∷◌, length, ap, sym, ◌∙◌, arith, zero, suc, subst, Option, Some, None}
-use Rattle.base_bytes.specs.Grammar.{Each, IsPrefixUnique}
-use Rattle.base_bytes.specs.Leb128.{Spells, SpellsSigned, Shortest}
-use Rattle.base_bytes.proofs.ShortestLaws.{AllBytes, shortest_one, shortest_signed_one}
+use Rattle.dex_base.specs.Grammar.{Each, IsPrefixUnique}
+use Rattle.dex_base.specs.Leb128.{Spells, SpellsSigned, Shortest}
+use Rattle.dex_base.proofs.ShortestLaws.{AllBytes, shortest_one, shortest_signed_one}
 use Rattle.program_types.specs.Content.{Name, OfDesc, Catch}
-use Rattle.code_insns.proofs.PlaceLaws.{position-there}
+use Rattle.code_read.proofs.PlaceLaws.{position-there}
 use Rattle.code_read.specs.Handlers.{Handler, HasAll, catches_of, AllBy}
 use Rattle.code_put.specs.Packs.{AddressAt, PacksCatch, PacksHandler}
-use Rattle.base_bytes.proofs.WeakerLaws.{IsPrefixUnique-weaker, Shortest-weaker}
-use Rattle.base_bytes.proofs.Numbers.{spells_unique}
-use Rattle.base_bytes.proofs.Signed.{signed_unique}
+use Rattle.dex_base.proofs.WeakerLaws.{IsPrefixUnique-weaker, Shortest-weaker}
+use Rattle.dex_base.proofs.Numbers.{spells_unique}
+use Rattle.dex_base.proofs.Signed.{signed_unique}
 use Rattle.tables_names.specs.Closure.{Five, AreRising, NameRanks}
 use Rattle.code_read.proofs.HandlerLaws.{handler-unique}
 use Rattle.code_put.proofs.RankLaws.{ranks-functional}
-use Rattle.base_bytes.proofs.ListFacts.{all_front, all_back}
+use Rattle.dex_base.proofs.ListFacts.{all_front, all_back}
 use Rattle.tables_names.proofs.PlaceLemmas.{rank_one}
 
 -- a name has one index

@@ -4,13 +4,13 @@ use Rattle.std.specs.Prelude.{neg_ℤ, ◌-ℤ◌, IfSome, IfNone}
 use Rattle.std.proofs.lemmas.Int.{ints}
 use mir.Val.{to_z, of_z}
 use mir.Syntax.{w32}
-use Rattle.base_bytes.specs.Grammar.{Appends, Then, Many, Each}
-use Rattle.base_bytes.specs.Via.{Via}
-use Rattle.base_bytes.specs.Leb128.{Spells, SpellsSigned, Shortest}
-use Rattle.base_bytes.proofs.GrammarLaws.{Then-appends}
+use Rattle.dex_base.specs.Grammar.{Appends, Then, Many, Each}
+use Rattle.dex_base.specs.Via.{Via}
+use Rattle.dex_base.specs.Leb128.{Spells, SpellsSigned, Shortest}
+use Rattle.dex_base.proofs.GrammarLaws.{Then-appends}
 use Rattle.program_types.specs.Content.{Name, OfDesc, Catch}
-use Rattle.code_insns.specs.Places.{Rises, position}
-use Rattle.code_insns.proofs.PlaceLaws.{position-is}
+use Rattle.code_read.specs.Places.{Rises, position}
+use Rattle.code_read.proofs.PlaceLaws.{position-is}
 use Rattle.code_read.specs.Handlers.{Handler, HasAll, catches_of, TypeBy, AllBy, PartsBy}
 use Rattle.code_put.specs.Packs.{AddressAt, PacksCatch, PacksHandler}
 

@@ -4,11 +4,11 @@ use Rattle.std.specs.Prelude.{FitsSigned}
 use Rattle.std.specs.Int.{cast_unsigned, w32}
 use Rattle.std.proofs.lemmas.List.{drop_more}
 use Rattle.byteorder.specs.Endian.{little_number}
-use Rattle.base_bytes.specs.Fields.{u32_at, u32_bytes}
-use Rattle.base_bytes.proofs.FieldBounds.{u32_at-front, u32_at-append, u32_at-bytes, length-u32_bytes}
+use Rattle.dex_base.specs.Fields.{u32_at, u32_bytes}
+use Rattle.dex_base.proofs.FieldBounds.{u32_at-front, u32_at-append, u32_at-bytes, length-u32_bytes}
 use Rattle.dex_insn.specs.Fields.{number, int_at, signed}
 use Rattle.dex_insn.proofs.Signs.{signed_32, unsigned_32}
-use Rattle.code_insns.specs.Symbols.{ints, ints_from}
+use Rattle.code_read.specs.Symbols.{ints, ints_from}
 
 pub number-u32 : (b : List ℕ) (i : ℕ) → number b (2 * i) 2 ≡ u32_at b (4 * i)
 unfolding number u32_at

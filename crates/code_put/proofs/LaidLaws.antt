@@ -5,20 +5,20 @@ use Rattle.std.specs.List.{AllZip}
 use Rattle.std.proofs.lemmas.Bool.{cases_lt}
 use Rattle.std.proofs.lemmas.Bool.Decides.{nat_tests}
 use Rattle.std.proofs.lemmas.Option.{slice_get_within}
-use Rattle.base_bytes.specs.Grammar.{Placed}
-use Rattle.base_bytes.specs.Leb128.{Spells, Shortest}
+use Rattle.dex_base.specs.Grammar.{Placed}
+use Rattle.dex_base.specs.Leb128.{Spells, Shortest}
 use Rattle.program_types.specs.Content.{Name, Try}
 use Rattle.program_types.specs.Formed.{try_at}
-use Rattle.base_bytes.proofs.Numbers.{some_byte}
-use Rattle.base_bytes.proofs.ShortestLaws.{AllBytes}
+use Rattle.dex_base.proofs.Numbers.{some_byte}
+use Rattle.dex_base.proofs.ShortestLaws.{AllBytes}
 use Rattle.code_read.specs.Handlers.{Handler, PacksHandlers, PacksList, handler_at}
 use Rattle.code_read.specs.Tries.{handler_of}
-use Rattle.code_insns.proofs.Lists.{at-old, at-new}
+use Rattle.code_read.proofs.Lists.{at-old, at-new}
 use Rattle.code_put.specs.Fits.{catches_in}
 use Rattle.code_put.specs.Packs.{AreByFirstUse, PacksHandler, PacksHandlersOf}
 use Rattle.code_put.specs.Writing.{IsDistinct, IsListed, joined_keys, places_from}
 use Rattle.code_put.proofs.ListedLaws.{bytes-few}
-use Rattle.base_bytes.proofs.ListFacts.{zip_length}
+use Rattle.dex_base.proofs.ListFacts.{zip_length}
 use Rattle.std.proofs.lemmas.List.{take_all}
 
 -- the handlers, each with its place

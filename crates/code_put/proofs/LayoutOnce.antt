@@ -3,20 +3,20 @@ use Rattle.std.proofs.Common.{◌≡◌, ℕ, ◌+◌, ◌<◌, ◌++◌, List, 
 use Rattle.std.specs.Prelude.{slice_get}
 use Rattle.std.proofs.lemmas.Bool.{cases_lt}
 use Rattle.std.proofs.lemmas.Option.{slice_get_within, slice_get-get_or}
-use Rattle.base_bytes.specs.Grammar.{Placed}
-use Rattle.base_bytes.specs.Leb128.{Spells, Shortest}
-use Rattle.base_bytes.proofs.ShortestLaws.{AllBytes, shortest_one}
+use Rattle.dex_base.specs.Grammar.{Placed}
+use Rattle.dex_base.specs.Leb128.{Spells, Shortest}
+use Rattle.dex_base.proofs.ShortestLaws.{AllBytes, shortest_one}
 use Rattle.program_types.specs.Content.{Name, Try}
 use Rattle.program_types.specs.Formed.{try_at}
 use Rattle.code_read.specs.Handlers.{Handler, PacksHandlers, handler_at}
 use Rattle.code_read.specs.Tries.{handler_of}
-use Rattle.code_insns.specs.Places.{Rises}
+use Rattle.code_read.specs.Places.{Rises}
 use Rattle.code_put.specs.Packs.{IsFirstUse, PacksHandler, PacksHandlersOf}
 use Rattle.code_put.proofs.DistinctLaws.{zip-left}
 use Rattle.code_put.proofs.HandlerOnce.{IsInjective, handler-once, two-parts}
 use Rattle.dex_insn.proofs.Mnemonics.{equal}
 use Rattle.std.proofs.lemmas.Grind.{same_number_lists}
-use Rattle.base_bytes.proofs.ListFacts.{some_one}
+use Rattle.dex_base.proofs.ListFacts.{some_one}
 
 -- ---- things in the order of their first use
 

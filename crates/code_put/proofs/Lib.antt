@@ -24,5 +24,5 @@ pub mod TryParts
 pub mod WordOnce
 pub mod WrittenLaws
 pub mod MentionLaws
--- What stands below, for the crates above.
-pub use Rattle.code_insns.proofs.Lists
+pub mod FitLaws
+pub mod BreakLaws

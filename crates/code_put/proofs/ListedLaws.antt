@@ -3,8 +3,8 @@ use Rattle.std.proofs.Common.{◌≡◌, ℕ, ◌+◌, ◌≤◌, ◌++◌, List
 use Rattle.std.specs.Prelude.{slice_get, option_map}
 use Rattle.std.proofs.lemmas.List.{drop_more, length-map, drop_all}
 use Rattle.std.proofs.lemmas.Option.{slice_get-map, slice_get_within, get_or_from_slice_get}
-use Rattle.base_bytes.specs.Grammar.{Appends}
-use Rattle.base_bytes.specs.Leb128.{Spells, Shortest}
+use Rattle.dex_base.specs.Grammar.{Appends}
+use Rattle.dex_base.specs.Leb128.{Spells, Shortest}
 use Rattle.code_put.specs.Writing.{joined_keys, places_from, IsListed}
 use Rattle.code_put.proofs.HandlerPacks.{alone}
 

@@ -11,8 +11,8 @@ use Rattle.program_types.specs.Content as made
 use Rattle.program_types.specs.Operands.{IsOperand}
 use Rattle.program_types.specs.Formed.{insn_payload}
 use Rattle.program_types.specs.Sizes.{insn_units}
-use Rattle.code_insns.specs.Linked.{lead, payload_of}
-use Rattle.code_insns.specs.Symbols.{linked, ints, ints_from}
+use Rattle.code_read.specs.Linked.{lead, payload_of}
+use Rattle.code_read.specs.Symbols.{linked, ints, ints_from}
 use Rattle.code_put.specs.Packs.{Lowers}
 use Rattle.code_put.specs.Writing.{PutInsn}
 

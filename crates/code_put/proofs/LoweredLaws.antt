@@ -4,9 +4,9 @@ use Rattle.dex_insn.specs.Raw.{Raw}
 use Rattle.program_types.specs.Content.{Name, Insn}
 use Rattle.program_types.specs.Sizes.{addresses_of}
 use Rattle.program_types.specs.Formed.{insn_at, TargetHolds, PayloadHolds}
-use Rattle.code_insns.specs.Walk.{raw_at}
-use Rattle.code_insns.specs.Symbols.{Says}
-use Rattle.code_insns.specs.Linked.{lead, SpellsInsns}
+use Rattle.code_read.specs.Walk.{raw_at}
+use Rattle.code_read.specs.Symbols.{Says}
+use Rattle.code_read.specs.Linked.{lead, SpellsInsns}
 use Rattle.code_put.specs.Packs.{AreLowered, joined}
 use Rattle.code_put.proofs.WrittenLaws.{lowered-walks, lowered-starts}
 

@@ -3,14 +3,14 @@ use Rattle.std.proofs.Common.{◌≡◌, ℕ, ◌+◌, ◌-◌, ◌*◌, ◌%◌
 use Rattle.std.specs.Prelude.{slice_range}
 use Rattle.std.proofs.lemmas.Bool.Decides.{nat_tests}
 use Rattle.std.proofs.lemmas.List.{drop_at, take_at}
-use Rattle.base_bytes.specs.Fields.{u16_at, u32_at, u16_bytes, u32_bytes}
-use Rattle.base_bytes.proofs.FieldBounds.{length-u32_bytes}
+use Rattle.dex_base.specs.Fields.{u16_at, u32_at, u16_bytes, u32_bytes}
+use Rattle.dex_base.proofs.FieldBounds.{length-u32_bytes}
 use Rattle.dex_insn.specs.Raw.{Raw}
 use Rattle.program_types.specs.Content.{Name, Code, Try}
 use Rattle.program_types.specs.Formed.{IsFormed}
 use Rattle.program_types.specs.Sizes.{addresses_of, length_of}
-use Rattle.code_insns.specs.Walk.{starts}
-use Rattle.code_insns.specs.Linked.{SpellsInsns}
+use Rattle.code_read.specs.Walk.{starts}
+use Rattle.code_read.specs.Linked.{SpellsInsns}
 use Rattle.code_read.specs.Item.{registers_of, ins_of, outs_of, tries_of, insns_size, units_end, tries_begin, list_begin, insns_bytes, items_of}
 use Rattle.code_read.specs.Tries.{SpellsTries}
 use Rattle.code_read.specs.Code.{SpellsCode}

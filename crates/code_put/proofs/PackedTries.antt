@@ -3,16 +3,16 @@ use Rattle.std.proofs.Common.{◌≡◌, ◌≢◌, ℕ, ◌+◌, ◌-◌, ◌*�
 use Rattle.std.proofs.lemmas.Bool.{cases_lt}
 use Rattle.std.proofs.lemmas.Bool.Decides.{nat_tests}
 use Rattle.std.proofs.lemmas.List.{drop_at, get_or_past}
-use Rattle.base_bytes.specs.Leb128.{Spells, SpellsSigned, Shortest}
-use Rattle.base_bytes.specs.Fields.{u16_at, u32_at, u16_bytes, u32_bytes}
-use Rattle.base_bytes.proofs.FieldBounds.{u32_at-append, u16_at-drop, length-u32_bytes}
-use Rattle.base_bytes.proofs.PlacedLaws.{Placed-weaker}
-use Rattle.base_bytes.proofs.WeakerLaws.{Implies, Shortest-weaker, Then-weaker, Pair-weaker, Many-weaker}
+use Rattle.dex_base.specs.Leb128.{Spells, SpellsSigned, Shortest}
+use Rattle.dex_base.specs.Fields.{u16_at, u32_at, u16_bytes, u32_bytes}
+use Rattle.dex_base.proofs.FieldBounds.{u32_at-append, u16_at-drop, length-u32_bytes}
+use Rattle.dex_base.proofs.PlacedLaws.{Placed-weaker}
+use Rattle.dex_base.proofs.WeakerLaws.{Implies, Shortest-weaker, Then-weaker, Pair-weaker, Many-weaker}
 use Rattle.program_types.specs.Content.{Name, Try, Insn}
 use Rattle.program_types.specs.Formed.{try_at, TryFormed}
 use Rattle.program_types.specs.Sizes.{addresses_of, length_of}
-use Rattle.code_insns.specs.Places.{position, count_below}
-use Rattle.code_insns.proofs.PlaceLaws.{count-is}
+use Rattle.code_read.specs.Places.{position, count_below}
+use Rattle.code_read.proofs.PlaceLaws.{count-is}
 use Rattle.code_read.specs.Item.{try_start, try_count, try_handler}
 use Rattle.code_read.specs.Handlers.{Handler, AddressBy, TypeBy, CatchBy, AllBy, PartsBy, SpellsHandlers, SpellsHandler, PacksHandlers, catches_of, handler_at}
 use Rattle.code_read.specs.Tries.{TryHolds, SpellsTries}

@@ -10,11 +10,11 @@ use Rattle.program_types.specs.Formed.{insn_at, insn_payload, insn_targets, IsSw
 use Rattle.std.specs.Prelude.{FitsSigned, ◌⊎◌}
 use Rattle.std.specs.Int.{w32}
 use Rattle.std.specs.List.{AllByRecursion}
-use Rattle.code_insns.specs.Walk.{raw_at}
-use Rattle.code_insns.specs.Linked.{payload_of}
-use Rattle.code_insns.proofs.Lists.{at-old, at-new}
+use Rattle.code_read.specs.Walk.{raw_at}
+use Rattle.code_read.specs.Linked.{payload_of}
+use Rattle.code_read.proofs.Lists.{at-old, at-new}
 use Rattle.code_put.specs.Packs.{joined, Lowers, IsLowered, PutInsns}
-use Rattle.code_insns.specs.Branches.{IsOrigin}
+use Rattle.program_code_rules.specs.Branches.{IsOrigin}
 use Rattle.code_put.specs.Fits.{IsEven, OffsetsFit, BranchFits, TargetsFit, distance_of}
 use Rattle.code_put.specs.Writing.{PutInsn}
 

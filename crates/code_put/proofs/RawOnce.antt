@@ -2,21 +2,21 @@
 use Rattle.std.proofs.Common.{◌≡◌, ℕ, ℤ, pos, ◌%◌, ◌/◌, ◌<◌, ◌++◌, List, [], ◌∷◌, length, map, get_or, refl, ap, sym, ◌∙◌, arith, subst}
 use Rattle.std.specs.List.{AllByRecursion}
 use Rattle.std.specs.Int.{cast_unsigned, w32}
-use Rattle.base_bytes.proofs.ShortestLaws.{AllBytes}
+use Rattle.dex_base.proofs.ShortestLaws.{AllBytes}
 use Rattle.dex_insn.specs.Raw as raw
 use Rattle.dex_insn.specs.Raw.{Raw}
 use Rattle.dex_insn.specs.Written.{written, IsRaw, bytes_of}
 use Rattle.program_types.specs.Content.{Name, Insn}
 use Rattle.program_types.specs.Content as made
 use Rattle.program_types.specs.Formed.{insn_leads}
-use Rattle.code_insns.specs.Linked.{lead}
-use Rattle.code_insns.specs.Symbols as symbols
-use Rattle.code_insns.specs.Symbols.{Says, linked, name_in}
-use Rattle.code_insns.proofs.PlaceLaws.{target-there}
+use Rattle.code_read.specs.Linked.{lead}
+use Rattle.code_read.specs.Symbols as symbols
+use Rattle.code_read.specs.Symbols.{Says, linked, name_in}
+use Rattle.code_read.proofs.PlaceLaws.{target-there}
 use Rattle.code_put.proofs.DistanceLaws.{gap-is, lead-there}
 use Rattle.code_put.proofs.HandlerOnce.{IsInjective}
 use Rattle.code_put.proofs.WordOnce.{ints_once}
-use Rattle.base_bytes.proofs.ListFacts.{all_front, all_back}
+use Rattle.dex_base.proofs.ListFacts.{all_front, all_back}
 
 -- ---- a raw instruction from the symbolic one and its index, offset, keys and offsets
 

@@ -11,7 +11,7 @@ use Rattle.program_types.specs.View.{try, catch}
 use Rattle.program_types.specs.declared.code.Try.{Try as Held}
 use Rattle.code_put.specs.Fits.{catches_in}
 use Rattle.code_put.proofs.ItemPieces.{seen-at}
-use Rattle.base_bytes.proofs.ListFacts.{all_front, all_back}
+use Rattle.dex_base.proofs.ListFacts.{all_front, all_back}
 
 all-named : (P : Name → Type 0) (cs : List Catch) → AllByRecursion P (map (λ (c : Catch). OfDesc c.ty) cs) → AllByRecursion (λ (c : Catch). P (OfDesc c.ty)) cs
 all-named P [] h = tt

@@ -1,13 +1,13 @@
 -- Numbers of 32 bits, one after the other, are spelled in one way.
 use Rattle.std.proofs.Common.{◌≡◌, ℕ, zero, suc, ◌+◌, ◌*◌, ◌/◌, ◌%◌, ◌^◌, ◌<◌, List, [], ◌∷◌, length, get_or, refl, sym, ap, ◌∙◌, arith, subst}
-use Rattle.base_bytes.specs.Fields.{AreBytes, u32_at}
-use Rattle.base_bytes.proofs.FieldBounds.{u32_at-fits}
-use Rattle.base_bytes.proofs.ShortestLaws.{AllBytes}
+use Rattle.dex_base.specs.Fields.{AreBytes, u32_at}
+use Rattle.dex_base.proofs.FieldBounds.{u32_at-fits}
+use Rattle.dex_base.proofs.ShortestLaws.{AllBytes}
 use Rattle.dex_insn.specs.Fields.{int_at, signed}
-use Rattle.code_insns.specs.Symbols as symbols
-use Rattle.code_insns.specs.Symbols.{ints_from}
-use Rattle.base_bytes.proofs.ListFacts.{by_half}
-use Rattle.base_bytes.proofs.SameFields.{same_word}
+use Rattle.code_read.specs.Symbols as symbols
+use Rattle.code_read.specs.Symbols.{ints_from}
+use Rattle.dex_base.proofs.ListFacts.{by_half}
+use Rattle.dex_base.proofs.SameFields.{same_word}
 use Rattle.code_put.proofs.IntLaws.{number-u32}
 use Rattle.std.proofs.lemmas.Grind.{same_number_lists}
 

@@ -8,7 +8,7 @@ use Rattle.dex_insn.proofs.StandingLaws.{written-stands}
 use Rattle.dex_insn.proofs.Spelled.{length_written}
 use Rattle.program_types.specs.Content.{Name, Insn}
 use Rattle.program_types.specs.Content as made
-use Rattle.code_insns.specs.Walk.{Run, Walks, starts, raw_at}
+use Rattle.code_read.specs.Walk.{Run, Walks, starts, raw_at}
 use Rattle.program_types.specs.Sizes.{starts_from, insn_units, addresses_of, length_of, total}
 use Rattle.code_put.specs.Packs.{joined, AreLowered}
 

@@ -4,7 +4,7 @@
 use Rattle.std.specs.Prelude.{ℕ, ℤ, pos, ◌-ℤ◌, ◌≡◌, ◌≢◌, ◌≤◌, ◌<◌, ◌+◌, ◌-◌, ◌*◌, ◌%◌, List, length, slice_index, FitsSigned, Option, Some, None, IfSome, ⊤}
 use Rattle.std.specs.Int.{w8, w16, w32}
 use Rattle.std.specs.List.{AllByRecursion, flat_map}
-use Rattle.base_bytes.specs.declared.fault.Fault.{Fault}
+use Rattle.dex_base.specs.declared.fault.Fault.{Fault}
 use Rattle.dex_insn.specs.declared.opcode.IndexKind.{IndexKind}
 use Rattle.dex_insn.specs.declared.opcode.IndexKind.TheVariants as kind
 use Rattle.program_types.specs.Content.{Name, Insn, Code, Try}

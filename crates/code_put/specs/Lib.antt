@@ -1,5 +1,4 @@
 pub mod Fits
 pub mod Packs
 pub mod Writing
--- What stands below, for the crates above.
-pub use Rattle.code_insns.specs.Branches
+pub mod Laws

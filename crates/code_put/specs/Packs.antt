@@ -2,19 +2,19 @@
 -- Page: "Dalvik Executable format", "code_item", "try_item", "encoded_catch_handler_list" and "encoded_catch_handler".
 use Rattle.std.specs.Prelude.{ℕ, ◌≡◌, ◌+◌, ◌-◌, ◌*◌, ◌<◌, ◌≤◌, ◌%◌, ◌++◌, ◌==◌, if◌then◌else◌, List, [], ◌∷◌, length, map, min, slice_index, Some, true}
 use Rattle.std.specs.List.{AllByRecursion, AllZip, flat_map}
-use Rattle.base_bytes.specs.Via.{Via}
-use Rattle.base_bytes.specs.Leb128.{Spells, SpellsSigned, Shortest}
-use Rattle.base_bytes.specs.Fields.{u16_bytes, u32_bytes}
+use Rattle.dex_base.specs.Via.{Via}
+use Rattle.dex_base.specs.Leb128.{Spells, SpellsSigned, Shortest}
+use Rattle.dex_base.specs.Fields.{u16_bytes, u32_bytes}
 use Rattle.dex_insn.specs.Raw.{Raw, units, is_payload}
 use Rattle.dex_insn.specs.Written.{written, IsRaw}
 use Rattle.program_types.specs.Content.{Name, Catch, Insn, Code, Try}
 use Rattle.program_types.specs.Formed.{insn_at, try_at, insn_payload}
 use Rattle.program_types.specs.Sizes.{insn_units, addresses_of, length_of}
-use Rattle.code_insns.specs.Places.{Rises, position}
-use Rattle.code_insns.specs.Walk.{raw_at}
-use Rattle.code_insns.specs.Symbols.{Says}
-use Rattle.code_insns.specs.Linked.{lead, payload_of}
-use Rattle.code_insns.specs.Branches.{IsOrigin}
+use Rattle.code_read.specs.Places.{Rises, position}
+use Rattle.code_read.specs.Walk.{raw_at}
+use Rattle.code_read.specs.Symbols.{Says}
+use Rattle.code_read.specs.Linked.{lead, payload_of}
+use Rattle.program_code_rules.specs.Branches.{IsOrigin}
 use Rattle.code_read.specs.Handlers.{Handler, CatchBy, HandlerBy, PacksHandlers, handler_at}
 use Rattle.code_read.specs.Tries.{handler_of}
 

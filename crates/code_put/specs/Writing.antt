@@ -1,7 +1,7 @@
 -- What the private functions of writing say.
 use Rattle.std.specs.Prelude.{ℕ, ◌≡◌, ◌+◌, ◌≤◌, ◌<◌, ◌++◌, List, [], ◌∷◌, length, take, ◌*◌, slice_index, slice_get, Some, ◌⊎◌}
 use Rattle.std.specs.List.{AllZip, AllByRecursion, flat_map}
-use Rattle.base_bytes.specs.Leb128.{Spells, Shortest}
+use Rattle.dex_base.specs.Leb128.{Spells, Shortest}
 use Rattle.dex_insn.specs.Raw.{Raw}
 use Rattle.dex_insn.specs.Written.{written}
 use Rattle.program_types.specs.Content.{Name, Insn, Try}

@@ -1,19 +1,19 @@
 //! Where the instructions of a code that is written begin.
 
 ghost use Rattle.std.specs.Prelude.{◌≡◌, ◌<◌, length, slice_index};
-ghost use Rattle.code_insns.specs.Places.{Rises};
+ghost use Rattle.code_read.specs.Places.{Rises};
 
 use std::marker::Model;
 
 /// The addresses of instructions, in units: they rise and fit 32 bits. It stands for these addresses.
 #[derive(Drop)]
-pub struct Begins<'a> {
+pub(crate) struct Begins<'a> {
     pub list: &'a [u64],
 }
 
 impl<'a> Model for Begins<'a> {
     ghost use Rattle.std.specs.Prelude.{ℕ, List, ◌<◌, ◌≤◌, length, slice_index};
-    ghost use Rattle.code_insns.specs.Places.{Rises};
+    ghost use Rattle.code_read.specs.Places.{Rises};
 
     ghost Value = { List ℕ };
 

@@ -5,13 +5,13 @@
 //! ```
 
 ghost use Rattle.std.specs.Prelude.{◌≡◌, ◌<◌, ◌≤◌, ℕ, List, length, slice_index};
-ghost use Rattle.base_bytes.specs.Fields.{AreBytes};
+ghost use Rattle.dex_base.specs.Fields.{AreBytes};
 ghost use Rattle.dex_insn.specs.Raw.{Raw};
 ghost use Rattle.program_types.specs.Content.{Insn, Code, Try};
 ghost use Rattle.program_types.specs.Sizes.{addresses_of, length_of};
 ghost use Rattle.program_types.specs.Formed.{TargetHolds, PayloadHolds, TryFormed, IsFormed};
 ghost use Rattle.tables_names.specs.Closure.{Five, AreRising, NameRanks};
-ghost use Rattle.code_insns.specs.Linked.{SpellsInsns};
+ghost use Rattle.code_read.specs.Linked.{SpellsInsns};
 ghost use Rattle.code_read.specs.Tries.{SpellsTries};
 ghost use Rattle.code_read.specs.Code.{SpellsCode};
 ghost use Rattle.code_put.specs.Fits.{TryFits, FitsCode, wide_code};

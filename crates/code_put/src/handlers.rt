@@ -2,8 +2,8 @@
 
 ghost use Rattle.std.specs.Prelude.{◌≤◌, ◌<◌, ◌+◌, ◌*◌, ℕ, List, length, map, OnOk, IfOk, IsOkUnless, IfSome, IfNone, ◌≢◌, []};
 ghost use Rattle.std.specs.List.{AllByRecursion, flat_map};
-ghost use Rattle.base_bytes.specs.Fault.{memory};
-ghost use Rattle.base_bytes.specs.Grammar.{Appends, Each};
+ghost use Rattle.dex_base.specs.Fault.{memory};
+ghost use Rattle.dex_base.specs.Grammar.{Appends, Each};
 ghost use Rattle.program_types.specs.Content.{OfDesc};
 ghost use Rattle.program_types.specs.Content as content;
 ghost use Rattle.program_types.specs.View.{desc, catch, try};
@@ -16,8 +16,7 @@ ghost use Rattle.code_put.specs.Writing.{Numbers, IsDistinct, IsDistinctOf, IsLi
 ghost use Rattle.code_put.specs.Fits.{HasIndexBelow, catches_in};
 
 use crate::begins::Begins;
-use base_bytes::are_bytes;
-use dex_base::{Fault, Seed, put_sleb, put_uleb};
+use dex_base::{Fault, Seed, are_bytes, put_sleb, put_uleb};
 use indexmap::IndexSet;
 use program_types::{Catch, Name, Try};
 use std::alloc::Global;
@@ -206,7 +205,7 @@ pub fn lay_distinct(alloc: Global, distinct: &Distinct) -> Result<Laid, Fault>
 }
 
 /// The list of handlers of the tries: none without tries.
-pub fn lay_handlers(
+pub(crate) fn lay_handlers(
     alloc: Global,
     ranks: &Ranks<'_>,
     starts: &Begins<'_>,

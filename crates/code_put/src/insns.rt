@@ -1,11 +1,11 @@
 //! Writing instructions, one after the other.
 
 ghost use Rattle.std.specs.Prelude.{◌≡◌, ◌<◌, ℕ, List, None, length, map, OnOk, IsOkUnless};
-ghost use Rattle.base_bytes.specs.Fault.{memory};
+ghost use Rattle.dex_base.specs.Fault.{memory};
 ghost use Rattle.program_types.specs.View.{insn};
 ghost use Rattle.program_types.specs.Content as content;
 ghost use Rattle.program_types.specs.Formed.{insn_at, insn_payload, PayloadHolds};
-ghost use Rattle.code_insns.specs.Branches.{AreOrigins};
+ghost use Rattle.program_code_rules.specs.Branches.{AreOrigins};
 ghost use Rattle.program_types.specs.Operands.{IsOperand};
 ghost use Rattle.program_types.specs.Mentions.{names_of_insn};
 ghost use Rattle.std.specs.List.{flat_map};

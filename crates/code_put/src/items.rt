@@ -1,8 +1,8 @@
 //! The pieces of a code item beside its instructions and handlers ("Dalvik Executable format", "code_item", "try_item").
 
 ghost use Rattle.std.specs.Prelude.{◌≡◌, ◌++◌, ◌<◌, ◌≤◌, ℕ, length, map, OnOk, IsOkUnless, slice_index};
-ghost use Rattle.base_bytes.specs.Fault.{memory};
-ghost use Rattle.base_bytes.specs.Fields.{u16_bytes, u32_bytes};
+ghost use Rattle.dex_base.specs.Fault.{memory};
+ghost use Rattle.dex_base.specs.Fields.{u16_bytes, u32_bytes};
 ghost use Rattle.program_types.specs.View as view;
 ghost use Rattle.program_types.specs.Formed.{TryFormed};
 ghost use Rattle.code_put.specs.Packs.{head_bytes, padding, bound_of, item_bytes, items_bytes};
@@ -12,7 +12,7 @@ use dex_base::Fault;
 use program_types::{Code, Try};
 
 /// Appends a number of two bytes.
-#[tactic(auto, unfolding(base_bytes::specs::Fields::u16_bytes))]
+#[tactic(auto, unfolding(dex_base::specs::Fields::u16_bytes))]
 pub fn put_u16(out: &mut Vec<u8>, n: u16) -> Result<(), Fault>
     ensures ok { OnOk result (out.new.items ≡ out.old.items ++ u16_bytes n) }
     ensures memory { IsOkUnless result memory }
@@ -22,7 +22,7 @@ pub fn put_u16(out: &mut Vec<u8>, n: u16) -> Result<(), Fault>
 }
 
 /// Appends a number of four bytes.
-#[tactic(auto, unfolding(base_bytes::specs::Fields::u32_bytes))]
+#[tactic(auto, unfolding(dex_base::specs::Fields::u32_bytes))]
 pub fn put_u32(out: &mut Vec<u8>, n: u32) -> Result<(), Fault>
     ensures ok { OnOk result (out.new.items ≡ out.old.items ++ u32_bytes n) }
     ensures memory { IsOkUnless result memory }

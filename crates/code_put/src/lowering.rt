@@ -12,8 +12,8 @@ ghost use Rattle.tables_names.specs.Closure.{NameRanks};
 ghost use Rattle.tables_names.specs.Noted.{AreRanks};
 ghost use Rattle.dex_insn.specs.Raw.{raw, units};
 ghost use Rattle.dex_insn.specs.Written.{IsRaw};
-ghost use Rattle.code_insns.specs.Linked.{lead, payload_of};
-ghost use Rattle.code_insns.specs.Symbols.{linked, Says};
+ghost use Rattle.code_read.specs.Linked.{lead, payload_of};
+ghost use Rattle.code_read.specs.Symbols.{linked, Says};
 ghost use Rattle.code_put.specs.Fits.{HasIndexBelow, NameFits, BranchFits, distance_of};
 
 use crate::begins::Begins;
@@ -55,7 +55,7 @@ pub(crate) fn distance(starts: &Begins<'_>, at: u32, to: u32) -> i32
 
 /// The raw instruction of an instruction that is no payload. The index of what it names, if it names anything, is given.
 #[rattlefmt::skip]
-#[tactic(auto, unfolding(code_insns::specs::Symbols::linked, code_insns::specs::Linked::payload_of, program_types::specs::Formed::insn_payload, program_types::specs::Sizes::insn_units, dex_insn::specs::Raw::raw, dex_insn::specs::Raw::units))]
+#[tactic(auto, unfolding(code_read::specs::Symbols::linked, code_read::specs::Linked::payload_of, program_types::specs::Formed::insn_payload, program_types::specs::Sizes::insn_units, dex_insn::specs::Raw::raw, dex_insn::specs::Raw::units))]
 pub(crate) fn lower(ranks: &Ranks<'_>, indices: &[usize], starts: &Begins<'_>, at: u32, one: &Insn<'_>) -> RawInsn<'static>
     requires indices { AreRanks ranks.now (names_of_insn (insn one.now)) indices.now }
     requires plain { insn_payload (insn one.now) ≡ None }

@@ -2,7 +2,7 @@
 
 ghost use Rattle.std.specs.Prelude.{◌≡◌, ◌≤◌, ◌∷◌, ◌++◌, List, [], IfOk, OnOk, IsOkUnless, length, map, option_map};
 ghost use Rattle.std.specs.List.{AllByRecursion, flat_map};
-ghost use Rattle.base_bytes.specs.Fault.{memory};
+ghost use Rattle.dex_base.specs.Fault.{memory};
 ghost use Rattle.program_types.specs.Content.{Name as Named};
 ghost use Rattle.program_types.specs.Mentions.{if_any, names_of_insn};
 ghost use Rattle.program_types.specs.View.{insn};

@@ -3,9 +3,9 @@
 ghost use Rattle.std.specs.Prelude.{◌≡◌, ◌<◌, ◌*◌, length, map, FitsSigned, IfOk, IsOkUnless};
 ghost use Rattle.std.specs.Int.{w32};
 ghost use Rattle.std.specs.List.{AllByRecursion};
-ghost use Rattle.base_bytes.specs.Fault.{memory};
-ghost use Rattle.code_insns.specs.Linked.{lead};
-ghost use Rattle.code_insns.specs.Symbols.{ints};
+ghost use Rattle.dex_base.specs.Fault.{memory};
+ghost use Rattle.code_read.specs.Linked.{lead};
+ghost use Rattle.code_read.specs.Symbols.{ints};
 ghost use Rattle.code_put.specs.Fits.{distance_of};
 
 use crate::begins::Begins;

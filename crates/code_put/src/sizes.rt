@@ -1,7 +1,7 @@
 //! The sizes of instructions, and so their addresses, in 16-bit units.
 
 ghost use Rattle.std.specs.Prelude.{◌≡◌, ◌≤◌, ◌<◌, ◌++◌, [], ◌∷◌, ℕ, length, map, IfOk, IsOkUnless};
-ghost use Rattle.base_bytes.specs.Fault.{memory};
+ghost use Rattle.dex_base.specs.Fault.{memory};
 ghost use Rattle.program_types.specs.View.{insn};
 ghost use Rattle.program_types.specs.View as view;
 ghost use Rattle.program_types.specs.Sizes.{insn_units, addresses_of, length_of};
@@ -42,13 +42,13 @@ pub fn units_of(one: &Insn<'_>) -> u64
 
 /// The address of each instruction, and where the last one ends.
 #[derive(Drop)]
-pub struct Starts {
+pub(crate) struct Starts {
     pub starts: Vec<u64>,
     pub end: u64,
 }
 
 /// The addresses of instructions.
-pub fn starts_of(alloc: Global, insns: &[Insn<'_>]) -> Result<Starts, Fault>
+pub(crate) fn starts_of(alloc: Global, insns: &[Insn<'_>]) -> Result<Starts, Fault>
     requires few { length insns.now ≤ 2147483647 }
     requires operands { (k : ℕ) → k < length insns.now → IsOperand (length insns.now) (insn_at (map insn insns.now) k) }
     ensures ok { IfOk result (λ all. all.starts.items ≡ addresses_of (map insn insns.now)) }

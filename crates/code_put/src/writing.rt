@@ -1,8 +1,8 @@
 //! Writing a code item.
 
 ghost use Rattle.std.specs.Prelude.{◌≡◌, ◌<◌, IfOk, OnOk, OnErr, IsOkUnless};
-ghost use Rattle.base_bytes.specs.Fault.{memory};
-ghost use Rattle.base_bytes.specs.Grammar.{Appends};
+ghost use Rattle.dex_base.specs.Fault.{memory};
+ghost use Rattle.dex_base.specs.Grammar.{Appends};
 ghost use Rattle.program_types.specs.View as view;
 ghost use Rattle.program_types.specs.Formed.{IsFormed};
 ghost use Rattle.program_types.specs.Mentions.{names_of_insn};
@@ -18,8 +18,8 @@ use crate::insns::put_insns;
 use crate::items::{put_head, put_items, put_padding};
 use crate::mentioned::indices_of;
 use crate::sizes::starts_of;
-use code_insns::origins_of;
 use dex_base::Fault;
+use program_code_rules::origins_of;
 use program_types::Code;
 use std::alloc::Global;
 use tables_names::Ranks;

@@ -1,7 +1,7 @@
 -- Parts of bytes are bytes.
 use Rattle.std.proofs.Common.{ℕ, suc, ◌<◌, List, [], ◌∷◌}
 use Rattle.std.specs.List.{AllByRecursion}
-use Rattle.base_bytes.specs.Fields.{AreBytes}
+use Rattle.dex_base.specs.Fields.{AreBytes}
 
 -- one by one
 pub all-bytes : (bytes : List ℕ) → AreBytes bytes → AllByRecursion (λ byte. byte < 256) bytes

@@ -1,14 +1,14 @@
 -- A code that is spelled by one naming is spelled by each naming that it implies.
 use Rattle.std.proofs.Common.{ℕ, ℤ, zero, suc, List, Some, None}
-use Rattle.base_bytes.specs.Grammar.{Many}
-use Rattle.base_bytes.specs.Leb128.{Spells, SpellsSigned}
-use Rattle.base_bytes.proofs.WeakerLaws.{Implies, Then-weaker, Pair-weaker, Many-weaker}
-use Rattle.base_bytes.proofs.PlacedLaws.{Placed-weaker}
+use Rattle.dex_base.specs.Grammar.{Many}
+use Rattle.dex_base.specs.Leb128.{Spells, SpellsSigned}
+use Rattle.dex_base.proofs.WeakerLaws.{Implies, Then-weaker, Pair-weaker, Many-weaker}
+use Rattle.dex_base.proofs.PlacedLaws.{Placed-weaker}
 use Rattle.dex_insn.specs.Raw as raw
 use Rattle.dex_insn.specs.Raw.{Raw}
 use Rattle.program_types.specs.Content.{Name, OfDesc, Insn, Try, Code}
-use Rattle.code_insns.specs.Symbols.{Says, InsnNames, name_in}
-use Rattle.code_insns.specs.Linked.{AreLinked, SpellsInsns}
+use Rattle.code_read.specs.Symbols.{Says, InsnNames, name_in}
+use Rattle.code_read.specs.Linked.{AreLinked, SpellsInsns}
 use Rattle.code_read.specs.Handlers.{Handler, AddressBy, TypeBy, CatchBy, AllBy, PartsBy, HandlerBy, ListBy, SpellsHandlers, catches_of}
 use Rattle.code_read.specs.Tries.{SpellsTries}
 use Rattle.code_read.specs.Code.{SpellsBody, BodyStands, SpellsCode, CodeStands}

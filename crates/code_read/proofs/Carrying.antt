@@ -1,18 +1,18 @@
 -- Codes and their faults carry over to a naming that says the same.
 use Rattle.std.proofs.Common.{ℕ, inl, inr, List}
-use Rattle.base_bytes.specs.declared.fault.Fault.{Fault}
-use Rattle.base_bytes.specs.Leb128.{Spells, SpellsSigned}
+use Rattle.dex_base.specs.declared.fault.Fault.{Fault}
+use Rattle.dex_base.specs.Leb128.{Spells, SpellsSigned}
 use Rattle.dex_container.specs.Frame.{IsFramed}
 use Rattle.dex_insn.specs.Raw as raw
 use Rattle.dex_insn.specs.Raw.{Raw}
 use Rattle.program_types.specs.Content.{Name, Code}
-use Rattle.code_insns.specs.Names.{Names, AreNamesOf, NameIsAt}
-use Rattle.code_insns.specs.Stands.{NameStands}
-use Rattle.code_insns.proofs.NameLaws.{names_stand, stands_names}
-use Rattle.code_insns.specs.InsnFaults.{Breaks, RulesBreak, InsnsBreak}
-use Rattle.code_insns.specs.Linked.{NameHolds}
-use Rattle.code_insns.specs.Symbols.{SomeName, InsnHasName}
-use Rattle.code_insns.specs.Walk.{raw_at, starts}
+use Rattle.tables_rows.specs.Names.{Names, AreNamesOf, NameIsAt}
+use Rattle.tables_rows.specs.Stands.{NameStands}
+use Rattle.tables_rows.proofs.NameLaws.{names_stand, stands_names}
+use Rattle.code_read.specs.InsnFaults.{Breaks, RulesBreak, InsnsBreak}
+use Rattle.code_read.specs.Linked.{NameHolds}
+use Rattle.code_read.specs.Symbols.{SomeName, InsnHasName}
+use Rattle.code_read.specs.Walk.{raw_at, starts}
 use Rattle.code_read.specs.Code.{CodeStands}
 use Rattle.code_read.specs.Faults.{HasHandlers, TriesBreak, ItemBreaks, CodeBreaks, CodeOverruns}
 use Rattle.code_read.proofs.CarryLaws.{body_weaker, code_weaker, list-weaker, linked-weaker, insns-weaker}

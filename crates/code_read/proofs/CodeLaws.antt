@@ -1,14 +1,14 @@
 -- What stands at an offset, as the crates above cite it: one code, by each naming that is implied, and no code where a fault is.
 use Rattle.std.proofs.Common.{◌≡◌, ℕ, ◌-◌, ◌≤◌, List, take, drop, sym, subst, ◌∙◌, arith, inl, inr}
 use Rattle.std.proofs.lemmas.List.{take-take, take-append-drop}
-use Rattle.base_bytes.specs.Grammar.{Takes, IsPrefixUnique}
-use Rattle.base_bytes.specs.declared.fault.Fault.{Fault}
+use Rattle.dex_base.specs.Grammar.{Takes, IsPrefixUnique}
+use Rattle.dex_base.specs.declared.fault.Fault.{Fault}
 use Rattle.dex_container.specs.Frame.{IsFramed}
 use Rattle.dex_container.specs.Where.{slice, IsSectionRest}
 use Rattle.dex_container.proofs.Framed.{IsSection-one}
 use Rattle.dex_container.proofs.Standing.{At-one}
 use Rattle.program_types.specs.Content.{Name, Code}
-use Rattle.code_insns.specs.Symbols.{IsFunctional}
+use Rattle.code_read.specs.Symbols.{IsFunctional}
 use Rattle.program_types.specs.Formed.{RegistersHold}
 use Rattle.code_read.specs.Code.{SpellsBody, BodyStands, SpellsCode, CodeStands}
 use Rattle.code_read.specs.Faults.{CodeBreaks, RegistersBreak, CodeOverruns}

@@ -3,12 +3,12 @@ use Rattle.std.proofs.Common.{◌≡◌, ℕ, zero, suc, ◌+◌, ◌*◌, ◌�
 use Rattle.std.specs.Prelude.{slice_get}
 use Rattle.std.specs.List.{AllByRecursion}
 use Rattle.std.proofs.lemmas.Bool.{cases_eq, cases_lt}
-use Rattle.base_bytes.specs.Deciding.{Decided}
-use Rattle.base_bytes.specs.Fields.{AreBytes}
-use Rattle.base_bytes.specs.Grammar.{Takes}
-use Rattle.base_bytes.specs.declared.fault.Fault.{Fault}
-use Rattle.base_bytes.proofs.Deciding.{decide_like, decide_both, decide_le}
-use Rattle.base_bytes.proofs.FieldBounds.{u32_at-fits, drop-AreBytes}
+use Rattle.dex_base.specs.Deciding.{Decided}
+use Rattle.dex_base.specs.Fields.{AreBytes}
+use Rattle.dex_base.specs.Grammar.{Takes}
+use Rattle.dex_base.specs.declared.fault.Fault.{Fault}
+use Rattle.dex_base.proofs.Deciding.{decide_like, decide_both, decide_le}
+use Rattle.dex_base.proofs.FieldBounds.{u32_at-fits, drop-AreBytes}
 use Rattle.dex_container.specs.Frame.{IsFramed}
 use Rattle.dex_container.proofs.PlacesDecided.{decide_in, found_at}
 use Rattle.dex_insn.specs.Raw.{Raw}
@@ -16,24 +16,24 @@ use Rattle.dex_insn.specs.declared.opcode.IndexKind.{IndexKind}
 use Rattle.dex_insn.specs.declared.opcode.IndexKind.TheVariants as kind
 use Rattle.program_types.specs.Content.{Name, OfText, OfDesc, OfField, OfMethod, Insn, Code}
 use Rattle.program_types.specs.Kinds.{IsOfKind}
-use Rattle.code_insns.specs.Names.{Names, NameIsAt}
-use Rattle.code_insns.specs.Walk.{starts}
-use Rattle.code_insns.specs.Linked.{SpellsInsns}
-use Rattle.code_insns.specs.Symbols.{IsFunctional}
+use Rattle.tables_rows.specs.Names.{Names, NameIsAt}
+use Rattle.code_read.specs.Walk.{starts}
+use Rattle.code_read.specs.Linked.{SpellsInsns}
+use Rattle.code_read.specs.Symbols.{IsFunctional}
 use Rattle.code_read.specs.Item.{insns_size, tries_of, registers_of, ins_of, outs_of, insns_bytes, items_of, units_end, tries_begin, list_begin, HasFixedParts}
 use Rattle.code_read.specs.Code.{SpellsBody, BodyStands, CodeStands}
 use Rattle.code_read.specs.Faults.{ItemBreaks, CodeBreaks, RegistersBreak, CodeOverruns}
 use Rattle.program_types.specs.Formed.{RegistersHold, insn_at, insn_registers}
 use Rattle.program_types.specs.Sizes.{addresses_of}
-use Rattle.code_insns.specs.First.{AllHold, IsFirstBroken}
-use Rattle.code_insns.specs.Registers.{AmongAt}
+use Rattle.program_code_rules.specs.First.{AllHold, IsFirstBroken}
+use Rattle.code_read.specs.Registers.{AmongAt}
 use Rattle.code_read.proofs.StandLaws.{body_code, NameIsAt-functional}
 use Rattle.code_read.proofs.FaultLaws.{units-even}
 use Rattle.code_read.proofs.ItemLaws.{takes-from_read}
 use Rattle.code_read.proofs.RulesDecided.{AreNamesDecided}
 use Rattle.code_read.proofs.InsnsDecided.{insns-decided}
 use Rattle.code_read.proofs.TriesDecided.{tries-decided}
-use Rattle.base_bytes.proofs.ListFacts.{take_bytes}
+use Rattle.dex_base.proofs.ListFacts.{take_bytes}
 
 -- ---- names
 

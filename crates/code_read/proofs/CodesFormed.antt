@@ -4,9 +4,9 @@ use Rattle.std.specs.Prelude.{IfSome, IfNone}
 use Rattle.std.specs.List.{AllByRecursion}
 use Rattle.std.proofs.lemmas.Bool.{cases_lt}
 use Rattle.std.proofs.lemmas.Bool.Decides.{nat_tests}
-use Rattle.base_bytes.specs.Fields.{AreBytes, u16_at}
-use Rattle.base_bytes.specs.Grammar.{Each}
-use Rattle.base_bytes.proofs.FieldBounds.{u32_at-fits, drop-AreBytes}
+use Rattle.dex_base.specs.Fields.{AreBytes, u16_at}
+use Rattle.dex_base.specs.Grammar.{Each}
+use Rattle.dex_base.proofs.FieldBounds.{u32_at-fits, drop-AreBytes}
 use Rattle.dex_container.specs.Frame.{IsFramed}
 use Rattle.dex_container.specs.Where.{slice}
 use Rattle.dex_insn.specs.Raw as raw
@@ -18,13 +18,13 @@ use Rattle.program_types.specs.Formed.{WantsPayload, wanted_by, insn_at, try_at,
 use Rattle.program_types.specs.Operands.{IsOperand}
 use Rattle.program_types.specs.Content as made
 use Rattle.program_types.specs.declared.payload.Payload.TheVariants as payload
-use Rattle.code_insns.specs.Stands.{NameStands}
-use Rattle.code_insns.specs.Places.{count_below, Rises}
-use Rattle.code_insns.specs.Walk.{Run, starts, raw_at, address}
-use Rattle.code_insns.specs.Symbols.{name_in}
-use Rattle.code_insns.specs.Linked.{SpellsInsns}
-use Rattle.code_insns.proofs.PlaceLaws.{position-there}
-use Rattle.code_insns.proofs.Runs.{run-at, table-of, run-few}
+use Rattle.tables_rows.specs.Stands.{NameStands}
+use Rattle.code_read.specs.Places.{count_below, Rises}
+use Rattle.code_read.specs.Walk.{Run, starts, raw_at, address}
+use Rattle.code_read.specs.Symbols.{name_in}
+use Rattle.code_read.specs.Linked.{SpellsInsns}
+use Rattle.code_read.proofs.PlaceLaws.{position-there}
+use Rattle.code_read.proofs.Runs.{run-at, table-of, run-few}
 use Rattle.code_read.specs.Item.{insns_size, tries_of, insns_bytes, items_of, list_begin, units_end, try_start, try_count}
 use Rattle.code_read.specs.Handlers.{Handler, catches_of, SpellsAddress, SpellsCatch, SpellsHandler, SpellsHandlers, handler_at}
 use Rattle.code_read.specs.Tries.{SpellsTries, handler_of}
@@ -34,8 +34,8 @@ use Rattle.code_read.proofs.HandlerReading.{SpellsCatchAll}
 use Rattle.code_read.proofs.ItemLaws.{begins_late}
 use Rattle.code_read.proofs.NamesHaveRows.{at-offset}
 use Rattle.code_read.proofs.SaidLaws.{raw-bytes, operand-said}
-use Rattle.base_bytes.proofs.ListFacts.{take_bytes, all_weaker}
-use Rattle.code_insns.proofs.OperandLaws.{alike_itself}
+use Rattle.dex_base.proofs.ListFacts.{take_bytes, all_weaker}
+use Rattle.program_code_rules.proofs.OperandLaws.{alike_itself}
 
 -- ---- instructions
 

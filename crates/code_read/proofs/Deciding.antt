@@ -3,14 +3,14 @@ use Rattle.std.proofs.Common.{◌≡◌, ℕ, ℤ, zero, suc, pos, ◌+ℤ◌, �
 use Rattle.std.specs.Prelude.{IfSome}
 use Rattle.std.proofs.lemmas.Bool.{cases_lt}
 use Rattle.std.proofs.lemmas.Int.{ints, by_lt_z}
-use Rattle.base_bytes.specs.Deciding.{Decided, DecidedFront}
-use Rattle.base_bytes.specs.Grammar.{Takes, IsPrefixUnique, Then, Many}
-use Rattle.base_bytes.specs.Leb128.{SpellsSigned, signed_low_first}
-use Rattle.base_bytes.specs.Via.{Via}
-use Rattle.base_bytes.proofs.Deciding.{decide_like, decide_both, decide_le, decide_by, DecidedEach, decide_each, decide_sequence}
-use Rattle.base_bytes.proofs.TakesLaws.{Takes-then, Then-takes, Takes-unique, Takes-none, NoneBegins-from_takes}
-use Rattle.base_bytes.proofs.ViaLaws.{via-takes, via-none, via-nothing}
-use Rattle.code_insns.specs.First.{AllHold, IsFirstBroken}
+use Rattle.dex_base.specs.Deciding.{Decided, DecidedFront}
+use Rattle.dex_base.specs.Grammar.{Takes, IsPrefixUnique, Then, Many}
+use Rattle.dex_base.specs.Leb128.{SpellsSigned, signed_low_first}
+use Rattle.dex_base.specs.Via.{Via}
+use Rattle.dex_base.proofs.Deciding.{decide_like, decide_both, decide_le, decide_by, DecidedEach, decide_each, decide_sequence}
+use Rattle.dex_base.proofs.TakesLaws.{Takes-then, Then-takes, Takes-unique, Takes-none, NoneBegins-from_takes}
+use Rattle.dex_base.proofs.ViaLaws.{via-takes, via-none, via-nothing}
+use Rattle.program_code_rules.specs.First.{AllHold, IsFirstBroken}
 
 -- ---- numbers below a bound
 

@@ -1,21 +1,21 @@
 -- Where a code is spelled, no rule is broken.
 use Rattle.std.proofs.Common.{◌≡◌, ℕ, ◌+◌, ◌-◌, ◌<◌, ◌*◌, ◌++◌, List, length, drop, refl, sym, ◌∙◌, subst, arith, zero, suc, inl, inr}
-use Rattle.base_bytes.specs.declared.fault.Fault.{Fault}
+use Rattle.dex_base.specs.declared.fault.Fault.{Fault}
 use Rattle.dex_insn.specs.Raw.{Raw}
 use Rattle.dex_insn.proofs.Unique.{slice-length}
 use Rattle.program_types.specs.Content.{Name, Code, Insn, Try}
-use Rattle.code_insns.specs.Walk.{starts}
-use Rattle.code_insns.specs.InsnFaults.{InsnsBreak}
-use Rattle.code_insns.specs.Reading.{ReadInsns}
-use Rattle.code_insns.proofs.InsnsOnce.{walks-one}
-use Rattle.code_insns.proofs.InsnFaultLaws.{insns-clear}
-use Rattle.code_insns.specs.Linked.{SpellsInsns}
-use Rattle.code_insns.specs.Symbols.{IsFunctional}
+use Rattle.code_read.specs.Walk.{starts}
+use Rattle.code_read.specs.InsnFaults.{InsnsBreak}
+use Rattle.code_read.specs.InsnReading.{ReadInsns}
+use Rattle.code_read.proofs.InsnsOnce.{walks-one}
+use Rattle.code_read.proofs.InsnFaultLaws.{insns-clear}
+use Rattle.code_read.specs.Linked.{SpellsInsns}
+use Rattle.code_read.specs.Symbols.{IsFunctional}
 use Rattle.code_read.specs.Item.{tries_of, insns_size, units_end, tries_begin, list_begin, insns_bytes, items_of, HasFixedParts}
 use Rattle.code_read.specs.Tries.{SpellsTries, handler_of}
 use Rattle.program_types.specs.Formed.{try_at}
 use Rattle.code_read.specs.Faults.{HasHandlers, TriesBreak, ItemBreaks}
-use Rattle.code_read.specs.Reading.{IsCodeItem}
+use Rattle.code_read.specs.ItemReading.{IsCodeItem}
 use Rattle.code_read.specs.declared.item.Item.{Item}
 use Rattle.code_read.proofs.ItemLaws.{ReadCode, begins_late}
 

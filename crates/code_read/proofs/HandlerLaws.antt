@@ -1,17 +1,17 @@
 -- Handlers are spelled in one way: no spelling of one begins another, and it spells one.
 use Rattle.std.proofs.Common.{◌≡◌, ℕ, ℤ, ◌++◌, List, length, refl, ap, sym, ◌∙◌, subst, Option, Some, None}
-use Rattle.base_bytes.specs.Grammar.{IsPrefixUnique, Then, Many, Placed}
-use Rattle.base_bytes.proofs.GrammarLaws.{Then-unique, Pair-unique, Many-unique, regrouped, rest_same}
-use Rattle.base_bytes.proofs.ViaLaws.{Via-unique}
-use Rattle.base_bytes.proofs.PlacedLaws.{Placed-unique}
-use Rattle.base_bytes.proofs.Numbers.{spells_unique}
-use Rattle.base_bytes.proofs.Signed.{signed_unique}
+use Rattle.dex_base.specs.Grammar.{IsPrefixUnique, Then, Many, Placed}
+use Rattle.dex_base.proofs.GrammarLaws.{Then-unique, Pair-unique, Many-unique, regrouped, rest_same}
+use Rattle.dex_base.proofs.ViaLaws.{Via-unique}
+use Rattle.dex_base.proofs.PlacedLaws.{Placed-unique}
+use Rattle.dex_base.proofs.Numbers.{spells_unique}
+use Rattle.dex_base.proofs.Signed.{signed_unique}
 use Rattle.program_types.specs.Content.{Catch, Name, OfDesc, Descriptor}
-use Rattle.code_insns.specs.Places.{position}
-use Rattle.code_insns.specs.Symbols.{IsFunctional}
+use Rattle.code_read.specs.Places.{position}
+use Rattle.code_read.specs.Symbols.{IsFunctional}
 use Rattle.dex_insn.specs.declared.opcode.IndexKind.TheVariants as kind
 use Rattle.code_read.specs.Handlers.{Handler, catches_of, AddressBy, TypeBy, CatchBy, AllBy, PartsBy, HandlerBy, ListBy, SpellsList}
-use Rattle.base_bytes.proofs.ListFacts.{some_one}
+use Rattle.dex_base.proofs.ListFacts.{some_one}
 
 desc_one : (s t : Descriptor) → OfDesc s ≡ OfDesc t → s ≡ t
 desc_one s t e = cc

@@ -4,15 +4,15 @@ use Rattle.std.proofs.lemmas.Int.{ints}
 use Rattle.std.proofs.lemmas.List.{map-append}
 use Rattle.program_types.specs.View.{catch}
 use Rattle.program_types.specs.declared.code.Catch.{Catch as Held}
-use Rattle.base_bytes.specs.Grammar.{Takes, NoneBegins, Then, Pair, Many, Each}
-use Rattle.base_bytes.specs.Leb128.{Spells, SpellsSigned}
-use Rattle.base_bytes.proofs.TakesLaws.{Begins-from_takes, Takes-then, Takes-each_push}
-use Rattle.base_bytes.proofs.ViaLaws.{via-none, second-none}
-use Rattle.base_bytes.proofs.GrammarLaws.{Then-none_first, Many-none, Many-unique}
-use Rattle.base_bytes.proofs.Numbers.{spells_unique}
-use Rattle.base_bytes.proofs.Signed.{signed_unique}
+use Rattle.dex_base.specs.Grammar.{Takes, NoneBegins, Then, Pair, Many, Each}
+use Rattle.dex_base.specs.Leb128.{Spells, SpellsSigned}
+use Rattle.dex_base.proofs.TakesLaws.{Begins-from_takes, Takes-then, Takes-each_push}
+use Rattle.dex_base.proofs.ViaLaws.{via-none, second-none}
+use Rattle.dex_base.proofs.GrammarLaws.{Then-none_first, Many-none, Many-unique}
+use Rattle.dex_base.proofs.Numbers.{spells_unique}
+use Rattle.dex_base.proofs.Signed.{signed_unique}
 use Rattle.program_types.specs.Content.{Catch, Name}
-use Rattle.code_insns.specs.Symbols.{IsFunctional}
+use Rattle.code_read.specs.Symbols.{IsFunctional}
 use Rattle.code_read.specs.Handlers.{Handler, catches_of, HasAll, AllBy, PartsBy, SpellsAddress, SpellsCatchType, SpellsCatch, SpellsHandler}
 use Rattle.code_read.proofs.HandlerLaws.{catch-unique}
 

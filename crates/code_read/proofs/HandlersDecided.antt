@@ -1,20 +1,20 @@
 -- Whether handlers stand at the front of bytes is decided.
 use Rattle.std.proofs.Common.{◌≡◌, ℕ, ℤ, pos, negsuc, zero, suc, inl, inr, Option, Some, None, List, ◌++◌, length, map, refl, sym, ap, ◌∙◌, subst, append_assoc}
 use Rattle.std.proofs.lemmas.List.{length-map}
-use Rattle.base_bytes.specs.Deciding.{Decided, DecidedFront}
-use Rattle.base_bytes.specs.Grammar.{Takes, Each, Many, Then}
-use Rattle.base_bytes.specs.Leb128.{Spells, SpellsSigned}
-use Rattle.base_bytes.proofs.Deciding.{DecidedEach, decide_uleb, decide_each, decide_like}
-use Rattle.base_bytes.proofs.GrammarLaws.{Then-unique, Many-unique}
-use Rattle.base_bytes.proofs.Numbers.{spells_unique}
-use Rattle.base_bytes.proofs.PlacedLaws.{Placed-each, Placed-from_each}
-use Rattle.base_bytes.proofs.Signed.{signed_unique}
-use Rattle.base_bytes.proofs.TakesLaws.{Takes-unique}
+use Rattle.dex_base.specs.Deciding.{Decided, DecidedFront}
+use Rattle.dex_base.specs.Grammar.{Takes, Each, Many, Then}
+use Rattle.dex_base.specs.Leb128.{Spells, SpellsSigned}
+use Rattle.dex_base.proofs.Deciding.{DecidedEach, decide_uleb, decide_each, decide_like}
+use Rattle.dex_base.proofs.GrammarLaws.{Then-unique, Many-unique}
+use Rattle.dex_base.proofs.Numbers.{spells_unique}
+use Rattle.dex_base.proofs.PlacedLaws.{Placed-each, Placed-from_each}
+use Rattle.dex_base.proofs.Signed.{signed_unique}
+use Rattle.dex_base.proofs.TakesLaws.{Takes-unique}
 use Rattle.dex_insn.specs.declared.opcode.IndexKind.TheVariants as kind
 use Rattle.program_types.specs.Content.{Name, OfDesc, Descriptor}
 use Rattle.program_types.specs.Kinds.{IsOfKind}
-use Rattle.code_insns.specs.Places.{position}
-use Rattle.code_insns.specs.Symbols.{IsFunctional}
+use Rattle.code_read.specs.Places.{position}
+use Rattle.code_read.specs.Symbols.{IsFunctional}
 use Rattle.code_read.specs.Handlers.{Handler, catches_of, HasAll, SpellsAddress, SpellsCatchType, SpellsCatch, SpellsHandler, SpellsList}
 use Rattle.code_read.proofs.HandlerLaws.{type-unique, catch-unique, parts-unique, handler-unique}
 use Rattle.code_read.proofs.HandlerReading.{SpellsCatchAll, SpellsParts, all-none, all-some}

@@ -1,23 +1,23 @@
 -- Units spell the instructions of a code, or one of them breaks a rule.
 use Rattle.std.proofs.Common.{◌≡◌, ℕ, ℤ, zero, suc, ◌+◌, ◌*◌, ◌/◌, ◌<◌, ◌≤◌, ◌⊎◌, inl, inr, List, [], length, get_or, refl, ap, sym, ◌∙◌, subst, arith}
 use Rattle.std.proofs.lemmas.Bool.{cases_lt}
-use Rattle.base_bytes.specs.Deciding.{Decided}
-use Rattle.base_bytes.specs.Fields.{AreBytes}
-use Rattle.base_bytes.specs.declared.fault.Fault.{Fault}
+use Rattle.dex_base.specs.Deciding.{Decided}
+use Rattle.dex_base.specs.Fields.{AreBytes}
+use Rattle.dex_base.specs.declared.fault.Fault.{Fault}
 use Rattle.dex_insn.specs.Raw as raw
 use Rattle.dex_insn.specs.Raw.{Raw}
 use Rattle.program_types.specs.Content.{Name, OfText, Insn}
 use Rattle.program_types.specs.Content as made
 use Rattle.program_types.specs.Formed.{insn_at, insn_payload, RefersToPayload, PayloadHolds}
-use Rattle.code_insns.specs.First.{AllHold, IsFirstBroken}
-use Rattle.code_insns.specs.Branches.{BranchLands, BranchMoves, BranchHolds, SwitchLands, IsOrigin}
-use Rattle.code_insns.specs.Walk.{Walks, starts, raw_at, address}
-use Rattle.code_insns.specs.Symbols.{linked, Says, InsnHasName}
-use Rattle.code_insns.specs.Linked.{lead, NameHolds, AreLinked, KeepRules, SpellsInsns}
-use Rattle.code_insns.specs.InsnFaults.{Breaks, LinkedBreak, InsnsBreak}
-use Rattle.code_insns.specs.Reading.{AreHalfLinked}
-use Rattle.code_insns.proofs.LinkLaws.{kind-linked, all-linked}
-use Rattle.code_insns.proofs.Runs.{length-of_starts}
+use Rattle.program_code_rules.specs.First.{AllHold, IsFirstBroken}
+use Rattle.program_code_rules.specs.Branches.{BranchLands, BranchMoves, BranchHolds, SwitchLands, IsOrigin}
+use Rattle.code_read.specs.Walk.{Walks, starts, raw_at, address}
+use Rattle.code_read.specs.Symbols.{linked, Says, InsnHasName}
+use Rattle.code_read.specs.Linked.{lead, NameHolds, AreLinked, KeepRules, SpellsInsns}
+use Rattle.code_read.specs.InsnFaults.{Breaks, LinkedBreak, InsnsBreak}
+use Rattle.code_read.specs.InsnReading.{AreHalfLinked}
+use Rattle.code_read.proofs.LinkLaws.{kind-linked, all-linked}
+use Rattle.code_read.proofs.Runs.{length-of_starts}
 use Rattle.code_read.proofs.Deciding.{first-or-all, build}
 use Rattle.code_read.proofs.WalkDecided.{walk-decided}
 use Rattle.code_read.proofs.RulesDecided.{AreNamesDecided, decide-name, decide-switch, decide-refers, decide-payload, decide-branch-lands, decide-branch-moves, decide-branch, decide-switch-lands}

@@ -2,23 +2,23 @@
 use Rattle.std.proofs.Common.{◌≡◌, ◌≢◌, ℕ, ◌+◌, ◌<◌, ◌≤◌, ◌*◌, ◌%◌, ◌++◌, List, length, take, drop, ap, sym, ◌∙◌, subst, arith, append_assoc, length-append, length-take, if◌then◌else◌, ◌==◌}
 use Rattle.std.specs.Prelude.{slice_range}
 use Rattle.std.proofs.lemmas.List.{take-append-drop, drop-append-le, append_cancel_right}
-use Rattle.base_bytes.specs.Grammar.{IsPrefixUnique, Takes}
-use Rattle.base_bytes.proofs.FieldBounds.{u16_at-front, u32_at-front}
+use Rattle.dex_base.specs.Grammar.{IsPrefixUnique, Takes}
+use Rattle.dex_base.proofs.FieldBounds.{u16_at-front, u32_at-front}
 use Rattle.dex_insn.specs.Raw.{Raw}
 use Rattle.dex_insn.proofs.More.{slice-append}
 use Rattle.program_types.specs.Content.{Name, Code, Insn, Try}
-use Rattle.code_insns.specs.Walk.{starts}
-use Rattle.code_insns.specs.Symbols.{IsFunctional}
-use Rattle.code_insns.specs.Reading.{ReadInsns}
+use Rattle.code_read.specs.Walk.{starts}
+use Rattle.code_read.specs.Symbols.{IsFunctional}
+use Rattle.code_read.specs.InsnReading.{ReadInsns}
 use Rattle.code_read.specs.Item.{registers_of, ins_of, outs_of, tries_of, insns_size, units_end, tries_begin, list_begin, insns_bytes, items_of, HasFixedParts}
-use Rattle.code_insns.specs.Linked.{SpellsInsns}
+use Rattle.code_read.specs.Linked.{SpellsInsns}
 use Rattle.code_read.specs.Tries.{SpellsTries}
 use Rattle.code_read.specs.Code.{SpellsBody}
-use Rattle.code_read.specs.Reading.{ReadTries, IsCodeItem}
+use Rattle.code_read.specs.ItemReading.{ReadTries, IsCodeItem}
 use Rattle.code_read.specs.declared.item.Item.{Item}
-use Rattle.code_insns.proofs.InsnsOnce.{walks-one, insns-one}
+use Rattle.code_read.proofs.InsnsOnce.{walks-one, insns-one}
 use Rattle.code_read.proofs.TriesOnce.{tries-one}
-use Rattle.base_bytes.proofs.GrammarLaws.{rest_same}
+use Rattle.dex_base.proofs.GrammarLaws.{rest_same}
 
 -- The bytes begin with the code_item of this code, and these bytes follow.
 pub record ReadCode (N : ℕ → Name → Type 0) (bytes rest : List ℕ) (c : Code) : Type 0 where

@@ -1,3 +1,13 @@
+pub mod Runs
+pub mod PlaceLaws
+pub mod TargetLaws
+pub mod LinkLaws
+pub mod InsnsOnce
+pub mod InsnFaultLaws
+pub mod PlainLaws
+pub mod OneInsnFault
+pub mod Lists
+pub mod ReadLaws
 pub mod Bytes
 pub mod CarryLaws
 pub mod Carrying
@@ -13,7 +23,7 @@ pub mod InsnsDecided
 pub mod ItemLaws
 pub mod ListReading
 pub mod NamesHaveRows
-pub mod OneFault
+pub mod OneItemFault
 pub mod PastLaws
 pub mod RulesDecided
 pub mod SaidLaws

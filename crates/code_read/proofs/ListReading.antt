@@ -1,20 +1,20 @@
 -- The list of handlers, one by one.
 use Rattle.std.proofs.Common.{◌≡◌, ℕ, ◌+◌, ◌-◌, ◌<◌, ◌≤◌, ◌++◌, List, [], ◌∷◌, length, map, get_or, refl, ap, sym, ◌∙◌, arith, zero, suc, subst, append_assoc, length-append}
 use Rattle.std.proofs.lemmas.List.{map-append, length-map}
-use Rattle.base_bytes.specs.Grammar.{Takes, NoneBegins, Placed}
-use Rattle.base_bytes.specs.Leb128.{Spells, SpellsSigned}
-use Rattle.base_bytes.proofs.TakesLaws.{Takes-unique, Takes-length}
-use Rattle.base_bytes.proofs.GrammarLaws.{Each-next}
-use Rattle.base_bytes.proofs.PlacedLaws.{Placed-push, Placed-each}
-use Rattle.base_bytes.proofs.Numbers.{spells_unique, some_byte}
-use Rattle.base_bytes.proofs.Signed.{signed_unique}
+use Rattle.dex_base.specs.Grammar.{Takes, NoneBegins, Placed}
+use Rattle.dex_base.specs.Leb128.{Spells, SpellsSigned}
+use Rattle.dex_base.proofs.TakesLaws.{Takes-unique, Takes-length}
+use Rattle.dex_base.proofs.GrammarLaws.{Each-next}
+use Rattle.dex_base.proofs.PlacedLaws.{Placed-push, Placed-each}
+use Rattle.dex_base.proofs.Numbers.{spells_unique, some_byte}
+use Rattle.dex_base.proofs.Signed.{signed_unique}
 use Rattle.program_types.specs.Content.{Name}
-use Rattle.code_insns.specs.Symbols.{IsFunctional}
-use Rattle.code_insns.specs.Places.{Rises}
+use Rattle.code_read.specs.Symbols.{IsFunctional}
+use Rattle.code_read.specs.Places.{Rises}
 use Rattle.code_read.specs.Handlers.{Handler, SpellsHandler, SpellsList}
 use Rattle.code_read.specs.HandlerViews.{handler}
 use Rattle.code_read.specs.declared.handlers.Caught.{Caught}
-use Rattle.code_read.specs.Reading.{ReadList}
+use Rattle.code_read.specs.ItemReading.{ReadList}
 use Rattle.code_read.proofs.HandlerLaws.{handler-unique}
 
 -- After the count stand these handlers, at these offsets from the list's begin, and what is left follows.

@@ -1,22 +1,22 @@
 -- For each name in a code that stands an index stands.
 use Rattle.std.proofs.Common.{◌≡◌, ℕ, zero, suc, ◌+◌, ◌<◌, List, [], ◌∷◌, Option, Some, None, length, get_or, subst, arith, if◌then◌else◌, ◌==◌, Bool, true, false}
 use Rattle.std.specs.List.{AllByRecursion, flat_map}
-use Rattle.base_bytes.specs.Grammar.{Each, Placed}
+use Rattle.dex_base.specs.Grammar.{Each, Placed}
 use Rattle.dex_insn.specs.Raw.{Raw}
 use Rattle.program_types.specs.Content.{Name, OfDesc, Catch, Insn, Try, Code}
 use Rattle.program_types.specs.Content as made
 use Rattle.program_types.specs.Formed.{insn_at, try_at}
 use Rattle.program_types.specs.Mentions.{names_of_insn, names_of_try, names_of_code}
-use Rattle.code_insns.specs.Stands.{NameStands}
-use Rattle.tables_laws.specs.FileNames.{HasRow}
-use Rattle.code_insns.specs.Walk.{raw_at}
-use Rattle.code_insns.specs.Symbols.{name_in}
-use Rattle.code_insns.specs.Linked.{SpellsInsns}
+use Rattle.tables_rows.specs.Stands.{NameStands}
+use Rattle.tables_rows.specs.FileNames.{HasRow}
+use Rattle.code_read.specs.Walk.{raw_at}
+use Rattle.code_read.specs.Symbols.{name_in}
+use Rattle.code_read.specs.Linked.{SpellsInsns}
 use Rattle.code_read.specs.Handlers.{Handler, SpellsCatch, SpellsHandler, SpellsHandlers, handler_at}
 use Rattle.code_read.specs.Tries.{SpellsTries, handler_of}
 use Rattle.code_read.specs.Code.{SpellsBody, CodeStands}
 use Rattle.code_read.proofs.SaidLaws.{names-said}
-use Rattle.base_bytes.proofs.ListFacts.{all_map, all_append}
+use Rattle.dex_base.proofs.ListFacts.{all_map, all_append}
 
 -- what holds in each part holds in all of them
 all-flat : {A B : Type 0} (P : B → Type 0) (f : A → List B) (xs : List A) (d : A) → ((k : ℕ) → k < length xs → AllByRecursion P (f (get_or xs k d))) → AllByRecursion P (flat_map f xs)

@@ -1,11 +1,11 @@
 -- What is said of a code's registers when its instructions are read, said of the code.
 use Rattle.std.proofs.Common.{◌≡◌, ℕ, ◌+◌, ◌*◌, ◌<◌, ◌≤◌, length, Option, Some, None, subst, inl, inr}
 use Rattle.std.specs.Prelude.{IfSome, IfNone, ◌⊎◌}
-use Rattle.base_bytes.specs.declared.fault.Fault.{Fault}
+use Rattle.dex_base.specs.declared.fault.Fault.{Fault}
 use Rattle.program_types.specs.Content.{Code}
 use Rattle.program_types.specs.Formed.{RegistersHold}
-use Rattle.code_insns.specs.First.{AllHold}
-use Rattle.code_insns.specs.Registers.{AmongAt, IsPast}
+use Rattle.program_code_rules.specs.First.{AllHold}
+use Rattle.code_read.specs.Registers.{AmongAt, IsPast}
 use Rattle.code_read.specs.Faults.{RegistersBreak}
 
 -- no fault

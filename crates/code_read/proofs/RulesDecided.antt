@@ -1,20 +1,20 @@
 -- Whether an instruction of a code keeps a rule is decided.
 use Rattle.std.proofs.Common.{◌≡◌, ◌≢◌, ℕ, inl, inr, Option, Some, None, List, length, refl, sym, subst}
-use Rattle.base_bytes.specs.Deciding.{Decided}
-use Rattle.base_bytes.proofs.Deciding.{decide_like, decide_both, decide_lt, decide_eq, decide_below, decide_all}
+use Rattle.dex_base.specs.Deciding.{Decided}
+use Rattle.dex_base.proofs.Deciding.{decide_like, decide_both, decide_lt, decide_eq, decide_below, decide_all}
 use Rattle.dex_insn.specs.Raw as raw
 use Rattle.dex_insn.specs.Raw.{Raw}
 use Rattle.dex_insn.specs.Opcodes.{index_kind_of}
 use Rattle.dex_insn.specs.declared.opcode.IndexKind.{IndexKind}
 use Rattle.program_types.specs.Content.{Name, Insn}
 use Rattle.program_types.specs.Formed.{AreAlike, IsSwitch, insn_at, insn_payload, insn_wants, insn_reach, insn_branch, insn_short_branch, insn_targets, IsTarget, RefersToPayload, PayloadHolds}
-use Rattle.code_insns.specs.Branches.{BranchLands, BranchMoves, BranchHolds, SwitchLands}
+use Rattle.program_code_rules.specs.Branches.{BranchLands, BranchMoves, BranchHolds, SwitchLands}
 use Rattle.program_types.specs.Kinds.{IsOfKind}
 use Rattle.program_types.specs.Operands.{IsOfIndexKind}
 use Rattle.program_types.specs.declared.payload.Payload.{Payload}
 use Rattle.program_types.specs.declared.payload.Payload.TheVariants as payload
-use Rattle.code_insns.specs.First.{AllHold}
-use Rattle.code_insns.specs.Symbols.{SomeName, InsnHasName}
+use Rattle.program_code_rules.specs.First.{AllHold}
+use Rattle.code_read.specs.Symbols.{SomeName, InsnHasName}
 use Rattle.code_read.proofs.Deciding.{decide-all-below, decide-implied, decide-if-some}
 
 -- ---- names

@@ -4,7 +4,7 @@ use Rattle.std.proofs.lemmas.List.{length-map}
 use Rattle.std.specs.Prelude.{slice_get, slice_range, FitsSigned, ⊤}
 use Rattle.std.specs.Int.{w32}
 use Rattle.std.specs.List.{AllByRecursion}
-use Rattle.base_bytes.specs.Fields.{AreBytes}
+use Rattle.dex_base.specs.Fields.{AreBytes}
 use Rattle.dex_insn.specs.Fields.{number, int_at, SwitchKeysRise}
 use Rattle.dex_insn.specs.Raw as raw
 use Rattle.dex_insn.specs.Raw.{Raw}
@@ -15,11 +15,11 @@ use Rattle.program_types.specs.Content.{Name}
 use Rattle.program_types.specs.Formed.{insn_leads}
 use Rattle.program_types.specs.Mentions.{names_of_insn}
 use Rattle.program_types.specs.Operands.{IsOperand, AreRisingKeys}
-use Rattle.code_insns.specs.Symbols.{linked, ints, ints_from, InsnNames}
-use Rattle.code_insns.proofs.LinkLaws.{length-ints_from}
+use Rattle.code_read.specs.Symbols.{linked, ints, ints_from, InsnNames}
+use Rattle.code_read.proofs.LinkLaws.{length-ints_from}
 use Rattle.code_read.proofs.Bytes.{all-bytes}
-use Rattle.base_bytes.proofs.FieldBounds.{drop-AreBytes}
-use Rattle.base_bytes.proofs.ListFacts.{take_bytes}
+use Rattle.dex_base.proofs.FieldBounds.{drop-AreBytes}
+use Rattle.dex_base.proofs.ListFacts.{take_bytes}
 
 -- ---- names
 

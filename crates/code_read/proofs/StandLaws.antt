@@ -1,20 +1,20 @@
 -- What stands at a place of the section is what its bytes from there on begin with.
 use Rattle.std.proofs.Common.{◌≡◌, ℕ, ◌-◌, ◌%◌, ◌<◌, ◌≤◌, List, length, take, drop, sym, subst, ◌∙◌, arith, length-take, inr}
 use Rattle.std.proofs.lemmas.List.{take-take, take-append-drop}
-use Rattle.base_bytes.specs.Grammar.{Takes}
-use Rattle.base_bytes.specs.declared.fault.Fault.{Fault}
-use Rattle.base_bytes.proofs.TakesLaws.{Begins-from_takes, Takes-unique}
+use Rattle.dex_base.specs.Grammar.{Takes}
+use Rattle.dex_base.specs.declared.fault.Fault.{Fault}
+use Rattle.dex_base.proofs.TakesLaws.{Begins-from_takes, Takes-unique}
 use Rattle.dex_container.specs.declared.section.Section.{Section}
 use Rattle.dex_container.specs.Where.{slice, IsInSection, IsSectionOf}
 use Rattle.dex_container.proofs.Standing.{stands_at, at_place}
 use Rattle.program_types.specs.Content.{Name, Code}
-use Rattle.code_insns.specs.Symbols.{IsFunctional}
+use Rattle.code_read.specs.Symbols.{IsFunctional}
 use Rattle.program_types.specs.Formed.{RegistersHold}
 use Rattle.code_read.specs.Code.{SpellsBody, BodyStands, CodeStands}
 use Rattle.code_read.specs.Faults.{ItemBreaks, CodeBreaks}
 use Rattle.code_read.proofs.ItemLaws.{SpellsBody-unique, read-from_takes}
 use Rattle.code_read.proofs.FaultLaws.{item-clear}
-pub use Rattle.code_insns.proofs.InsnsOnce.{NameIsAt-functional}
+pub use Rattle.code_read.proofs.InsnsOnce.{NameIsAt-functional}
 
 -- a code that stands is one whose registers hold
 pub code_body : (N : ℕ → Name → Type 0) (b : List ℕ) (off : ℕ) (c : Code) → CodeStands N b off c → BodyStands N b off c

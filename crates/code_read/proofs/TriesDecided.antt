@@ -1,17 +1,17 @@
 -- try_items and handlers spell tries, or one breaks a rule.
 use Rattle.std.proofs.Common.{◌≡◌, ℕ, zero, suc, ◌+◌, ◌*◌, ◌≤◌, ◌⊎◌, inl, inr, Some, None, List, [], refl, sym, ◌∙◌, subst, arith}
-use Rattle.base_bytes.specs.Deciding.{Decided}
-use Rattle.base_bytes.specs.declared.fault.Fault.{Fault}
-use Rattle.base_bytes.proofs.Deciding.{decide_like, decide_both, decide_lt, decide_le}
+use Rattle.dex_base.specs.Deciding.{Decided}
+use Rattle.dex_base.specs.declared.fault.Fault.{Fault}
+use Rattle.dex_base.proofs.Deciding.{decide_like, decide_both, decide_lt, decide_le}
 use Rattle.program_types.specs.Content.{Name, Try}
-use Rattle.code_insns.specs.Places.{position, count_below}
-use Rattle.code_insns.specs.First.{AllHold}
-use Rattle.code_insns.specs.Symbols.{IsFunctional}
+use Rattle.code_read.specs.Places.{position, count_below}
+use Rattle.program_code_rules.specs.First.{AllHold}
+use Rattle.code_read.specs.Symbols.{IsFunctional}
 use Rattle.code_read.specs.Item.{try_start, try_count, try_handler}
 use Rattle.code_read.specs.Handlers.{Handler, handler_at}
 use Rattle.code_read.specs.Tries.{TryHolds, SpellsTry}
 use Rattle.code_read.specs.Faults.{HasHandlers, TriesBreak, list_fault, try_fault}
-use Rattle.code_read.specs.Reading.{ReadTries}
+use Rattle.code_read.specs.ItemReading.{ReadTries}
 use Rattle.code_read.proofs.HandlerLaws.{SpellsList-unique}
 use Rattle.code_read.proofs.TryLaws.{no-tries}
 use Rattle.code_read.proofs.Deciding.{first-or-all, decide-all-below, build, decide-there}

@@ -2,11 +2,11 @@
 use Rattle.std.proofs.Common.{◌≡◌, ℕ, ◌++◌, List, [], sym, ◌∙◌, arith, zero, suc, None, subst}
 use Rattle.program_types.specs.Content.{Name, Try}
 use Rattle.program_types.specs.Formed.{try_at}
-use Rattle.code_insns.specs.Symbols.{IsFunctional}
+use Rattle.code_read.specs.Symbols.{IsFunctional}
 use Rattle.code_read.specs.Handlers.{Handler, SpellsHandlers}
 use Rattle.code_read.specs.Tries.{SpellsTry, SpellsTries, handler_of}
 use Rattle.code_read.proofs.HandlerLaws.{SpellsList-unique}
-use Rattle.base_bytes.proofs.ListFacts.{some_one}
+use Rattle.dex_base.proofs.ListFacts.{some_one}
 use Rattle.std.proofs.lemmas.List.{ext_get_or}
 
 try_same : (t u : Try) → t.from ≡ u.from → t.to ≡ u.to → handler_of t ≡ handler_of u → t ≡ u

@@ -1,13 +1,13 @@
 -- Units are instructions, end to end, or after some of them stands none.
 use Rattle.std.proofs.Common.{◌≡◌, ℕ, zero, suc, ◌+◌, ◌*◌, ◌/◌, ◌≤◌, ◌⊎◌, inl, inr, List, [], ◌∷◌, ◌++◌, length, refl, subst, arith}
 use Rattle.std.proofs.lemmas.Bool.{cases_lt}
-use Rattle.base_bytes.specs.Fields.{AreBytes}
-use Rattle.base_bytes.specs.declared.fault.Fault.{Fault}
+use Rattle.dex_base.specs.Fields.{AreBytes}
+use Rattle.dex_base.specs.declared.fault.Fault.{Fault}
 use Rattle.dex_insn.specs.Raw.{Raw, units}
 use Rattle.dex_insn.proofs.Decided.{insn-decided}
 use Rattle.dex_insn.proofs.StandingLaws.{stands-whole}
-use Rattle.code_insns.specs.Walk.{Run, Walks, IsWalkFault}
-use Rattle.code_insns.proofs.Runs.{run-more}
+use Rattle.code_read.specs.Walk.{Run, Walks, IsWalkFault}
+use Rattle.code_read.proofs.Runs.{run-more}
 
 module _ (us : List ℕ) (base : ℕ) (are : AreBytes us) (even : length us ≡ 2 * (length us / 2)) where
   abbrev IsWalkDecided : Type 0

@@ -5,9 +5,9 @@ use Rattle.dex_insn.specs.Raw.{Raw}
 use Rattle.program_types.specs.Content.{Name, Code}
 use Rattle.program_types.specs.Formed.{RegistersHold}
 use Rattle.dex_container.specs.Where.{At}
-use Rattle.code_insns.specs.Walk.{starts}
+use Rattle.code_read.specs.Walk.{starts}
 use Rattle.code_read.specs.Item.{registers_of, ins_of, outs_of, tries_of, insns_size, insns_bytes, items_of, list_begin, HasFixedParts}
-use Rattle.code_insns.specs.Linked.{SpellsInsns}
+use Rattle.code_read.specs.Linked.{SpellsInsns}
 use Rattle.code_read.specs.Tries.{SpellsTries}
 
 -- The bytes are the code_item of this code, whichever registers it names, where N says which index stands for which name.

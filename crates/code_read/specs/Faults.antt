@@ -1,15 +1,15 @@
 -- What a refusal of a code item says: the rule that is broken at its place.
 -- Page: "Dalvik Executable format", "code_item", "try_item" and "encoded_catch_handler_list".
 use Rattle.std.specs.Prelude.{ℕ, ◌≡◌, ◌+◌, ◌*◌, ◌%◌, ◌<◌, ◌≤◌, ◌⊎◌, List, ◌++◌, drop, Some}
-use Rattle.base_bytes.specs.declared.fault.Fault.{Fault}
+use Rattle.dex_base.specs.declared.fault.Fault.{Fault}
 use Rattle.dex_insn.specs.Raw.{Raw}
 use Rattle.program_types.specs.Content.{Name, Insn, Code}
 use Rattle.dex_container.specs.Where.{IsInSection, IsSectionRest}
-use Rattle.code_insns.specs.First.{IsFirstBroken, AllHold}
-use Rattle.code_insns.specs.Walk.{starts}
-use Rattle.code_insns.specs.InsnFaults.{InsnsBreak}
-use Rattle.code_insns.specs.Linked.{SpellsInsns}
-use Rattle.code_insns.specs.Registers.{IsPast}
+use Rattle.program_code_rules.specs.First.{IsFirstBroken, AllHold}
+use Rattle.code_read.specs.Walk.{starts}
+use Rattle.code_read.specs.InsnFaults.{InsnsBreak}
+use Rattle.code_read.specs.Linked.{SpellsInsns}
+use Rattle.code_read.specs.Registers.{IsPast}
 use Rattle.code_read.specs.Code.{BodyStands}
 use Rattle.code_read.specs.Item.{insns_size, tries_of, insns_bytes, items_of, tries_begin, list_begin, try_handler, HasFixedParts}
 use Rattle.code_read.specs.Handlers.{Handler, SpellsList, handler_at}

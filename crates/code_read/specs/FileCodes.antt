@@ -2,12 +2,12 @@
 -- Page: "Dalvik Executable format", "code_item".
 use Rattle.std.specs.Prelude.{ℕ, ◌⊎◌, List}
 use Rattle.std.specs.List.{AllByRecursion}
-use Rattle.base_bytes.specs.declared.fault.Fault.{Fault}
+use Rattle.dex_base.specs.declared.fault.Fault.{Fault}
 use Rattle.program_types.specs.Content.{Code}
 use Rattle.program_types.specs.Mentions.{names_of_code}
-use Rattle.code_insns.specs.Names.{Names, NameIsAt}
-use Rattle.code_insns.specs.Stands.{NameStands}
-use Rattle.tables_laws.specs.FileNames.{HasRow}
+use Rattle.tables_rows.specs.Names.{Names, NameIsAt}
+use Rattle.tables_rows.specs.Stands.{NameStands}
+use Rattle.tables_rows.specs.FileNames.{HasRow}
 use Rattle.code_read.specs.Code.{CodeStands}
 use Rattle.code_read.specs.Faults.{CodeBreaks, CodeOverruns}
 

@@ -1,11 +1,11 @@
 -- Which bytes spell a code item's handlers.
 -- Page: "Dalvik Executable format", "encoded_catch_handler_list", "encoded_catch_handler" and "encoded_type_addr_pair".
 use Rattle.std.specs.Prelude.{ℕ, ℤ, pos, negsuc, ◌≡◌, ◌==◌, if◌then◌else◌, List, [], ◌∷◌, ◌++◌, length, Option, Some, None, zero, suc, ⊤, unsigned_abs}
-use Rattle.base_bytes.specs.Grammar.{Then, Pair, Many, Placed}
-use Rattle.base_bytes.specs.Via.{Via}
-use Rattle.base_bytes.specs.Leb128.{Spells, SpellsSigned, Shortest}
+use Rattle.dex_base.specs.Grammar.{Then, Pair, Many, Placed}
+use Rattle.dex_base.specs.Via.{Via}
+use Rattle.dex_base.specs.Leb128.{Spells, SpellsSigned, Shortest}
 use Rattle.program_types.specs.Content.{Catch, Name, OfDesc, Descriptor}
-use Rattle.code_insns.specs.Places.{position}
+use Rattle.code_read.specs.Places.{position}
 
 -- the catches and the handler of all other exceptions of a try
 pub record Handler : Type 0 where

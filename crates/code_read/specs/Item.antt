@@ -1,7 +1,7 @@
 -- The fixed parts of a code_item, as fields of the bytes from its first one on. What stands after the item isn't looked at.
 -- Page: "Dalvik Executable format", "code_item" and "try_item".
 use Rattle.std.specs.Prelude.{ℕ, ◌+◌, ◌*◌, ◌%◌, ◌≤◌, List, length, slice_range, ◌==◌, if◌then◌else◌}
-use Rattle.base_bytes.specs.Fields.{u16_at, u32_at}
+use Rattle.dex_base.specs.Fields.{u16_at, u32_at}
 
 -- registers_size
 abbrev pub registers_of : List ℕ → ℕ

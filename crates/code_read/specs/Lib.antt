@@ -1,11 +1,18 @@
-pub mod Checking
+pub mod Places
+pub mod Walk
+pub mod Symbols
+pub mod Linked
+pub mod InsnFaults
+pub mod Registers
+pub mod InsnReading
+pub mod Plain
+pub mod InsnChecking
+pub mod ItemChecking
 pub mod Code
 pub mod Faults
 pub mod FileCodes
 pub mod HandlerViews
 pub mod Handlers
 pub mod Item
-pub mod Reading
+pub mod ItemReading
 pub mod Tries
--- What stands below, for the crates above.
-pub use Rattle.code_insns.specs.Symbols

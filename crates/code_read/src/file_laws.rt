@@ -5,13 +5,13 @@
 //! ```
 
 ghost use Rattle.std.specs.Prelude.{◌↔◌, ℕ, List};
-ghost use Rattle.base_bytes.specs.Fields.{AreBytes};
-ghost use Rattle.base_bytes.specs.declared.fault.Fault.{Fault};
+ghost use Rattle.dex_base.specs.Fields.{AreBytes};
+ghost use Rattle.dex_base.specs.declared.fault.Fault.{Fault};
 ghost use Rattle.dex_container.specs.Frame.{IsFramed};
 ghost use Rattle.program_types.specs.Content.{Code};
 ghost use Rattle.program_types.specs.Formed.{IsFormed};
-ghost use Rattle.code_insns.specs.Names.{Names, AreNamesOf, NameIsAt};
-ghost use Rattle.code_insns.specs.Stands.{NameStands};
+ghost use Rattle.tables_rows.specs.Names.{Names, AreNamesOf, NameIsAt};
+ghost use Rattle.tables_rows.specs.Stands.{NameStands};
 ghost use Rattle.code_read.specs.Code.{CodeStands};
 ghost use Rattle.code_read.specs.Faults.{CodeBreaks, CodeOverruns};
 ghost use Rattle.code_read.specs.FileCodes.{CodeIsDecided, CodesHaveRows};

@@ -1,21 +1,22 @@
 //! Handlers, from the front of the bytes.
 
 ghost use Rattle.std.specs.Prelude.{◌≡◌, ◌≢◌, ◌≤◌, ◌<◌, length, map, IfSome, IfNone, IfOk, IfErr};
-ghost use Rattle.base_bytes.specs.Fault.{memory};
-ghost use Rattle.base_bytes.specs.Grammar.{Takes, NoneBegins, Many};
-ghost use Rattle.base_bytes.specs.Leb128.{Spells, SpellsSigned};
+ghost use Rattle.dex_base.specs.Fault.{memory};
+ghost use Rattle.dex_base.specs.Grammar.{Takes, NoneBegins, Many};
+ghost use Rattle.dex_base.specs.Leb128.{Spells, SpellsSigned};
 ghost use Rattle.program_types.specs.View.{desc, catch};
-ghost use Rattle.code_insns.specs.Names.{NameIsAt};
-ghost use Rattle.code_insns.specs.Places.{Rises};
+ghost use Rattle.tables_rows.specs.Names.{NameIsAt};
+ghost use Rattle.code_read.specs.Places.{Rises};
 ghost use Rattle.code_read.specs.Handlers.{SpellsAddress, SpellsCatchType, SpellsCatch, SpellsHandler};
 ghost use Rattle.code_read.specs.Faults.{list_fault};
 ghost use Rattle.code_read.specs.HandlerViews.{handler};
 
+use crate::places::number_at;
 use bumpalo::Bump;
-use code_insns::{Tables, number_at};
-use dex_insn::{Fault, fault, read_sleb, read_uleb};
+use dex_base::{Fault, fault, read_sleb, read_uleb};
 use program_types::{Catch, Desc};
 use std::alloc::Global;
+use tables_rows::Tables;
 
 /// The catches of a handler, and where all other exceptions go.
 #[derive(Clone, Copy)]

@@ -2,9 +2,9 @@
 
 ghost use Rattle.std.specs.Prelude.{◌<◌, ◌^◌, IfSome, IfNone};
 ghost use Rattle.code_read.specs.Item.{HasFixedParts};
-ghost use Rattle.code_read.specs.Reading.{IsCodeItem};
+ghost use Rattle.code_read.specs.ItemReading.{IsCodeItem};
 
-use dex_insn::{u16_at, u32_at};
+use dex_base::{u16_at, u32_at};
 
 /// The fixed parts of an item, and the bytes after them.
 #[derive(Clone, Copy)]

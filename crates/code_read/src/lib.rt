@@ -1,4 +1,6 @@
-//! Code items, read: the instructions of a method's body and its tries, at a byte offset of a file.
+//! Code items, read or only looked at: a method's instructions and tries, at a byte offset of a file. The units of the instructions are
+//! walked once, end to end, and linked: an index becomes a name, and an offset the number of the instruction to which it leads. Then
+//! branches, payloads, switches and registers are asked for the rules of programs. Tries and their handlers follow.
 //!
 //! ```text
 //! let tables = Tables::read(alloc, &arena, &sections)?;
@@ -9,28 +11,40 @@
 //! docs/MAP.md says where this crate stands among the others.
 #![tactic(auto)]
 
-// The fixed parts of an item.
-mod item;
+// The instructions, end to end, and from their addresses to their numbers.
+mod places;
+mod walking;
 
-// Tries and handlers.
+// From raw instructions to symbolic ones.
+mod names;
+mod plain;
+mod symbols;
+mod targets;
+
+// All instructions of a code: looked at, read, and what holds of them.
+mod checking;
+mod insn_laws;
+mod insns;
+
+// The fixed parts of a code item, its tries and handlers.
 mod handlers;
+mod item;
 mod tries;
 
-// All of it: read, or only looked at.
+// A whole code item: read or looked at, what holds of it, and of all that a file has.
+mod file_laws;
+mod item_laws;
 mod reading;
 
-// What holds of every item.
-mod laws;
-
-// What holds of the codes of a file.
-mod file_laws;
-
+pub use checking::Checked;
 pub use file_laws::{
     codes_are_decided, codes_carry_over, names_of_codes_have_rows, standing_codes_are_formed,
 };
 pub use handlers::{read_number, read_signed};
+pub use insn_laws::{insns_break_one_rule, registers_are_said};
 pub use item::{Item, item_of};
-pub use laws::{
+pub use item_laws::{
     broken_code_is_none, code_carries_over, code_is_one, code_is_prefix_unique, one_fault,
 };
+pub use places::{below, number_at};
 pub use reading::{Body, check_body, read_body, read_code};

@@ -1,25 +1,27 @@
 //! Reading a code item.
 
 ghost use Rattle.std.specs.Prelude.{◌≡◌, ◌≢◌, ℕ, ◌≤◌, ◌<◌, ◌+◌, ◌*◌, ◌%◌, ◌^◌, ◌⊎◌, IsTrue, length, map, IfOk, IfErr, IfSome, IfNone, Some, None};
-ghost use Rattle.base_bytes.specs.Fault.{memory};
+ghost use Rattle.dex_base.specs.Fault.{memory};
 ghost use Rattle.program_types.specs.Content as content;
 ghost use Rattle.program_types.specs.View.{code, insn};
-ghost use Rattle.code_insns.specs.Names.{NameIsAt};
+ghost use Rattle.tables_rows.specs.Names.{NameIsAt};
 ghost use Rattle.program_types.specs.Formed.{RegistersHold};
-ghost use Rattle.code_insns.specs.Checking.{AreChecked};
-ghost use Rattle.code_insns.specs.InsnFaults.{InsnsBreak};
-ghost use Rattle.code_read.specs.Checking.{HoldsItem, HoldsBody};
+ghost use Rattle.code_read.specs.InsnChecking.{AreChecked};
+ghost use Rattle.code_read.specs.InsnFaults.{InsnsBreak};
+ghost use Rattle.code_read.specs.ItemChecking.{HoldsItem, HoldsBody};
 ghost use Rattle.code_read.specs.Code.{BodyStands, CodeStands};
 ghost use Rattle.code_read.specs.Faults.{ItemBreaks, CodeBreaks, RegistersBreak, CodeOverruns};
 
+use crate::checking::check_insns;
+use crate::insns::{Insns, read_insns};
 use crate::item::{Item, item_of};
 use crate::tries::read_tries;
 use bumpalo::Bump;
-use code_insns::{Insns, Tables, check_insns, read_insns};
+use dex_base::{Fault, fault};
 use dex_container::{Sections, bytes_from, section_of};
-use dex_insn::{Fault, fault};
 use program_types::Code;
 use std::alloc::Global;
+use tables_rows::Tables;
 
 /// The kind of the section of code items (TYPE_CODE_ITEM).
 const CODE_ITEMS: u16 = 0x2001;

@@ -1,27 +1,28 @@
 //! The tries of a code, from its try_items and its handlers.
 
 ghost use Rattle.std.specs.Prelude.{◌≡◌, ◌≢◌, ℕ, ◌^◌, ◌+◌, ◌*◌, ◌<◌, ◌≤◌, ◌↔◌, IsTrue, length, map, IfOk, IfErr, OnOk, Some, None, IfSome, IfNone};
-ghost use Rattle.base_bytes.specs.Fault.{memory};
-ghost use Rattle.base_bytes.specs.Grammar.{NoneBegins};
+ghost use Rattle.dex_base.specs.Fault.{memory};
+ghost use Rattle.dex_base.specs.Grammar.{NoneBegins};
 ghost use Rattle.program_types.specs.View.{try};
-ghost use Rattle.code_insns.specs.Names.{NameIsAt};
-ghost use Rattle.code_insns.specs.Places.{Rises, position};
-ghost use Rattle.code_insns.specs.First.{AllHold, IsFirstBroken};
+ghost use Rattle.tables_rows.specs.Names.{NameIsAt};
+ghost use Rattle.code_read.specs.Places.{Rises, position};
+ghost use Rattle.program_code_rules.specs.First.{AllHold, IsFirstBroken};
 ghost use Rattle.code_read.specs.Tries.{TryHolds};
 ghost use Rattle.code_read.specs.Item.{try_start, try_count, try_handler};
 ghost use Rattle.code_read.specs.Handlers.{SpellsList};
 ghost use Rattle.code_read.specs.HandlerViews.{handler};
 ghost use Rattle.code_read.specs.Faults.{TriesBreak, list_fault, try_fault};
-ghost use Rattle.code_read.specs.Reading.{ReadTries, ReadList, TakesTry, TakesTries, NoHandler};
+ghost use Rattle.code_read.specs.ItemReading.{ReadTries, ReadList, TakesTry, TakesTries, NoHandler};
 
 use crate::handlers::{Caught, read_handler, read_number};
 use crate::item::Item;
+use crate::places::{below, number_at};
 use bumpalo::Bump;
 use bumpalo::collections::into_bump_slice;
-use code_insns::{Tables, below, number_at};
-use dex_insn::{Fault, fault, u16_at, u32_at};
+use dex_base::{Fault, fault, u16_at, u32_at};
 use program_types::Try;
 use std::alloc::Global;
+use tables_rows::Tables;
 
 /// Where what try_item `i` covers ends.
 fn end_of(items: &[u8], i: usize) -> u64

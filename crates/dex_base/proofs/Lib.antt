@@ -1,3 +1,23 @@
+pub mod AdlerRows
+pub mod AdlerSums
+pub mod FaultLaws
+pub mod FieldBounds
+pub mod GrammarLaws
+pub mod LengthLaws
+pub mod Numbers
+pub mod OptionLaws
+pub mod PlacedLaws
+pub mod SameFields
+pub mod Sequences
+pub mod ShortestLaws
+pub mod Signed
+pub mod TakesLaws
+pub mod WeakerLaws
+pub mod WordsBytes
+pub mod Deciding
+pub mod OrderLaws
+pub mod ViaLaws
+pub mod ListFacts
 pub mod LowPoints
 pub mod LowRows
 pub mod DescriptorLaws
@@ -7,11 +27,3 @@ pub mod TextLaws
 pub mod UnitLaws
 pub mod NamesDecided
 pub mod TextsDecided
--- What stands below, for the crates above.
-pub use Rattle.base_bytes.proofs.AdlerSums
-pub use Rattle.base_bytes.proofs.Deciding
-pub use Rattle.base_bytes.proofs.FieldBounds
-pub use Rattle.base_bytes.proofs.ListFacts
-pub use Rattle.base_bytes.proofs.OptionLaws
-pub use Rattle.base_bytes.proofs.OrderLaws
-pub use Rattle.base_bytes.proofs.TakesLaws

@@ -3,10 +3,10 @@ use Rattle.std.proofs.Common.{◌≡◌, ◌≢◌, ℕ, zero, suc, ◌+◌, ◌
 use Rattle.std.proofs.lemmas.Bool.{cases_lt, cases_order, lt-ltb, le-ltb}
 use Rattle.std.proofs.lemmas.List.{length-append, take-append-drop, length-take-le, append-nil, take_all, append_cancel_right, drop_more}
 use Rattle.std.specs.List.{flat_map, AllByRecursion}
-use Rattle.base_bytes.specs.Grammar.{Begins, NoneBegins, IsPrefixUnique, Each}
+use Rattle.dex_base.specs.Grammar.{Begins, NoneBegins, IsPrefixUnique, Each}
 use Rattle.dex_base.specs.Descriptor.{IsNamePoint, point_units, IsSimpleName, IsMemberName}
 use Rattle.dex_base.specs.Names.{SpellsPoint, AreLowPoints, HasPoint, IsRun}
-use Rattle.base_bytes.proofs.GrammarLaws.{Each-none, Each-more, Each-next, Each-unique}
+use Rattle.dex_base.proofs.GrammarLaws.{Each-none, Each-more, Each-next, Each-unique}
 use Rattle.dex_base.proofs.UnitLaws.{take_one, take_two}
 
 pub units_one : (c : ℕ) → c < 0x10000 → point_units c ≡ c ∷ []

@@ -4,7 +4,7 @@ use Rattle.std.proofs.lemmas.Bool.{cases_lt}
 use Rattle.std.specs.List.{flat_map, All, AllByRecursion}
 use Rattle.dex_base.specs.Descriptor.{IsWithin, IsNamePoint, point_units, IsSimpleName, IsMemberName, Joins, IsClassName, IsClass, IsPrimitive, IsElement, IsFieldType, IsDescriptor, IsPrefixFree}
 use Rattle.dex_base.proofs.NameLaws.{units_one, units_two}
-use Rattle.base_bytes.proofs.ListFacts.{all_append, all_weaker}
+use Rattle.dex_base.proofs.ListFacts.{all_append, all_weaker}
 
 -- ---- all elements
 

@@ -3,13 +3,13 @@ use Rattle.std.proofs.Common.{◌≡◌, ℕ, zero, suc, ◌+◌, ◌<◌, ◌�
 use Rattle.std.specs.Prelude.{codes, slice_index}
 use Rattle.std.proofs.lemmas.List.{take_at, drop_at, length-replicate}
 use Rattle.std.proofs.lemmas.Bool.{cases_eq}
-use Rattle.base_bytes.specs.Grammar.{Takes, Each}
+use Rattle.dex_base.specs.Grammar.{Takes, Each}
 use Rattle.dex_base.specs.Names.{SpellsPoint}
 use Rattle.dex_base.specs.Descriptor.{IsWithin, IsNamePoint, point_units, IsSimpleName, IsMemberName, Joins, IsClassName, IsClass, IsPrimitive, IsElement, IsFieldType, IsDescriptor, IsArray}
 use Rattle.dex_base.proofs.NameLaws.{point_some, point_front, point_unique, each_is, each_from, simple_some}
-use Rattle.base_bytes.proofs.TakesLaws.{Takes-length, Takes-unique}
-use Rattle.base_bytes.specs.Deciding.{Decided, DecidedFront}
-use Rattle.base_bytes.proofs.Deciding.{decide_both, decide_either, decide_le, decide_list, decide_below, decide_bounded}
+use Rattle.dex_base.proofs.TakesLaws.{Takes-length, Takes-unique}
+use Rattle.dex_base.specs.Deciding.{Decided, DecidedFront}
+use Rattle.dex_base.proofs.Deciding.{decide_both, decide_either, decide_le, decide_list, decide_below, decide_bounded}
 
 -- ---- code points
 

@@ -2,16 +2,16 @@
 use Rattle.std.proofs.Common.{◌≡◌, ℕ, ◌+◌, ◌*◌, ◌≤◌, ◌<◌, List, [], ◌∷◌, ◌++◌, length, take, get_or, sym, ap, subst, ◌∙◌, inl, inr, arith}
 use Rattle.std.proofs.lemmas.Bool.{cases_lt}
 use Rattle.std.proofs.lemmas.List.Sums.{sum_by-cons, sum_by_more}
-use Rattle.base_bytes.specs.Grammar.{IsPrefixUnique, Each, Counted}
-use Rattle.base_bytes.specs.Leb128.{Spells, Shortest}
+use Rattle.dex_base.specs.Grammar.{IsPrefixUnique, Each, Counted}
+use Rattle.dex_base.specs.Leb128.{Spells, Shortest}
 use Rattle.dex_base.specs.Mutf8.{unit_bytes, SpellsUnit, SpellsText, PacksText, mutf8_length}
-use Rattle.base_bytes.proofs.Numbers.{spells_unique}
-use Rattle.base_bytes.proofs.ShortestLaws.{AllBytes, shortest_one}
+use Rattle.dex_base.proofs.Numbers.{spells_unique}
+use Rattle.dex_base.proofs.ShortestLaws.{AllBytes, shortest_one}
 use Rattle.dex_base.proofs.UnitLaws.{bytes_one, bytes_zero, bytes_two, bytes_three, unit_unique}
-use Rattle.base_bytes.proofs.GrammarLaws.{Counted-unique, Ended-unique}
-use Rattle.base_bytes.proofs.WeakerLaws.{Implies, Shortest-weaker, Counted-weaker, Ended-weaker}
-use Rattle.base_bytes.proofs.LengthLaws.{IsAtMost, Spells-most, Shortest-most, Counted-most, Ended-most}
-use Rattle.base_bytes.proofs.ListFacts.{all_front}
+use Rattle.dex_base.proofs.GrammarLaws.{Counted-unique, Ended-unique}
+use Rattle.dex_base.proofs.WeakerLaws.{Implies, Shortest-weaker, Counted-weaker, Ended-weaker}
+use Rattle.dex_base.proofs.LengthLaws.{IsAtMost, Spells-most, Shortest-most, Counted-most, Ended-most}
+use Rattle.dex_base.proofs.ListFacts.{all_front}
 
 pub text_unique : IsPrefixUnique SpellsText
 text_unique = Ended-unique (Counted Spells SpellsUnit) (Counted-unique Spells SpellsUnit spells_unique unit_unique)

@@ -1,11 +1,11 @@
 -- Whether a text stands at the front of bytes is decided.
 use Rattle.std.proofs.Common.{ℕ, List}
-use Rattle.base_bytes.specs.Grammar.{Counted}
-use Rattle.base_bytes.specs.Leb128.{Spells}
-use Rattle.base_bytes.specs.Deciding.{DecidedFront}
-use Rattle.base_bytes.proofs.Numbers.{spells_unique}
-use Rattle.base_bytes.proofs.GrammarLaws.{Counted-unique}
-use Rattle.base_bytes.proofs.Deciding.{decide_both, decide_lt, decide_list, decide_bounded, decide_counted, decide_ended, decide_uleb}
+use Rattle.dex_base.specs.Grammar.{Counted}
+use Rattle.dex_base.specs.Leb128.{Spells}
+use Rattle.dex_base.specs.Deciding.{DecidedFront}
+use Rattle.dex_base.proofs.Numbers.{spells_unique}
+use Rattle.dex_base.proofs.GrammarLaws.{Counted-unique}
+use Rattle.dex_base.proofs.Deciding.{decide_both, decide_lt, decide_list, decide_bounded, decide_counted, decide_ended, decide_uleb}
 use Rattle.dex_base.specs.Mutf8.{SpellsUnit, SpellsText, unit_bytes}
 use Rattle.dex_base.proofs.UnitLaws.{unit_unique}
 

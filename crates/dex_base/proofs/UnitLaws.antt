@@ -2,7 +2,7 @@
 use Rattle.std.proofs.Common.{◌≡◌, ℕ, suc, ◌+◌, ◌/◌, ◌%◌, ◌<◌, ◌≤◌, inl, inr, List, [], ◌∷◌, ◌++◌, length, take, get_or, refl, sym, ap, subst, ◌∙◌, arith}
 use Rattle.std.proofs.lemmas.Bool.{cases_lt, lt-ltb, le-ltb, ne_eqb}
 use Rattle.std.proofs.lemmas.List.{length-append, length-take-le}
-use Rattle.base_bytes.specs.Grammar.{Begins, NoneBegins, Appends, IsPrefixUnique, Each, Many}
+use Rattle.dex_base.specs.Grammar.{Begins, NoneBegins, Appends, IsPrefixUnique, Each, Many}
 use Rattle.dex_base.specs.Mutf8.{unit_bytes, SpellsUnit}
 use Rattle.dex_base.specs.Names.{HasUnit}
 

@@ -1,7 +1,7 @@
 -- Strings as lists of UTF-16 units, in MUTF-8: "Dalvik Executable format", sections "MUTF-8 (Modified UTF-8) Encoding" and "string_data_item".
 use Rattle.std.specs.Prelude.{◌≡◌, ℕ, ◌+◌, ◌/◌, ◌%◌, ◌<◌, List, [], ◌∷◌, length, sum_by, if◌then◌else◌, ◌==◌, nat_lt}
-use Rattle.base_bytes.specs.Grammar.{Counted, Ended}
-use Rattle.base_bytes.specs.Leb128.{Spells, Shortest}
+use Rattle.dex_base.specs.Grammar.{Counted, Ended}
+use Rattle.dex_base.specs.Leb128.{Spells, Shortest}
 
 -- The bytes of one unit: one byte from 1 to 127, two bytes for 0 and up to 2047, else three.
 abbrev pub unit_bytes : ℕ → List ℕ

@@ -1,6 +1,6 @@
 -- What the private functions of names, descriptors and MUTF-8 say, unit by unit.
 use Rattle.std.specs.Prelude.{◌≡◌, ◌≢◌, ℕ, ◌+◌, ◌-◌, ◌/◌, ◌%◌, ◌<◌, ◌≤◌, ◌⊎◌, List, ◌++◌, length, take, drop, replicate, slice_index, codes}
-use Rattle.base_bytes.specs.Grammar.{Begins, NoneBegins, Each}
+use Rattle.dex_base.specs.Grammar.{Begins, NoneBegins, Each}
 use Rattle.dex_base.specs.Descriptor.{IsNamePoint, point_units, IsClassName}
 
 -- The front of the bytes is that of the unit in MUTF-8, byte by byte.

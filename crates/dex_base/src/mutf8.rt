@@ -2,13 +2,15 @@
 //! Encoding" and "string_data_item").
 
 ghost use Rattle.std.specs.Prelude.{◌≡◌, ℕ, ◌^◌, ◌<◌, ◌≤◌, ◌+◌, ◌*◌, ◌++◌, List, length, slice_index, IsTrue, EachIndex, IfOk, IfSome, IfNone, OnOk, OnErr, IsOk, IsOkUnless, vec_len, vec_capacity};
-ghost use Rattle.base_bytes.specs.Grammar.{Begins, NoneBegins, Appends, Many, Counted};
+ghost use Rattle.dex_base.specs.Grammar.{Begins, NoneBegins, Appends, Many, Counted};
 ghost use Rattle.dex_base.specs.Mutf8.{SpellsUnit, SpellsText, PacksText, mutf8_length, unit_bytes};
 ghost use Rattle.dex_base.specs.Names.{HasUnit};
-ghost use Rattle.base_bytes.specs.Leb128.{Spells, Shortest};
-ghost use Rattle.base_bytes.specs.Fault.{memory};
+ghost use Rattle.dex_base.specs.Leb128.{Spells, Shortest};
+ghost use Rattle.dex_base.specs.Fault.{memory};
 
-use base_bytes::{Fault, put_uleb, read_uleb, widen};
+use crate::fault::Fault;
+use crate::leb128::{put_uleb, read_uleb};
+use crate::width::widen;
 use bumpalo::Bump;
 use bumpalo::collections::into_bump_slice;
 use std::alloc::Global;

@@ -2,7 +2,7 @@
 //! section "String syntax").
 
 ghost use Rattle.std.specs.Prelude.{◌≡◌, ℕ, ◌+◌, ◌<◌, ◌≤◌, [], ◌∷◌, ◌++◌, ◌↔◌, List, length, IsTrue, IfSome, IfNone};
-ghost use Rattle.base_bytes.specs.Grammar.{Begins, NoneBegins, Each};
+ghost use Rattle.dex_base.specs.Grammar.{Begins, NoneBegins, Each};
 ghost use Rattle.dex_base.specs.Descriptor.{IsNamePoint, IsSimpleName, IsMemberName};
 ghost use Rattle.dex_base.specs.Names.{HasPoint, SpellsPoint, AreLowPoints, IsRun};
 

@@ -1,6 +1,6 @@
 -- Header, map and checksums have one fault.
 use Rattle.std.proofs.Common.{◌≡◌, ℕ, List, sym, subst, arith}
-use Rattle.dex_base.specs.declared_Fault.{Fault}
+use Rattle.dex_base.specs.declared.fault.Fault.{Fault}
 use Rattle.dex_container.specs.Faults.{FrameBreaks, IsFrameFault}
 
 pub one_fault : (b : List ℕ) (e f : Fault) → IsFrameFault b e → IsFrameFault b f → e ≡ f

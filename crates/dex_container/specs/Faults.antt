@@ -1,7 +1,7 @@
 -- The faults of header, map and checksums. Each condition is that a rule of Frame doesn't hold. Past the
 -- end bytes count as 0, so each has a meaning for any bytes; where a fault of a lower number stands, nobody asks.
 use Rattle.std.specs.Prelude.{◌≡◌, ℕ, ◌+◌, ◌<◌, ◌≤◌, ◌==◌, List, length, MatchBool, ◌⊎◌}
-use Rattle.dex_base.specs.declared_Fault.{Fault}
+use Rattle.dex_base.specs.declared.fault.Fault.{Fault}
 use Rattle.dex_base.specs.Fields.{u32_at}
 use Rattle.dex_container.specs.Layout.{size_field, size_of, entry_count, entry_place}
 use Rattle.dex_container.specs.Frame.{HasMagic, HasVersion, HasChecksum, HasSignature, SectionHolds, HasFewRows, MapIsPlaced, EntryHolds, HasKind}

@@ -99,7 +99,7 @@ fn data_entry_holds(bytes: &[u8], i: usize) -> bool
 }
 
 /// Whether entry i keeps the rules of the map.
-pub fn entry_holds(bytes: &[u8], i: usize) -> bool
+pub(crate) fn entry_holds(bytes: &[u8], i: usize) -> bool
     requires map { MapIsReadable bytes.now }
     requires entry { i < entry_count bytes.now }
     ensures { IsTrue result ↔ EntryHolds bytes.now i }

@@ -10,7 +10,7 @@ use dex_base::{u16_at, u32_at};
 const ROW_BYTES: [u64; 7] = [4, 4, 12, 8, 8, 32, 1];
 
 /// How many bytes a row of a section takes.
-pub fn row_bytes(k: usize) -> u64
+pub(crate) fn row_bytes(k: usize) -> u64
     requires { k < 7 }
     ensures value { result ≡ row_bytes k }
     ensures small { result ≤ 32 }
@@ -19,7 +19,7 @@ pub fn row_bytes(k: usize) -> u64
 }
 
 /// Where the header has the size of section k.
-pub fn size_field(k: usize) -> usize
+pub(crate) fn size_field(k: usize) -> usize
     requires { k < 7 }
     ensures { result ≡ size_field k }
 {
@@ -28,7 +28,7 @@ pub fn size_field(k: usize) -> usize
 
 /// How many rows section k has; of the data section, how many bytes.
 #[tactic(auto, unfolding(crate::specs::Layout::size_of))]
-pub fn size_of(bytes: &[u8], k: usize) -> u32
+pub(crate) fn size_of(bytes: &[u8], k: usize) -> u32
     requires section { k < 7 }
     requires long { 112 ≤ length bytes.now }
     ensures { result ≡ size_of bytes.now k }
@@ -38,7 +38,7 @@ pub fn size_of(bytes: &[u8], k: usize) -> u32
 
 /// Where section k begins.
 #[tactic(auto, unfolding(crate::specs::Layout::offset_of))]
-pub fn offset_of(bytes: &[u8], k: usize) -> u32
+pub(crate) fn offset_of(bytes: &[u8], k: usize) -> u32
     requires section { k < 7 }
     requires long { 112 ≤ length bytes.now }
     ensures { result ≡ offset_of bytes.now k }
@@ -47,7 +47,7 @@ pub fn offset_of(bytes: &[u8], k: usize) -> u32
 }
 
 /// Where the data section begins.
-pub fn data_begin(bytes: &[u8]) -> u32
+pub(crate) fn data_begin(bytes: &[u8]) -> u32
     requires { 112 ≤ length bytes.now }
     ensures { result ≡ data_begin bytes.now }
 {
@@ -56,7 +56,7 @@ pub fn data_begin(bytes: &[u8]) -> u32
 
 /// Where the map stands.
 #[tactic(auto, unfolding(crate::specs::Layout::map_place))]
-pub fn map_place(bytes: &[u8]) -> u32
+pub(crate) fn map_place(bytes: &[u8]) -> u32
     requires { 112 ≤ length bytes.now }
     ensures { result ≡ map_place bytes.now }
 {
@@ -65,7 +65,7 @@ pub fn map_place(bytes: &[u8]) -> u32
 
 /// How many entries the map has.
 #[tactic(auto, unfolding(crate::specs::Layout::entry_count))]
-pub fn entry_count(bytes: &[u8]) -> u32
+pub(crate) fn entry_count(bytes: &[u8]) -> u32
     requires long { 112 ≤ length bytes.now }
     requires room { map_place bytes.now + 4 ≤ length bytes.now }
     ensures { result ≡ entry_count bytes.now }
@@ -74,7 +74,7 @@ pub fn entry_count(bytes: &[u8]) -> u32
 }
 
 /// Where entry i of the map stands.
-pub fn entry_place(bytes: &[u8], i: usize) -> usize
+pub(crate) fn entry_place(bytes: &[u8], i: usize) -> usize
     requires map { MapIsReadable bytes.now }
     requires entry { i < entry_count bytes.now }
     ensures { result ≡ entry_place bytes.now i }
@@ -84,7 +84,7 @@ pub fn entry_place(bytes: &[u8], i: usize) -> usize
 
 /// The kind that entry i names.
 #[tactic(auto, unfolding(crate::specs::Layout::kind_at))]
-pub fn kind_at(bytes: &[u8], i: usize) -> u16
+pub(crate) fn kind_at(bytes: &[u8], i: usize) -> u16
     requires map { MapIsReadable bytes.now }
     requires entry { i < entry_count bytes.now }
     ensures { result ≡ kind_at bytes.now i }
@@ -94,7 +94,7 @@ pub fn kind_at(bytes: &[u8], i: usize) -> u16
 
 /// How many items entry i counts.
 #[tactic(auto, unfolding(crate::specs::Layout::items_at))]
-pub fn items_at(bytes: &[u8], i: usize) -> u32
+pub(crate) fn items_at(bytes: &[u8], i: usize) -> u32
     requires map { MapIsReadable bytes.now }
     requires entry { i < entry_count bytes.now }
     ensures { result ≡ items_at bytes.now i }
@@ -104,7 +104,7 @@ pub fn items_at(bytes: &[u8], i: usize) -> u32
 
 /// Where the items of entry i begin.
 #[tactic(auto, unfolding(crate::specs::Layout::place_at))]
-pub fn place_at(bytes: &[u8], i: usize) -> u32
+pub(crate) fn place_at(bytes: &[u8], i: usize) -> u32
     requires map { MapIsReadable bytes.now }
     requires entry { i < entry_count bytes.now }
     ensures { result ≡ place_at bytes.now i }

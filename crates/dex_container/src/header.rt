@@ -7,7 +7,7 @@ use crate::header_item as field;
 use dex_base::{Fault, fault, u16_at, u32_at};
 
 /// The rules of magic, version, file_size, header_size, endian_tag and link_size.
-pub fn check_header(bytes: &[u8]) -> Result<(), Fault>
+pub(crate) fn check_header(bytes: &[u8]) -> Result<(), Fault>
     ensures ok { OnOk result (HeaderHolds bytes.now) }
     ensures err { IfErr result (IsFrameFault bytes.now) }
 {

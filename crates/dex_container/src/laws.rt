@@ -3,7 +3,7 @@
 ghost use Rattle.std.specs.Prelude.{◌≡◌, ◌↔◌, ℕ, List};
 ghost use Rattle.dex_container.specs.Frame.{IsFramed, IsSection};
 ghost use Rattle.dex_container.specs.Faults.{FrameBreaks, IsFrameFault};
-ghost use Rattle.dex_base.specs.declared_Fault.{Fault};
+ghost use Rattle.dex_base.specs.declared.fault.Fault.{Fault};
 
 use crate::opening::open;
 

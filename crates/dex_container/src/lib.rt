@@ -22,9 +22,3 @@ pub use closing::close;
 pub use laws::{clear_where_framed, framed_without_fault, one_fault, section_is_one};
 pub use opening::{Sections, open};
 pub use section::{Section, bytes_from, section_of};
-
-// What stands below, for the crates above.
-pub use dex_base::{
-    Fault, cmp_units, fault, is_descriptor, is_member_name, put_uleb, read_mutf8, read_uleb,
-    u16_at, u32_at,
-};

@@ -28,7 +28,7 @@ fn map_is_placed(bytes: &[u8]) -> bool
 }
 
 /// An entry of a kind, if there is one.
-pub fn find_kind(bytes: &[u8], kind: u16) -> Option<usize>
+pub(crate) fn find_kind(bytes: &[u8], kind: u16) -> Option<usize>
     requires map { MapIsReadable bytes.now }
     ensures { MatchOption result (¬ HasKind bytes.now kind) (λ i. (i < entry_count bytes.now) × (kind_at bytes.now i ≡ kind)) }
 {
@@ -58,7 +58,7 @@ fn check_entries(bytes: &[u8]) -> Result<(), Fault>
 }
 
 /// The rules of the map as a whole.
-pub fn check_map(bytes: &[u8]) -> Result<(), Fault>
+pub(crate) fn check_map(bytes: &[u8]) -> Result<(), Fault>
     requires header { HeaderHolds bytes.now }
     requires sums { SumsHold bytes.now }
     requires sections { SectionsHold bytes.now }

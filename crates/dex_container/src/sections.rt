@@ -20,7 +20,7 @@ fn section_holds(bytes: &[u8], k: usize) -> bool
 }
 
 /// The rules of the seven sections, lowest first.
-pub fn check_sections(bytes: &[u8]) -> Result<(), Fault>
+pub(crate) fn check_sections(bytes: &[u8]) -> Result<(), Fault>
     requires header { HeaderHolds bytes.now }
     requires sums { SumsHold bytes.now }
     ensures ok { OnOk result (SectionsHold bytes.now) }

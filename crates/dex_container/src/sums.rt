@@ -26,7 +26,7 @@ fn has_signature(bytes: &[u8]) -> bool
 }
 
 /// The rules of checksum and signature.
-pub fn check_sums(bytes: &[u8]) -> Result<(), Fault>
+pub(crate) fn check_sums(bytes: &[u8]) -> Result<(), Fault>
     requires { HeaderHolds bytes.now }
     ensures ok { OnOk result (SumsHold bytes.now) }
     ensures err { IfErr result (IsFrameFault bytes.now) }

@@ -8,9 +8,8 @@
 //! let packed = write(alloc, &program)?; // read gives the same program again
 //! ```
 //!
-//! Its rooms: `file_classes` and `file_read` (read), `file_needed`, `file_layout`, `file_rows`, `file_shared`, `file_sections`,
-//! `file_limits`, `file_assemble` and `file_write` (written), `tables_numbers`, `value_renumber`, `code_renumber`, `file_kept` and
-//! `file_strip` (stripped), `file_align` and `file_least`.
+//! Its rooms: `file_classes` and `file_read` (read), `file_needed`, `file_layout`, `file_limits` and `file_assemble` (written),
+//! `file_renumber` and `file_strip` (stripped), `file_write` (both, with their theorems), `file_align`.
 //!
 //! docs/MAP.md says where this crate stands among the others.
 #![tactic(auto)]

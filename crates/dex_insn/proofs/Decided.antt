@@ -5,7 +5,7 @@ use Rattle.std.proofs.lemmas.Bool.{cases_lt, cases_eq}
 use Rattle.std.proofs.lemmas.Int.{ints, by_lt_z}
 use Rattle.dex_base.specs.Deciding.{Decided}
 use Rattle.dex_base.specs.Fields.{AreBytes}
-use Rattle.dex_base.specs.declared_Fault.{Fault}
+use Rattle.dex_base.specs.declared.fault.Fault.{Fault}
 use Rattle.dex_insn.specs.Fields.{number, field, signed, int_at, SwitchKeysRise}
 use Rattle.dex_insn.specs.Opcodes.{units_of}
 use Rattle.dex_insn.specs.Raw.{Raw, packed_units, sparse_units, data_units, Packed, Sparse, Data}

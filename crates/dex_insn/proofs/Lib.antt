@@ -12,12 +12,3 @@ pub mod Rows
 pub mod RegisterRuns
 pub mod Decided
 pub mod OneFault
--- What stands below, for the crates above.
-pub use Rattle.dex_base.proofs.Deciding
-pub use Rattle.dex_base.proofs.ListFacts
-pub use Rattle.dex_base.proofs.OrderLaws
-pub use Rattle.dex_base.proofs.DescriptorLaws
-pub use Rattle.dex_base.proofs.NameLaws
-pub use Rattle.dex_base.proofs.NameUnits
-pub use Rattle.dex_base.proofs.NamesDecided
-pub use Rattle.dex_base.proofs.TextsDecided

@@ -2,7 +2,7 @@
 use Rattle.std.proofs.Common.{◌≡◌, ℕ, ◌*◌, ◌<◌, ◌≤◌, List, length, drop, Some, None, true, refl, sym, ap, ◌∙◌, arith, if◌then◌else◌, ◌==◌}
 use Rattle.std.proofs.lemmas.Bool.Decides.{nat_tests}
 use Rattle.std.specs.Prelude.{IsTrue}
-use Rattle.dex_base.specs.declared_Fault.{Fault}
+use Rattle.dex_base.specs.declared.fault.Fault.{Fault}
 use Rattle.dex_insn.specs.Fields.{number, field}
 use Rattle.dex_insn.specs.Opcodes.{format_of, units_of}
 use Rattle.dex_insn.specs.Raw.{packed_units, sparse_units, data_units}

@@ -1,6 +1,6 @@
 -- Which rule the units at some place break, and by which number a fault names it.
 use Rattle.std.specs.Prelude.{ℕ, ◌≡◌, ◌≢◌, ◌≤◌, ◌<◌, ◌*◌, ◌+◌, ◌%◌, Option, Some, None, List, length, drop, slice_range, if◌then◌else◌, ◌==◌, Bool, true, false, IsTrue}
-use Rattle.dex_base.specs.declared_Fault.{Fault}
+use Rattle.dex_base.specs.declared.fault.Fault.{Fault}
 use Rattle.dex_insn.specs.Fields.{number, field, SwitchKeysRise}
 use Rattle.dex_insn.specs.Opcodes.{format_of, units_of}
 use Rattle.dex_insn.specs.Raw.{packed_units, sparse_units, data_units}

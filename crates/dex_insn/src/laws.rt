@@ -1,7 +1,7 @@
 //! Laws of what stands at a unit. None has code: each says of the definitions what its contract says.
 
 ghost use Rattle.std.specs.Prelude.{ℕ, List, ◌≡◌, ◌≤◌, ◌<◌, ◌+◌, ◌*◌, ◌%◌, ◌++◌, ◌⊎◌, length, drop, true, false};
-ghost use Rattle.dex_base.specs.declared_Fault.{Fault};
+ghost use Rattle.dex_base.specs.declared.fault.Fault.{Fault};
 ghost use Rattle.dex_insn.specs.Raw.{Raw, units, is_payload};
 ghost use Rattle.dex_insn.specs.RawInsns.{SpellsInsn, InsnStands, IsPayload};
 ghost use Rattle.dex_insn.specs.Flaws.{IsFaultAt, KeepsRules};

@@ -53,9 +53,3 @@ pub use size::size_of;
 pub use table_laws::{
     indices_have_a_kind, mnemonics_are_plain, mnemonics_differ, used_opcodes_are_named,
 };
-
-// What stands below, for the crates above.
-pub use dex_base::{
-    Fault, Seed, are_bytes, descriptor_length, fault, is_array, is_class, is_descriptor,
-    is_member_name, read_sleb, read_uleb, u16_at, u32_at, widen,
-};

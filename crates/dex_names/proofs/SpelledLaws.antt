@@ -2,7 +2,7 @@
 use Rattle.std.specs.Prelude.{ℕ, Option, Some, None, Result, Ok, Err, IfOk, IfSome, IfNone}
 use Rattle.std.proofs.Common.{zero, suc, ◌<◌, ◌^◌, List, [], ◌∷◌, get_or, subst, arith}
 use Rattle.std.specs.List.{AllByRecursion}
-use Rattle.base_bytes.specs.declared.fault.Fault.{Fault}
+use Rattle.dex_base.specs.declared.fault.Fault.{Fault}
 use Rattle.listing_words.specs.Words.{IsGraphic}
 use Rattle.listing_words.specs.Written.{name_text}
 use Rattle.listing_words.proofs.NameLaws.{units_one}

@@ -1,7 +1,7 @@
 //! The five names, each from its text.
 
 ghost use Rattle.std.specs.Prelude.{List, ℕ, IfOk, IfSome, IfNone, IsOkUnless};
-ghost use Rattle.base_bytes.specs.Fault.{memory};
+ghost use Rattle.dex_base.specs.Fault.{memory};
 ghost use Rattle.program_types.specs.View.{str, desc, proto as said_proto, field_ref, method_ref};
 ghost use Rattle.program_types.specs.Content.{Proto as SaidProto, FieldRef as SaidField, MethodRef as SaidMethod};
 ghost use Rattle.dex_names.specs.Spelled.{SpellsInAscii, SpellsType, SpellsProto, SpellsField, SpellsMethod};

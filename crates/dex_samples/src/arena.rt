@@ -1,7 +1,7 @@
 //! The end of an arena, which nothing in it outlives.
 
 ghost use Rattle.std.specs.Prelude.{◌≡◌, IfOk, IsOkUnless, slice_get};
-ghost use Rattle.base_bytes.specs.Fault.{memory};
+ghost use Rattle.dex_base.specs.Fault.{memory};
 
 use bumpalo::Bump;
 use dex_base::Fault;

@@ -9,7 +9,7 @@
 //! needed.freeze()?.string(0); // the empty string or the least of the others
 //! ```
 //!
-//! Its rooms: `tables_rows` (a file's tables), `tables_names` (needed names and ranks), `tables_laws`.
+//! Its rooms: `tables_rows` (a file's tables), `tables_names` (needed names and ranks).
 //!
 //! docs/MAP.md says where this crate stands among the others.
 #![tactic(auto)]

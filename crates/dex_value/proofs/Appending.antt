@@ -1,9 +1,9 @@
 -- What writing appends.
 use Rattle.std.proofs.Common.{◌≡◌, ℕ, ◌+◌, ◌^◌, ◌<◌, ◌≤◌, List, [], ◌∷◌, ◌++◌, length, take, get_or, map, refl, sym, ap, subst, ◌∙◌, append_assoc, arith, Result, Ok, Err, OnErr}
 use Rattle.std.proofs.lemmas.List.{length-append, length-map, map-append, take_more}
-use Rattle.base_bytes.specs.Grammar.{Appends, Each}
-use Rattle.base_bytes.specs.Leb128.{Spells, Shortest}
-use Rattle.base_bytes.proofs.GrammarLaws.{Each-appends_more}
+use Rattle.dex_base.specs.Grammar.{Appends, Each}
+use Rattle.dex_base.specs.Leb128.{Spells, Shortest}
+use Rattle.dex_base.proofs.GrammarLaws.{Each-appends_more}
 use Rattle.program_types.specs.Content.{Name, OfField, FieldRef, Value, Float, Enum, Array, Values, more_values, values}
 use Rattle.program_types.specs.declared.value.Value as made
 use Rattle.program_types.specs.View.{value}

@@ -1,13 +1,13 @@
 -- The shortest spelling of values is one.
 use Rattle.std.proofs.Common.{◌≡◌, ℕ, ◌+◌, ◌*◌, ◌-◌, ◌≤◌, List, [], ◌∷◌, ◌++◌, length, refl, sym, ap, ◌∙◌, arith, subst, true, false, length-append}
-use Rattle.base_bytes.specs.Fields.{AreBytes}
-use Rattle.base_bytes.specs.Leb128.{Spells, Shortest}
-use Rattle.base_bytes.proofs.ShortestLaws.{AllBytes, shortest_one}
+use Rattle.dex_base.specs.Fields.{AreBytes}
+use Rattle.dex_base.specs.Leb128.{Spells, Shortest}
+use Rattle.dex_base.proofs.ShortestLaws.{AllBytes, shortest_one}
 use Rattle.program_types.specs.Content.{Name, OfField, Value, Byte, Short, Char, Int, Long, Float, Double, Named, Enum, Array, Null, Boolean, Values, no_values, more_values, values}
 use Rattle.dex_value.specs.Spelling.{Sized, SpellsValue, SpellsValues, SpellsArray, count_of, unsigned_of}
 use Rattle.dex_value.proofs.Lists.{each-values, values-each}
 use Rattle.dex_value.proofs.NumberOnce.{unsigned_once, signed_once, high_once}
-use Rattle.base_bytes.proofs.ListFacts.{all_of}
+use Rattle.dex_base.proofs.ListFacts.{all_of}
 
 pub front_all : (xs ys : List ℕ) → AllBytes (xs ++ ys) → AllBytes xs
 front_all [] ys h = tt

@@ -3,10 +3,10 @@ use Rattle.std.proofs.Common.{◌≡◌, ℕ, zero, suc, ◌+◌, ◌-◌, ◌/�
 use Rattle.std.specs.Prelude.{if◌then◌else◌}
 use Rattle.std.proofs.lemmas.Bool.{cases_lt, cases_eq}
 use Rattle.std.proofs.lemmas.Bool.Decides.{Decides-eqb}
-use Rattle.base_bytes.specs.declared.fault.Fault.{Fault}
-use Rattle.base_bytes.specs.Grammar.{Takes, Each}
-use Rattle.base_bytes.specs.Leb128.{Spells}
-use Rattle.base_bytes.proofs.TakesLaws.{Begins-from_takes, NoneBegins-from_takes, Takes-each_none, Takes-each_first}
+use Rattle.dex_base.specs.declared.fault.Fault.{Fault}
+use Rattle.dex_base.specs.Grammar.{Takes, Each}
+use Rattle.dex_base.specs.Leb128.{Spells}
+use Rattle.dex_base.proofs.TakesLaws.{Begins-from_takes, NoneBegins-from_takes, Takes-each_none, Takes-each_first}
 use Rattle.dex_container.specs.Frame.{IsFramed}
 use Rattle.dex_container.specs.Layout.{size_of}
 use Rattle.dex_container.proofs.Framed.{IsSection-one}
@@ -15,17 +15,17 @@ use Rattle.dex_container.specs.Where.{IsInSection}
 use Rattle.tables_rows.specs.Sorted.{TablesHold}
 use Rattle.tables_rows.specs.Stands.{NameStands}
 use Rattle.dex_container.proofs.Standing.{mod_one}
-use Rattle.base_bytes.proofs.Deciding.{decide_uleb}
+use Rattle.dex_base.proofs.Deciding.{decide_uleb}
 use Rattle.dex_container.proofs.PlacesDecided.{HasSection, decide_section, found_at}
 use Rattle.dex_value.specs.Spelling.{unsigned_of, signed_of, high_of, value_type_of, SpellsArray}
 use Rattle.dex_value.specs.Standing.{Shallow}
 use Rattle.dex_value.specs.Faults.{widest_of, IsSizedHead, IsNameOfType, OwnBreaks, NextBreaks, ValueBreaks, ArrayBreaks, values_fault, kind_fault, depth_fault}
 use Rattle.dex_value.specs.Reading.{ValueStands}
 use Rattle.dex_value.proofs.Taking.{takes_sized, takes_alone, takes_array, takes_static, takes_deep, takes_many, own_breaks}
-use Rattle.base_bytes.specs.Fields.{AreBytes}
+use Rattle.dex_base.specs.Fields.{AreBytes}
 use Rattle.dex_value.specs.FileArrays.{ArrayIsDecided}
-use Rattle.base_bytes.proofs.ListFacts.{take_bytes}
-use Rattle.base_bytes.proofs.FieldBounds.{drop-AreBytes}
+use Rattle.dex_base.proofs.ListFacts.{take_bytes}
+use Rattle.dex_base.proofs.FieldBounds.{drop-AreBytes}
 
 -- ---- bytes
 

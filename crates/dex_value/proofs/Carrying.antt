@@ -1,8 +1,8 @@
 -- Arrays and their faults carry over to a naming that says the same.
 use Rattle.std.proofs.Common.{ℕ, zero, suc, inl, inr, List, ap, arith}
-use Rattle.base_bytes.specs.declared.fault.Fault.{Fault}
-use Rattle.base_bytes.specs.Grammar.{IsPrefixUnique, Each}
-use Rattle.base_bytes.proofs.WeakerLaws.{Implies, Takes-weaker, Each-weaker}
+use Rattle.dex_base.specs.declared.fault.Fault.{Fault}
+use Rattle.dex_base.specs.Grammar.{IsPrefixUnique, Each}
+use Rattle.dex_base.proofs.WeakerLaws.{Implies, Takes-weaker, Each-weaker}
 use Rattle.dex_container.specs.Frame.{IsFramed}
 use Rattle.program_types.specs.Content.{Name, OfText, OfDesc, OfField, OfMethod, Value}
 use Rattle.tables_rows.specs.Names.{Names, AreNamesOf, NameIsAt}

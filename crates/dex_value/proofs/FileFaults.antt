@@ -1,24 +1,24 @@
 -- A fault stands exactly where no array does; and the names in an array that stands have rows.
 use Rattle.std.proofs.Common.{ℕ, inl, inr, List, [], ◌∷◌, ◌-◌, take, drop, sym, subst}
 use Rattle.std.specs.List.{AllByRecursion, flat_map}
-use Rattle.base_bytes.specs.declared.fault.Fault.{Fault}
-use Rattle.base_bytes.specs.Grammar.{Takes, Each}
+use Rattle.dex_base.specs.declared.fault.Fault.{Fault}
+use Rattle.dex_base.specs.Grammar.{Takes, Each}
 use Rattle.dex_container.specs.Frame.{IsFramed}
 use Rattle.program_types.specs.Content.{Name, Value, Named, Enum, Array, Values, no_values, more_values}
 use Rattle.program_types.specs.Mentions.{names_of_value, names_of_values}
 use Rattle.tables_rows.specs.Sorted.{TablesHold}
 use Rattle.tables_rows.specs.Stands.{NameStands}
-use Rattle.tables_laws.specs.FileNames.{HasRow}
+use Rattle.tables_rows.specs.FileNames.{HasRow}
 use Rattle.dex_container.proofs.PlacesDecided.{HasSection, at_front}
 use Rattle.dex_value.specs.Spelling.{SpellsValue, SpellsValues, SpellsArray, unsigned_of}
 use Rattle.dex_value.specs.Standing.{ArrayStands}
 use Rattle.dex_value.specs.Faults.{ArrayBreaksAt}
 use Rattle.dex_value.proofs.Places.{outside_none}
 use Rattle.dex_value.proofs.Refusing.{array_none}
-use Rattle.base_bytes.specs.Fields.{AreBytes}
+use Rattle.dex_base.specs.Fields.{AreBytes}
 use Rattle.dex_value.proofs.Carrying.{NameStands-functional}
 use Rattle.dex_value.proofs.ArraysDecided.{arrays_are_decided}
-use Rattle.base_bytes.proofs.ListFacts.{all_append}
+use Rattle.dex_base.proofs.ListFacts.{all_append}
 
 pub stands_without_fault : (b : List ℕ) → IsFramed b → (off most : ℕ) (vs : List Value) → ArrayStands (NameStands b) b off most vs → (e : Fault) → ArrayBreaksAt (NameStands b) b off most e → ⊥
 stands_without_fault b framed off most vs a e (inl u) = outside_none (NameStands b) b off most vs u.0 a

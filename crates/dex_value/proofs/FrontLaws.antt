@@ -2,10 +2,10 @@
 use Rattle.std.proofs.Common.{◌≡◌, ℕ, zero, suc, ◌+◌, ◌*◌, ◌-◌, ◌<◌, ◌≤◌, ◌==◌, ◌⊎◌, inl, inr, if◌then◌else◌, max, List, [], ◌∷◌, ◌++◌, length, take, refl, sym, ap, subst, ◌∙◌, lit<, arith}
 use Rattle.std.proofs.lemmas.List.{take_at}
 use Rattle.std.proofs.lemmas.Bool.Decides.{nat_tests}
-use Rattle.base_bytes.specs.Grammar.{IsPrefixUnique, Counted}
-use Rattle.base_bytes.specs.Leb128.{Spells}
-use Rattle.base_bytes.proofs.GrammarLaws.{Counted-unique}
-use Rattle.base_bytes.proofs.Numbers.{spells_unique}
+use Rattle.dex_base.specs.Grammar.{IsPrefixUnique, Counted}
+use Rattle.dex_base.specs.Leb128.{Spells}
+use Rattle.dex_base.proofs.GrammarLaws.{Counted-unique}
+use Rattle.dex_base.proofs.Numbers.{spells_unique}
 use Rattle.program_types.specs.Content.{Name, OfText, OfDesc, OfField, OfMethod, Value, Byte, Short, Char, Int, Long, Float, Double, Named, Enum, Array, Values, values}
 use Rattle.program_types.specs.Depth.{depth, greatest_depth}
 use Rattle.dex_value.specs.Spelling.{unsigned_of, signed_of, high_of, After, SpellsValue, SpellsValues, SpellsArray, count_of}

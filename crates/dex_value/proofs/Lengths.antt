@@ -1,7 +1,7 @@
 -- How long spellings are.
 use Rattle.std.proofs.Common.{ℕ, ◌≤◌, List, length, ap, true, false, arith, lit≤}
 use Rattle.std.proofs.lemmas.List.{length-append}
-use Rattle.base_bytes.proofs.LengthLaws.{IsAtMost, Spells-most}
+use Rattle.dex_base.proofs.LengthLaws.{IsAtMost, Spells-most}
 use Rattle.program_types.specs.Content.{Name, Value, Array, Null, Boolean, Values, no_values, more_values, values}
 use Rattle.dex_value.specs.Spelling.{Sized, SpellsValue, SpellsValues, SpellsArray, count_of}
 use Rattle.dex_value.specs.Wide.{wide_value, wide_values, wide_array}

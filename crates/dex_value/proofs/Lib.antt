@@ -17,8 +17,3 @@ pub mod Ranges
 pub mod Refusing
 pub mod Taking
 pub mod Weaker
--- What stands below, for the crates above.
-pub use Rattle.tables_laws.proofs.FileLemmas
-pub use Rattle.tables_laws.proofs.OneFault as tables_laws_OneFault
-pub use Rattle.tables_laws.proofs.RowsBreak
-pub use Rattle.tables_laws.proofs.RowsDecided

@@ -1,7 +1,7 @@
 -- The values of an array, as the content's own list and as a list.
 use Rattle.std.proofs.Common.{◌≡◌, ℕ, suc, ◌≤◌, List, [], ◌∷◌, length, refl, ap, arith}
 use Rattle.std.specs.List.{AllByRecursion}
-use Rattle.base_bytes.specs.Grammar.{Each}
+use Rattle.dex_base.specs.Grammar.{Each}
 use Rattle.program_types.specs.Content.{Name, Value, Values, no_values, more_values, values}
 use Rattle.program_types.specs.Depth.{depth, greatest_depth}
 use Rattle.dex_value.specs.Spelling.{SpellsValue, SpellsValues, count_of}

@@ -4,7 +4,7 @@ use Rattle.program_types.specs.Content.{Name, OfText, OfDesc, OfField, OfMethod,
 use Rattle.tables_rows.specs.Names.{Names, NameIsAt}
 use Rattle.dex_value.specs.Reading.{IsNumber, ValueStands}
 use Rattle.dex_value.specs.Unique.{IsFunctionalByType}
-use Rattle.base_bytes.proofs.ListFacts.{some_inj}
+use Rattle.dex_base.proofs.ListFacts.{some_inj}
 
 pub NameIsAt-functional : (names : Names) → IsFunctionalByType (NameIsAt names)
 NameIsAt-functional names i (OfText m) (OfText n) e p q = ap OfText (some_inj m n (sym p ∙ q))

@@ -5,10 +5,10 @@ use Rattle.std.proofs.lemmas.Nat.{pow-add}
 use Rattle.std.proofs.Math.Nat.{pow-succ'}
 use Rattle.byteorder.specs.Endian.{little_number, twos_complement}
 use Rattle.byteorder.specs.Numbers.{little_from-lt, little_from-cons}
-use Rattle.base_bytes.proofs.ShortestLaws.{AllBytes}
+use Rattle.dex_base.proofs.ShortestLaws.{AllBytes}
 use Rattle.dex_value.specs.Spelling.{unsigned_of, signed_of, high_of}
 use Rattle.dex_value.proofs.Ranges.{power_some, product_below}
-use Rattle.base_bytes.proofs.ListFacts.{by_half}
+use Rattle.dex_base.proofs.ListFacts.{by_half}
 
 -- ---- bytes and their number
 

@@ -1,12 +1,12 @@
 -- An encoded_array has one fault: the first that is met in the order of its bytes.
 use Rattle.std.proofs.Common.{◌≡◌, ℕ, zero, suc, ◌+◌, ◌-◌, ◌/◌, ◌<◌, ◌⊎◌, inl, inr, List, [], ◌∷◌, length, take, drop, sym, ap, subst, ◌∙◌, arith}
 use Rattle.std.proofs.lemmas.Bool.{cases_lt}
-use Rattle.base_bytes.specs.Grammar.{NoneBegins, IsPrefixUnique, Takes}
-use Rattle.base_bytes.specs.Leb128.{Spells}
-use Rattle.base_bytes.specs.declared.fault.Fault.{Fault}
-use Rattle.base_bytes.proofs.GrammarLaws.{Each-next, Each-unique, rest_same}
-use Rattle.base_bytes.proofs.Numbers.{spells_unique}
-use Rattle.base_bytes.proofs.TakesLaws.{Takes-none, Takes-unique}
+use Rattle.dex_base.specs.Grammar.{NoneBegins, IsPrefixUnique, Takes}
+use Rattle.dex_base.specs.Leb128.{Spells}
+use Rattle.dex_base.specs.declared.fault.Fault.{Fault}
+use Rattle.dex_base.proofs.GrammarLaws.{Each-next, Each-unique, rest_same}
+use Rattle.dex_base.proofs.Numbers.{spells_unique}
+use Rattle.dex_base.proofs.TakesLaws.{Takes-none, Takes-unique}
 use Rattle.dex_container.specs.Frame.{IsFramed}
 use Rattle.dex_container.specs.Where.{IsSectionRest}
 use Rattle.dex_container.proofs.Framed.{IsSection-one}

@@ -2,10 +2,10 @@
 use Rattle.std.proofs.Common.{◌≡◌, ℕ, ◌+◌, ◌-◌, ◌<◌, ◌≤◌, inr, List, length, take, drop, sym, subst, ◌∙◌, arith, length-take}
 use Rattle.std.specs.List.{AllByRecursion}
 use Rattle.std.proofs.lemmas.List.{take-take, take-append-drop, length-append}
-use Rattle.base_bytes.specs.Grammar.{Takes}
-use Rattle.base_bytes.specs.declared.fault.Fault.{Fault}
-use Rattle.base_bytes.proofs.LengthLaws.{IsAtLeast, Spells-least}
-use Rattle.base_bytes.proofs.TakesLaws.{Begins-from_takes, Takes-unique}
+use Rattle.dex_base.specs.Grammar.{Takes}
+use Rattle.dex_base.specs.declared.fault.Fault.{Fault}
+use Rattle.dex_base.proofs.LengthLaws.{IsAtLeast, Spells-least}
+use Rattle.dex_base.proofs.TakesLaws.{Begins-from_takes, Takes-unique}
 use Rattle.dex_container.specs.declared.section.Section.{Section}
 use Rattle.dex_container.specs.Where.{slice, At, IsInSection, IsSectionOf}
 use Rattle.dex_container.proofs.Standing.{stands_at, at_place, mod_one}

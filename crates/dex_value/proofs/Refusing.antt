@@ -2,12 +2,12 @@
 use Rattle.std.proofs.Common.{◌≡◌, ℕ, zero, suc, ◌+◌, ◌*◌, ◌-◌, ◌/◌, ◌%◌, ◌<◌, ◌≤◌, ◌⊎◌, inl, inr, List, [], ◌∷◌, ◌++◌, length, take, refl, sym, ap, subst, ◌∙◌, arith, append_assoc}
 use Rattle.std.proofs.lemmas.List.{length-append, take_at}
 use Rattle.std.specs.List.{AllByRecursion}
-use Rattle.base_bytes.specs.Grammar.{NoneBegins, IsPrefixUnique, Takes, Many}
-use Rattle.base_bytes.specs.Leb128.{Spells}
-use Rattle.base_bytes.specs.declared.fault.Fault.{Fault}
-use Rattle.base_bytes.proofs.GrammarLaws.{Each-next}
-use Rattle.base_bytes.proofs.Numbers.{spells_unique}
-use Rattle.base_bytes.proofs.TakesLaws.{Counted-takes, Takes-unique}
+use Rattle.dex_base.specs.Grammar.{NoneBegins, IsPrefixUnique, Takes, Many}
+use Rattle.dex_base.specs.Leb128.{Spells}
+use Rattle.dex_base.specs.declared.fault.Fault.{Fault}
+use Rattle.dex_base.proofs.GrammarLaws.{Each-next}
+use Rattle.dex_base.proofs.Numbers.{spells_unique}
+use Rattle.dex_base.proofs.TakesLaws.{Counted-takes, Takes-unique}
 use Rattle.program_types.specs.Content.{Name, OfText, OfDesc, OfField, OfMethod, Value, Named, Enum, Array}
 use Rattle.program_types.specs.Depth.{depth, greatest_depth}
 use Rattle.dex_value.specs.Spelling.{unsigned_of, SpellsValue, SpellsArray, count_of}

@@ -2,10 +2,10 @@
 use Rattle.std.proofs.Common.{◌≡◌, ℕ, zero, suc, inl, ◌+◌, ◌*◌, ◌-◌, ◌/◌, ◌%◌, ◌<◌, ◌≤◌, List, [], ◌∷◌, ◌++◌, length, slice_index, lit<, take, drop, refl, sym, ap, subst, ◌∙◌, arith, append_assoc}
 use Rattle.std.proofs.lemmas.List.{take-append-drop, length-take-le}
 use Rattle.std.specs.List.{AllByRecursion}
-use Rattle.base_bytes.specs.Grammar.{Begins, Takes, Each, Many}
-use Rattle.base_bytes.specs.Leb128.{Spells}
-use Rattle.base_bytes.specs.declared.fault.Fault.{Fault}
-use Rattle.base_bytes.proofs.TakesLaws.{Takes-from_begins, Takes-counted}
+use Rattle.dex_base.specs.Grammar.{Begins, Takes, Each, Many}
+use Rattle.dex_base.specs.Leb128.{Spells}
+use Rattle.dex_base.specs.declared.fault.Fault.{Fault}
+use Rattle.dex_base.proofs.TakesLaws.{Takes-from_begins, Takes-counted}
 use Rattle.program_types.specs.Content.{Name, Value, Array, values}
 use Rattle.program_types.specs.Depth.{depth}
 use Rattle.dex_value.specs.Spelling.{SpellsValue, SpellsArray}

@@ -1,7 +1,7 @@
 -- A spelling carries over to a naming that the first implies.
 use Rattle.std.proofs.Common.{ℕ, List, true, false}
-use Rattle.base_bytes.specs.Leb128.{Spells}
-use Rattle.base_bytes.proofs.WeakerLaws.{Implies, Counted-weaker}
+use Rattle.dex_base.specs.Leb128.{Spells}
+use Rattle.dex_base.proofs.WeakerLaws.{Implies, Counted-weaker}
 use Rattle.program_types.specs.Content.{Name, OfField, Value, Named, Enum, Array, Boolean, Values, no_values, more_values}
 use Rattle.dex_value.specs.Spelling.{Sized, SpellsValue, SpellsValues, SpellsArray, unsigned_of}
 

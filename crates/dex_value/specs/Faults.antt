@@ -1,9 +1,9 @@
 -- What a refusal of an encoded_array says: what is wrong with the bytes at its place.
 -- Page: "Dalvik Executable format", "encoded_value encoding" and "encoded_array format".
 use Rattle.std.specs.Prelude.{◌≡◌, ℕ, zero, suc, ◌⊎◌, ◌+◌, ◌-◌, ◌/◌, ◌%◌, ◌<◌, ◌≤◌, ◌==◌, if◌then◌else◌, List, [], ◌∷◌, length, take}
-use Rattle.base_bytes.specs.Grammar.{Takes, NoneBegins, Each}
-use Rattle.base_bytes.specs.Leb128.{Spells}
-use Rattle.base_bytes.specs.declared.fault.Fault.{Fault}
+use Rattle.dex_base.specs.Grammar.{Takes, NoneBegins, Each}
+use Rattle.dex_base.specs.Leb128.{Spells}
+use Rattle.dex_base.specs.declared.fault.Fault.{Fault}
 use Rattle.dex_container.specs.Where.{IsInSection, IsSectionRest}
 use Rattle.program_types.specs.Content.{Name, Value}
 use Rattle.dex_value.specs.Spelling.{unsigned_of, value_type_of}

@@ -1,6 +1,6 @@
 -- Arrays of a file, with the names that stand in it.
 use Rattle.std.specs.Prelude.{ℕ, ◌⊎◌, List}
-use Rattle.base_bytes.specs.declared.fault.Fault.{Fault}
+use Rattle.dex_base.specs.declared.fault.Fault.{Fault}
 use Rattle.program_types.specs.Content.{Value}
 use Rattle.tables_rows.specs.Stands.{NameStands}
 use Rattle.dex_value.specs.Standing.{ArrayStands}

@@ -9,5 +9,3 @@ pub mod Standing
 pub mod Unique
 pub mod Wide
 pub mod Writing
--- What stands below, for the crates above.
-pub use Rattle.tables_laws.specs.FileNames

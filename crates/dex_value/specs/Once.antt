@@ -1,8 +1,8 @@
 -- Arrays in the fewest bytes: values are spelled in one way.
 -- Page: "Dalvik Executable format", "encoded_array format".
 use Rattle.std.specs.Prelude.{◌≡◌, ℕ, List}
-use Rattle.base_bytes.specs.Fields.{AreBytes}
-use Rattle.base_bytes.specs.Leb128.{Shortest}
+use Rattle.dex_base.specs.Fields.{AreBytes}
+use Rattle.dex_base.specs.Leb128.{Shortest}
 use Rattle.dex_value.specs.Spelling.{SpellsArray}
 use Rattle.program_types.specs.Content.{Value}
 use Rattle.tables_names.specs.Closure.{Five, AreRising, NameRanks}

@@ -1,10 +1,10 @@
 -- What the private functions of reading say.
 use Rattle.std.specs.Prelude.{◌≡◌, ℕ, ◌≤◌, List, length}
 use Rattle.std.specs.List.{AllByRecursion}
-use Rattle.base_bytes.specs.Grammar.{Takes}
+use Rattle.dex_base.specs.Grammar.{Takes}
 use Rattle.program_types.specs.Content.{Name, OfField, Value, Byte, Short, Char, Int, Long, Float, Double, Named, Enum}
-use Rattle.program_types.specs.declared_IndexKind.{IndexKind}
-use Rattle.program_types.specs.declared_IndexKind_TheVariants as kind
+use Rattle.dex_insn.specs.declared.opcode.IndexKind.{IndexKind}
+use Rattle.dex_insn.specs.declared.opcode.IndexKind.TheVariants as kind
 use Rattle.program_types.specs.Depth.{depth}
 use Rattle.dex_value.specs.Spelling.{unsigned_of, signed_of, high_of, value_type_of, SpellsArray}
 use Rattle.dex_value.specs.declared.types.NumberType.{NumberType}

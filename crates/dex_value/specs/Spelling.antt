@@ -2,8 +2,8 @@
 -- Page: "Dalvik Executable format", "encoded_value encoding", "Value formats" and "encoded_array format".
 use Rattle.std.specs.Prelude.{◌≡◌, ℕ, suc, ℤ, ◌+◌, ◌*◌, ◌-◌, ◌^◌, ◌<◌, ◌≤◌, List, [], ◌∷◌, ◌++◌, length, slice_index, true, false}
 use Rattle.byteorder.specs.Endian.{little_number, twos_complement}
-use Rattle.base_bytes.specs.Grammar.{Counted}
-use Rattle.base_bytes.specs.Leb128.{Spells}
+use Rattle.dex_base.specs.Grammar.{Counted}
+use Rattle.dex_base.specs.Leb128.{Spells}
 use Rattle.program_types.specs.Content.{Name, OfText, OfDesc, OfField, OfMethod, Value, Byte, Short, Char, Int, Long, Float, Double, Named, Enum, Array, Null, Boolean, Values, no_values, more_values}
 
 -- ---- the bytes after the head

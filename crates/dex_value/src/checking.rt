@@ -7,7 +7,8 @@ ghost use Rattle.dex_value.specs.Faults.{ArrayBreaksAt};
 
 use crate::keeping::Nothing;
 use crate::reading::read_at;
-use dex_container::{Fault, Sections};
+use dex_base::Fault;
+use dex_container::Sections;
 use tables_rows::Tables;
 
 /// How many values the encoded_array at this byte offset of the file has: refuses what `read_array` refuses, with a fault that stands

@@ -1,8 +1,8 @@
 //! Laws of the arrays of a file, and of arrays in the fewest bytes, each the contract of a function that does nothing.
 
 ghost use Rattle.std.specs.Prelude.{◌↔◌, ℕ, List};
-ghost use Rattle.base_bytes.specs.Grammar.{IsPrefixUnique};
-ghost use Rattle.base_bytes.specs.declared.fault.Fault.{Fault};
+ghost use Rattle.dex_base.specs.Grammar.{IsPrefixUnique};
+ghost use Rattle.dex_base.specs.declared.fault.Fault.{Fault};
 ghost use Rattle.dex_container.specs.Frame.{IsFramed};
 ghost use Rattle.program_types.specs.Content.{Value};
 ghost use Rattle.tables_rows.specs.Names.{Names, AreNamesOf, NameIsAt};
@@ -10,11 +10,11 @@ ghost use Rattle.tables_rows.specs.Sorted.{TablesHold};
 ghost use Rattle.tables_rows.specs.Stands.{NameStands};
 ghost use Rattle.std.specs.List.{AllByRecursion, flat_map};
 ghost use Rattle.program_types.specs.Mentions.{names_of_value};
-ghost use Rattle.tables_laws.specs.FileNames.{HasRow};
+ghost use Rattle.tables_rows.specs.FileNames.{HasRow};
 ghost use Rattle.dex_value.specs.Spelling.{SpellsArray};
 ghost use Rattle.dex_value.specs.Standing.{ArrayStands};
 ghost use Rattle.dex_value.specs.Faults.{ArrayBreaksAt};
-ghost use Rattle.base_bytes.specs.Fields.{AreBytes};
+ghost use Rattle.dex_base.specs.Fields.{AreBytes};
 ghost use Rattle.dex_value.specs.FileArrays.{ArrayIsDecided};
 ghost use Rattle.dex_value.specs.Once.{ShortestArrayIsOne};
 

@@ -1,8 +1,8 @@
 //! What is kept of values that are read: the values, in an arena, or nothing.
 ghost use Rattle.std.specs.Prelude.{◌≡◌, ◌≢◌, ℕ, List, [], ◌∷◌, ◌++◌, ⊤, map, slice_index, IfOk, IfErr, OnOk};
-ghost use Rattle.base_bytes.specs.Fault.{memory};
-ghost use Rattle.base_bytes.specs.Grammar.{Takes};
-ghost use Rattle.base_bytes.specs.declared.fault.Fault as fault;
+ghost use Rattle.dex_base.specs.Fault.{memory};
+ghost use Rattle.dex_base.specs.Grammar.{Takes};
+ghost use Rattle.dex_base.specs.declared.fault.Fault as fault;
 ghost use Rattle.program_types.specs.Content as content;
 ghost use Rattle.program_types.specs.View.{value};
 ghost use Rattle.tables_rows.specs.Names.{Names, NameIsAt};
@@ -11,7 +11,7 @@ ghost use Rattle.dex_value.specs.Faults.{OwnBreaks};
 
 use crate::reading::{Span, read_leaf};
 use bumpalo::Bump;
-use dex_container::Fault;
+use dex_base::Fault;
 use program_types::Value;
 use std::alloc::Global;
 use tables_rows::Tables;

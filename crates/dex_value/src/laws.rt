@@ -1,8 +1,8 @@
 //! Laws over the definitions, for the proofs of crates above. Those that take any naming stand in `proofs/`: `SpellsArray-weaker`
 //! carries a spelling over to a naming that the first implies.
 ghost use Rattle.std.specs.Prelude.{◌≡◌, ℕ, List, length, ◌<◌, ◌≤◌};
-ghost use Rattle.base_bytes.specs.Grammar.{IsPrefixUnique};
-ghost use Rattle.base_bytes.specs.declared.fault.Fault.{Fault};
+ghost use Rattle.dex_base.specs.Grammar.{IsPrefixUnique};
+ghost use Rattle.dex_base.specs.declared.fault.Fault.{Fault};
 ghost use Rattle.dex_container.specs.Frame.{IsFramed};
 ghost use Rattle.program_types.specs.Content.{Name, Value, values};
 ghost use Rattle.tables_rows.specs.Names.{Names, NameIsAt};

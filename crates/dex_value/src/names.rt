@@ -31,7 +31,7 @@ fn name_value<'a>(ty: NameType, name: Name<'a>) -> Value<'a>
 }
 
 /// The name that the bytes after a head of this type stand for. None where its table has no such row.
-pub fn named<'a>(tables: &Tables<'a>, ty: NameType, low: &[u8]) -> Option<Value<'a>>
+pub(crate) fn named<'a>(tables: &Tables<'a>, ty: NameType, low: &[u8]) -> Option<Value<'a>>
     requires some { 0 < length low.now }
     requires few { length low.now ≤ 4 }
     ensures some { IfSome result (λ v. ValueStands (NameIsAt tables.now) (name_code ty) low.now (value v)) }

@@ -1,7 +1,7 @@
 //! Values in the order of their bytes.
 ghost use Rattle.std.specs.Prelude.{◌≡◌, ◌≢◌, ℕ, ◌-◌, ◌∷◌, List, length, map, slice_index, IfOk, IfErr};
-ghost use Rattle.base_bytes.specs.Fault.{memory};
-ghost use Rattle.base_bytes.specs.Grammar.{Takes, Many};
+ghost use Rattle.dex_base.specs.Fault.{memory};
+ghost use Rattle.dex_base.specs.Grammar.{Takes, Many};
 ghost use Rattle.program_types.specs.Content as content;
 ghost use Rattle.program_types.specs.View.{value};
 ghost use Rattle.tables_rows.specs.Names.{NameIsAt};
@@ -14,7 +14,8 @@ use crate::names::named;
 use crate::numbers::number;
 use crate::types::{SizedType, sized_type, widest};
 use bumpalo::Bump;
-use dex_container::{Fault, Sections, bytes_from, fault, kind, read_uleb, section_of};
+use dex_base::{Fault, fault, read_uleb};
+use dex_container::{Sections, bytes_from, kind, section_of};
 use program_types::Value;
 use std::alloc::Global;
 use tables_rows::Tables;

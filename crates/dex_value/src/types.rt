@@ -3,7 +3,7 @@ ghost use Rattle.std.specs.Prelude.{◌≡◌, IfSome, IfNone};
 ghost use Rattle.dex_value.specs.Faults.{widest_of};
 ghost use Rattle.dex_value.specs.Reading.{sized_code, table_of_type};
 
-use program_types::IndexKind;
+use dex_insn::IndexKind;
 
 /// The types whose bytes are a number.
 #[derive(Clone, Copy)]
@@ -57,7 +57,7 @@ pub fn sized_type(code: u8) -> Option<SizedType>
 }
 
 /// The greatest number of bytes of a value of this type.
-pub fn widest(ty: SizedType) -> usize
+pub(crate) fn widest(ty: SizedType) -> usize
     ensures { result ≡ widest_of (sized_code ty) }
 {
     match ty {

@@ -3,7 +3,7 @@ ghost use Rattle.std.specs.Prelude.{◌≡◌, ◌+◌, ◌*◌, ◌^◌, ◌<�
 ghost use Rattle.dex_value.specs.Writing.{IsNumberWidth, IsHighWidth, magnitude_of};
 
 /// The fewest bytes that hold the number, one at least.
-pub fn unsigned_width(n: u64) -> usize
+pub(crate) fn unsigned_width(n: u64) -> usize
     ensures { IsNumberWidth n result }
 {
     if n < 1 << 8 {
@@ -34,14 +34,14 @@ fn size(n: i64) -> u64
 }
 
 /// The fewest bytes that hold the number in two's complement, one at least: one bit is the sign.
-pub fn signed_width(n: i64) -> usize
+pub(crate) fn signed_width(n: i64) -> usize
     ensures { IsNumberWidth (2 * magnitude_of n) result }
 {
     unsigned_width(2 * size(n))
 }
 
 /// How many of the high bytes of a number of `full` bytes are kept, one at least, where those that are left out are zeros.
-pub fn high_width(bits: u64, full: usize) -> usize
+pub(crate) fn high_width(bits: u64, full: usize) -> usize
     requires some { 0 < full }
     requires few { full ≤ 8 }
     ensures { IsHighWidth bits full result }

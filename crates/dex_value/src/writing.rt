@@ -1,8 +1,8 @@
 //! Values as bytes, in the fewest.
 ghost use Rattle.std.specs.Prelude.{◌≡◌, ◌+◌, ◌*◌, ◌-◌, ◌^◌, ◌<◌, ◌≤◌, ◌++◌, length, map, OnOk, OnErr, IsOkUnless};
-ghost use Rattle.base_bytes.specs.Fault.{memory};
-ghost use Rattle.base_bytes.specs.Grammar.{Appends, Each};
-ghost use Rattle.base_bytes.specs.Leb128.{Shortest};
+ghost use Rattle.dex_base.specs.Fault.{memory};
+ghost use Rattle.dex_base.specs.Grammar.{Appends, Each};
+ghost use Rattle.dex_base.specs.Leb128.{Shortest};
 ghost use Rattle.program_types.specs.View as view;
 ghost use Rattle.program_types.specs.View.{value};
 ghost use Rattle.program_types.specs.Content as content;
@@ -16,7 +16,7 @@ ghost use Rattle.dex_value.specs.Writing.{SignedAs, UnsignedAs, HighAs, IndexAs,
 
 use crate::widths::{high_width, signed_width, unsigned_width};
 use byteorder::{ByteOrder, LittleEndian};
-use dex_container::{Fault, put_uleb};
+use dex_base::{Fault, put_uleb};
 use program_types::{Name, Value};
 use tables_names::Ranks;
 

@@ -1,10 +1,10 @@
 -- What a call leaves in its caller's memory, by how it ended. `old` and `new` are the caller's buffer before and after.
 use Rattle.std.specs.Prelude.{◌≡◌, ◌≢◌, ℕ, ◌<◌, ◌≤◌, List, ◌++◌, length, drop}
-use Rattle.base_bytes.specs.Fault.{memory}
-use Rattle.base_bytes.specs.declared.fault.Fault.{Fault}
+use Rattle.dex_base.specs.Fault.{memory}
+use Rattle.dex_base.specs.declared.fault.Fault.{Fault}
 use Rattle.dexasm_job.specs.declared.job.Job.{Job}
 use Rattle.dexasm_job.specs.declared.job.Job.TheVariants.{Check}
-use Rattle.dexasm_jobs.specs.Answers.{Answer, Refusal}
+use Rattle.dexasm_run.specs.Answers.{Answer, Refusal}
 use Rattle.dexasm_c.specs.declared.ending.CFault.{CFault}
 use Rattle.dexasm_c.specs.declared.ending.Ending.{Ending}
 use Rattle.dexasm_c.specs.declared.ending.Ending.TheVariants.{Answered, Refused, Memory, TooSmall}

@@ -4,7 +4,7 @@ ghost use Rattle.dexasm_c.specs.Calls.{Checks, Ends, Puts, Tells};
 use crate::ending::{CFault, Ending};
 use dex_base::Fault;
 use dexasm_job::Job;
-use dexasm_jobs::answer;
+use dexasm_run::answer;
 use std::alloc::Global;
 
 /// No fault.

@@ -4,7 +4,7 @@ ghost use Rattle.dexasm_c.specs.Status.{status_of};
 
 /// How a call ends.
 #[derive(Clone, Copy)]
-pub enum Ending {
+pub(crate) enum Ending {
     /// The answer is in the caller's memory.
     Answered,
     /// The bytes are refused.
@@ -18,7 +18,7 @@ pub enum Ending {
 /// A fault as C sees it: its number and its place, or twice 0 where there is none.
 #[repr(C)]
 #[derive(Clone, Copy)]
-pub struct CFault {
+pub(crate) struct CFault {
     pub code: u16,
     pub place: u64,
 }

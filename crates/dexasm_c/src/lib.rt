@@ -12,7 +12,7 @@
 #![tactic(auto)]
 
 ghost use Rattle.std.specs.Prelude.{◌≡◌, codes};
-ghost use Rattle.base_bytes.specs.Fault.{fault_name};
+ghost use Rattle.dex_base.specs.Fault.{fault_name};
 ghost use Rattle.dexasm_c.specs.Calls.{Checks, Ends, Puts};
 ghost use Rattle.dexasm_c.specs.Status.{status_of};
 ghost use Rattle.dexasm_c.specs.declared.ending.Ending.{Ending as Way};

@@ -2,7 +2,7 @@
 use Rattle.std.specs.Prelude.{◌≡◌, ◌⊎◌, ◌≤◌, ℕ, true, List, Option, Some, take, MatchOption}
 use Rattle.std.specs.Borrow.{Bor}
 use Rattle.std.specs.Io.KnownBytes.{Keeps, Appends}
-use Rattle.base_bytes.specs.declared.fault.Fault.{Fault}
+use Rattle.dex_base.specs.declared.fault.Fault.{Fault}
 use Rattle.clap.specs.Words.{subcommand_of}
 use Rattle.dexasm_run.specs.Answers.{Answer, Refusal}
 use Rattle.dexasm_plan.specs.Commands.{dexasm}

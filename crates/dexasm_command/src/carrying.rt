@@ -2,7 +2,7 @@
 ghost use Rattle.std.specs.Prelude.{◌≡◌, false, true, [], None, Some};
 ghost use Rattle.dexasm_command.specs.Carried.{AnswersFrom, CarriesOut, GoesTo, HandsOver};
 
-use base_bytes::Seed;
+use dex_base::Seed;
 use dexasm_job::Job;
 use dexasm_run::{RunFault, Sink, Source, answer_bytes, make, run, write_all};
 use dexasm_world::{Refusal, World, deliver, read_all};

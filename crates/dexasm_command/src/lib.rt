@@ -8,12 +8,12 @@ mod shown;
 mod telling;
 mod terminals;
 
-pub use base_bytes::Seed;
 pub use carrying::carry_out;
+pub use dex_base::Seed;
+pub use dexasm_job::Job;
 pub use dexasm_plan::{plan, usage_status};
 pub use dexasm_run::{
-    Job, Line, RunFault, Sink, Source, Watched, answer, answer_owned, line_text, run, status,
-    write_all,
+    Line, RunFault, Sink, Source, Watched, answer, answer_owned, line_text, run, status, write_all,
 };
 pub use dexasm_world::deliver;
 pub use laws::{out_is_never_lost, statuses_tell};

@@ -3,7 +3,7 @@ ghost use Rattle.std.specs.Prelude.{◌≡◌, ◌⊎◌, ◌++◌, List, ℕ, I
 ghost use Rattle.dexasm_run.specs.declared.error.RunFault.TheVariants.{Memory};
 ghost use Rattle.dexasm_command.specs.Told.{AddsMore, IsText, TellsFault, more_line};
 
-use base_bytes::fault_sentence;
+use dex_base::fault_sentence;
 use dexasm_run::{RunFault, Sink, line_text, status, write_all};
 use std::alloc::{AllocError, Global};
 use std::io;

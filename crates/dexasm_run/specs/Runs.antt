@@ -3,8 +3,8 @@ use Rattle.std.specs.Prelude.{◌≡◌, ℕ, Bool, true, ◌≤◌, List, Optio
 use Rattle.std.specs.Global.{Global}
 use Rattle.std.specs.Io.KnownBytes.{Appends, Consumes, IsAtEnd}
 use Rattle.dexasm_job.specs.declared.job.Job.{Job}
-use Rattle.base_bytes.specs.declared.fault.Fault.{Fault}
-use Rattle.dexasm_jobs.specs.Answers.{Answer, Refusal}
+use Rattle.dex_base.specs.declared.fault.Fault.{Fault}
+use Rattle.dexasm_run.specs.Answers.{Answer, Refusal}
 use Rattle.dexasm_run.specs.declared.error.RunFault.{RunFault}
 use Rattle.dexasm_run.specs.declared.error.RunFault.TheVariants.{Refused, Input, Output, Memory}
 

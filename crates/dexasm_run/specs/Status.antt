@@ -1,7 +1,7 @@
 -- What a failed run says: its exit status and its line.
 use Rattle.std.specs.Prelude.{ℕ, List, ◌++◌, codes}
 use Rattle.std.specs.Fmt.{decimal}
-use Rattle.base_bytes.specs.Fault.{fault_name}
+use Rattle.dex_base.specs.Fault.{fault_name}
 use Rattle.dexasm_run.specs.declared.error.RunFault.{RunFault}
 use Rattle.dexasm_run.specs.declared.error.RunFault.TheVariants.{Refused, Input, Output, Memory}
 

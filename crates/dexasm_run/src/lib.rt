@@ -1,14 +1,25 @@
-//! A job run over any reader and any writer: all is read, the whole answer is made, and then it is written.
+//! The whole answer to each job, and a job run over any reader and any writer: all is read, the answer is made, and then it is written.
+//!
+//! ```text
+//! answer(alloc, Job::Check, bytes)?                     // `ok` and a line feed, where the bytes are a file
+//! answer(alloc, Job::List, bytes)?                      // the listing of the file's program
+//! answer(alloc, Job::Assemble { align: false }, text)?  // the file of the listed program
+//! ```
 //!
 //! docs/MAP.md says where this crate stands among the others.
 #![tactic(auto)]
 
+// The answer to each job, and what holds of answers.
+mod answers;
+mod laws;
+
+// A job run over a reader and a writer, and how it ends.
 mod ends;
 mod error;
 mod running;
 
-pub use dexasm_job::Job;
-pub use dexasm_jobs::{answer, answer_owned};
+pub use answers::{answer, answer_owned, answer_owned_seeded, answer_seeded};
 pub use ends::{Reader, Sink, Source, Watched, Writer};
 pub use error::{Line, RunFault, line_text, status};
+pub use laws::{listed_and_assembled_is_stripped, one_answer, one_outcome};
 pub use running::{answer_bytes, make, run, write_all};

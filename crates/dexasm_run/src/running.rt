@@ -3,11 +3,11 @@ ghost use Rattle.std.specs.Prelude.{◌≡◌, ◌≢◌, ◌<◌, vec_len, true
 ghost use Rattle.std.specs.Io.KnownBytes.{Keeps};
 ghost use Rattle.dexasm_run.specs.Runs.{Answers, AnswersTo, BeginsAnswer, Makes, MatchRun, Refuses, ReadsAll, WritesAll};
 
+use crate::answers::answer_owned_seeded;
 use crate::ends::{Sink, Source};
 use crate::error::RunFault;
 use dex_base::{Fault, Seed};
 use dexasm_job::Job;
-use dexasm_jobs::answer_owned_seeded;
 use std::alloc::{AllocError, Global};
 
 /// How many bytes one `take` may give.
@@ -19,7 +19,7 @@ const PIECE: usize = 64 * 1024;
 /// this run, `Output` only where the sink did, and `Memory` stands for the fault 255. After `Refused`, `Input` and
 /// `Memory` nothing was put, after `Output` a beginning of the answer. An endless source ends in `Memory` or
 /// `Input`, since each `take` adds a byte, fails or ends the source, and a vector's length is bounded. Hashes begin with the
-/// seed, as those of `dexasm_jobs::answer_seeded` do.
+/// seed, as those of `dexasm_run::answer_seeded` do.
 ///
 /// ```
 /// use dex_base::Seed;

@@ -1,6 +1,6 @@
 -- A program is aligned in one way, and what is too long then isn't well formed.
 use Rattle.std.proofs.Common.{◌≡◌, List, [], ◌∷◌, refl, sym, ap, ◌∙◌, Option, Some, None}
-use Rattle.base_bytes.specs.declared.fault.Fault.{Fault}
+use Rattle.dex_base.specs.declared.fault.Fault.{Fault}
 use Rattle.program_types.specs.Content.{Code, Method, Class, Program}
 use Rattle.program_types.specs.Formed.{IsFormed}
 use Rattle.code_align.proofs.PadLaws.{aligned-one}
@@ -9,7 +9,7 @@ use Rattle.file_align.proofs.WellLaws.{codes_turned, program_formed}
 use Rattle.program_code_rules.proofs.OperandLaws.{formed_operands}
 use Rattle.program_rules.specs.Rules.{CodesHold}
 use Rattle.program_rules.specs.WellFormed.{WellFormed}
-use Rattle.base_bytes.proofs.ListFacts.{all_weaker}
+use Rattle.dex_base.proofs.ListFacts.{all_weaker}
 
 pairs_one : {A : Type 0} (R : A → A → Type 0) → ((x y z : A) → R x y → R x z → y ≡ z) → (xs ys zs : List A) → Pairwise R xs ys → Pairwise R xs zs → ys ≡ zs
 pairs_one R one [] [] [] p q = refl

@@ -16,7 +16,7 @@ use Rattle.program_rules.specs.WellFormed.{WellFormed}
 use Rattle.program_rules.specs.Rules.{NamesAreValid, KeysRise, MembersRise, AreDistinct, OrderHolds, ValuesFit, CodesHold, ClassHolds, member_key, method_key}
 use Rattle.program_rules.specs.Valid.{IsValidName}
 use Rattle.program_rules.proofs.FormedLaws.{class_formed}
-use Rattle.base_bytes.proofs.ListFacts.{all_weaker}
+use Rattle.dex_base.proofs.ListFacts.{all_weaker}
 use Rattle.std.proofs.lemmas.Option.{IfSome_then}
 
 -- ---- bodies that keep the rules are well formed, and the other way round

@@ -2,7 +2,7 @@
 -- Page: "Dalvik bytecode": packed-switch, sparse-switch and fill-array-data refer to payloads at even addresses.
 use Rattle.std.specs.Prelude.{◌≡◌, ◌≤◌, List, [], ◌∷◌, length, Option, None, Some, ⊤}
 use Rattle.std.specs.List.{AllByRecursion}
-use Rattle.base_bytes.specs.declared.fault.Fault.{Fault}
+use Rattle.dex_base.specs.declared.fault.Fault.{Fault}
 use Rattle.code_align.specs.Aligned.{Aligned}
 use Rattle.code_align.specs.Aligning.{too_many}
 use Rattle.program_types.specs.Content.{Code, Method, Class, Program}

@@ -2,7 +2,7 @@
 //! Page: "Dalvik bytecode": packed-switch, sparse-switch and fill-array-data refer to payloads at even addresses.
 ghost use Rattle.std.specs.Prelude.{◌≡◌, ◌≢◌, map, option_map, IfOk, IfErr, IfSome};
 ghost use Rattle.std.specs.List.{AllByRecursion};
-ghost use Rattle.base_bytes.specs.Fault.{memory};
+ghost use Rattle.dex_base.specs.Fault.{memory};
 ghost use Rattle.file_align.specs.Programs.{Pairwise, AlignedBody, AlignedMethod, AlignedClass, AlignedProgram, IsShort, IsTooLong};
 ghost use Rattle.code_align.specs.Aligning.{too_many};
 ghost use Rattle.program_types.specs.Content as content;

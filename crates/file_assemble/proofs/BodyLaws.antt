@@ -2,14 +2,14 @@
 use Rattle.std.proofs.Common.{◌≡◌, ℕ, zero, suc, List, [], ◌∷◌, ◌++◌, refl, Option, Some}
 use Rattle.std.specs.Prelude.{IfSome}
 use Rattle.std.specs.List.{AllByRecursion, flat_map, slice_get}
-use Rattle.file_sections.specs.file_limits_Wide.{bodies_in, bodies_of, body_values}
+use Rattle.file_limits.specs.Wide.{bodies_in, bodies_of, body_values}
 use Rattle.program_types.specs.Content.{Class, Code, Method, Program}
 use Rattle.program_types.specs.Formed.{IsFormed}
 use Rattle.program_rules.specs.Ranges.{ClassInRange}
 use Rattle.program_rules.specs.Rules.{CodesHold}
 use Rattle.program_rules.specs.WellFormed.{WellFormed}
 use Rattle.program_rules.proofs.FormedLaws.{class_formed}
-use Rattle.base_bytes.proofs.ListFacts.{all_get}
+use Rattle.dex_base.proofs.ListFacts.{all_get}
 
 abbrev AreFormed : List (Option Code) → Type 0
 AreFormed bodies = AllByRecursion (λ (o : Option Code). IfSome o IsFormed) bodies

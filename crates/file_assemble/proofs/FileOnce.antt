@@ -3,16 +3,16 @@ use Rattle.std.proofs.Common.{◌≡◌, ℕ, ◌+◌, ◌-◌, ◌≤◌, List,
 use Rattle.std.specs.Prelude.{IfSome}
 use Rattle.dex_base.specs.Mutf8.{PacksText}
 use Rattle.dex_base.proofs.TextLaws.{packed_one}
-use Rattle.base_bytes.specs.Leb128.{Shortest}
+use Rattle.dex_base.specs.Leb128.{Shortest}
 use Rattle.dex_container.specs.Where.{slice}
-use Rattle.file_sections.specs.Spelling.{SpellsArray}
+use Rattle.dex_value.specs.Spelling.{SpellsArray}
 use Rattle.program_types.specs.Content.{Code, Program}
 use Rattle.program_types.specs.Formed.{IsFormed}
 use Rattle.program_rules.specs.WellFormed.{WellFormed}
 use Rattle.tables_names.specs.Closure.{Five, AreRising, NameRanks}
 use Rattle.tables_names.specs.Needed.{needed}
 use Rattle.tables_names.proofs.NeededLemmas.{needed_is_least}
-use Rattle.file_sections.proofs.HandlerOnce.{ranks-injective}
+use Rattle.code_put.proofs.HandlerOnce.{ranks-injective}
 use Rattle.file_layout.specs.declared.plan.Plan.{Plan}
 use Rattle.file_layout.specs.declared.plan.Part.{Part}
 use Rattle.file_layout.specs.Plan.{tables_end, IsWritten}
@@ -22,19 +22,19 @@ use Rattle.file_layout.specs.Tiles.{AreShared, IsNext, Lays, gap}
 use Rattle.file_layout.proofs.FrontOnce.{written_once}
 use Rattle.file_layout.proofs.LayingOnce.{layings_one}
 use Rattle.file_layout.proofs.PartLaws.{part_cut}
-use Rattle.file_sections.specs.file_limits_Wide.{array_values, body_values, list_values, text_values}
-use Rattle.file_sections.specs.Codes.{PacksBody, is_bodiless}
-use Rattle.file_sections.specs.Data.{PacksData, has_no_members, with_code_places}
-use Rattle.file_sections.specs.Lists.{SpellsRanks}
+use Rattle.file_limits.specs.Wide.{array_values, body_values, list_values, text_values}
+use Rattle.file_assemble.specs.Codes.{PacksBody, is_bodiless}
+use Rattle.file_assemble.specs.Data.{PacksData, has_no_members, with_code_places}
+use Rattle.file_assemble.specs.Lists.{SpellsRanks}
 use Rattle.file_assemble.specs.Assembled.{Assembled, Places, SpellsTables, StandOnce}
 use Rattle.file_assemble.proofs.AssembledLaws.{row_count}
-use Rattle.file_sections.proofs.ArrayOnce.{array_once}
-use Rattle.file_sections.proofs.CodeOnce.{code_once}
-use Rattle.file_sections.proofs.RowsOnce.{name_rows_once, class_rows_once}
-use Rattle.file_sections.proofs.DataOnce.{data_once}
-use Rattle.file_sections.proofs.file_parts_ListLaws.{lists_once}
+use Rattle.dex_value.proofs.ArrayOnce.{array_once}
+use Rattle.code_put.proofs.CodeOnce.{code_once}
+use Rattle.file_assemble.proofs.RowsOnce.{name_rows_once, class_rows_once}
+use Rattle.file_assemble.proofs.DataOnce.{data_once}
+use Rattle.file_assemble.proofs.RankedLists.{lists_once}
 use Rattle.file_assemble.proofs.BodyLaws.{bodies_formed}
-use Rattle.base_bytes.proofs.ListFacts.{all_of}
+use Rattle.dex_base.proofs.ListFacts.{all_of}
 
 -- where a file that is written ends its parts
 record Ends (b : List ℕ) (x : Plan) (map : ℕ) : Type 0 where

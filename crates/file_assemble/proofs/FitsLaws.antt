@@ -4,15 +4,15 @@ use Rattle.std.specs.List.{slice_get}
 use Rattle.file_layout.specs.Plan.{tables_end}
 use Rattle.file_layout.specs.Sections.{wide_all}
 use Rattle.file_layout.specs.declared.plan.Rows.{Rows}
-use Rattle.file_sections.specs.Limits.{Fits}
-use Rattle.file_sections.specs.file_limits_Wide.{array_values, bodies_of, body_values, list_values, text_values, wide, wide_body, wide_data, wide_list, wide_of, wide_rows, wide_text}
-use Rattle.file_sections.proofs.PartLaws.{by_parts}
-use Rattle.file_sections.proofs.SumLaws.{wide_all_append}
+use Rattle.file_limits.specs.Limits.{Fits}
+use Rattle.file_limits.specs.Wide.{array_values, bodies_of, body_values, list_values, text_values, wide, wide_body, wide_data, wide_list, wide_of, wide_rows, wide_text}
+use Rattle.file_limits.proofs.PartLaws.{by_parts}
+use Rattle.file_limits.proofs.SumLaws.{wide_all_append}
 use Rattle.tables_names.specs.Closure.{Five}
 use Rattle.tables_names.specs.Needed.{needed}
 use Rattle.program_types.specs.Content.{Class, Program}
-use Rattle.file_sections.specs.Named.{FewNames}
-use Rattle.file_sections.specs.dex_value_Wide.{wide_array}
+use Rattle.file_assemble.specs.Named.{FewNames}
+use Rattle.dex_value.specs.Wide.{wide_array}
 use Rattle.file_assemble.specs.Assembled.{rows_of}
 
 -- the parts of the sum

@@ -5,8 +5,8 @@ use Rattle.std.specs.Prelude.{All, IfSome}
 use Rattle.std.specs.List.{AllByRecursion, slice_get}
 use Rattle.std.specs.Option.{ForSome}
 use Rattle.dex_base.specs.Descriptor.{IsDescriptor}
-use Rattle.program_types.specs.declared_IndexKind_TheVariants as kind
-use Rattle.file_sections.specs.Fits.{HasIndexBelow, ShortFits, short_name}
+use Rattle.dex_insn.specs.declared.opcode.IndexKind.TheVariants as kind
+use Rattle.code_put.specs.Fits.{HasIndexBelow, ShortFits, short_name}
 use Rattle.tables_names.specs.Closure.{Five, HasShorty, NameRanks}
 use Rattle.tables_names.specs.Indices.{HasRank}
 use Rattle.tables_names.specs.Needed.{needed}
@@ -18,9 +18,9 @@ use Rattle.program_types.specs.Kinds.{IsOfKind, HasIndex}
 use Rattle.program_types.specs.Mentions.{if_any, mentions, names_of_class}
 use Rattle.program_rules.specs.Rules.{RulesHold}
 use Rattle.program_rules.specs.Valid.{IsValidName, IsValueType}
-use Rattle.file_sections.specs.Named.{FewNames}
-use Rattle.file_sections.specs.Held.{RowNamesHeld}
-use Rattle.base_bytes.proofs.ListFacts.{all_append, all_back, all_front}
+use Rattle.file_assemble.specs.Named.{FewNames}
+use Rattle.file_assemble.specs.Held.{RowNamesHeld}
+use Rattle.dex_base.proofs.ListFacts.{all_append, all_back, all_front}
 
 -- what holds of all names in each class holds of all names in the program
 pub mentions_hold : (P : Name → Type 0) (p : Program) → ((i : ℕ) (c : Class) → slice_get p i ≡ Some c → AllByRecursion P (names_of_class c)) → AllByRecursion P (mentions p)

@@ -2,24 +2,24 @@
 -- Page: "Dalvik Executable format", "File layout".
 use Rattle.std.specs.Prelude.{◌≡◌, ℕ, ◌+◌, ◌≤◌, List, ◌++◌, length, take, drop}
 use Rattle.dex_base.specs.Mutf8.{PacksText}
-use Rattle.base_bytes.specs.Fields.{AreBytes}
-use Rattle.base_bytes.specs.Grammar.{Each}
-use Rattle.base_bytes.specs.Leb128.{Shortest}
+use Rattle.dex_base.specs.Fields.{AreBytes}
+use Rattle.dex_base.specs.Grammar.{Each}
+use Rattle.dex_base.specs.Leb128.{Shortest}
 use Rattle.dex_container.specs.Where.{slice}
 use Rattle.file_layout.specs.Plan.{tables_end, IsPlanned, IsWritten}
 use Rattle.file_layout.specs.Sections.{is_empty_list, never}
 use Rattle.file_layout.specs.Tiles.{AreShared, IsNext, Lays, gap}
 use Rattle.file_layout.specs.declared.plan.Plan.{Plan}
 use Rattle.file_layout.specs.declared.plan.Rows.{Rows}
-use Rattle.file_sections.specs.file_limits_Wide.{array_values, body_values, list_values, text_values, wide_of}
+use Rattle.file_limits.specs.Wide.{array_values, body_values, list_values, text_values, wide_of}
 use Rattle.tables_names.specs.Closure.{Five, NameRanks}
 use Rattle.program_types.specs.Content.{Program}
-use Rattle.file_sections.specs.Rows.{SpellsRows}
-use Rattle.file_sections.specs.Codes.{PacksBody, is_bodiless}
-use Rattle.file_sections.specs.Data.{PacksData, has_no_members, with_code_places}
-use Rattle.file_sections.specs.Lists.{SpellsRanks}
-use Rattle.file_sections.specs.Spelling.{SpellsArray}
-use Rattle.file_sections.specs.ClassDefs.{SpellsClassRow, with_places}
+use Rattle.file_assemble.specs.Rows.{SpellsRows}
+use Rattle.file_assemble.specs.Codes.{PacksBody, is_bodiless}
+use Rattle.file_assemble.specs.Data.{PacksData, has_no_members, with_code_places}
+use Rattle.file_assemble.specs.Lists.{SpellsRanks}
+use Rattle.dex_value.specs.Spelling.{SpellsArray}
+use Rattle.file_assemble.specs.ClassDefs.{SpellsClassRow, with_places}
 
 -- how many rows each table has
 abbrev pub rows_of : Five → Program → Rows

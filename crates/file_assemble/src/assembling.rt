@@ -1,11 +1,11 @@
 //! From a program to the bytes of its file.
 //! Page: "Dalvik Executable format", "File layout".
 ghost use Rattle.std.specs.Prelude.{◌≡◌, ◌≢◌, ◌+◌, ◌<◌, ◌^◌, ◌++◌, IfOk, IfErr, OnOk, IsOkUnless, length};
-ghost use Rattle.base_bytes.specs.Fault.{memory};
+ghost use Rattle.dex_base.specs.Fault.{memory};
 ghost use Rattle.file_layout.specs.Plan.{tables_end};
 ghost use Rattle.file_layout.specs.Tiles.{gap, zeros};
-ghost use Rattle.file_sections.specs.Limits.{Fits, IsLowestLimit};
-ghost use Rattle.file_sections.specs.file_limits_Wide.{wide_rows};
+ghost use Rattle.file_limits.specs.Limits.{Fits, IsLowestLimit};
+ghost use Rattle.file_limits.specs.Wide.{wide_rows};
 ghost use Rattle.file_needed.specs.Bodies.{defined_in, named_in_code};
 ghost use Rattle.tables_names.specs.Needed.{needed};
 ghost use Rattle.tables_names.specs.Noted.{AreRanks};
@@ -14,13 +14,18 @@ ghost use Rattle.program_rules.specs.WellFormed.{WellFormed};
 ghost use Rattle.file_assemble.specs.Assembled.{Assembled, DataIsLaid, SpellsTables, rows_of};
 ghost use Rattle.file_assemble.specs.Making.{places_of};
 
+use crate::arrays::put_arrays;
+use crate::class_data::put_datas;
+use crate::class_defs::put_classes;
+use crate::codes::put_codes;
+use crate::tables::name_rows;
+use crate::texts::put_strings;
+use crate::type_lists::put_lists;
 use bumpalo::Bump;
 use dex_base::{Fault, Seed};
 use file_layout::{Part, Plan, Rows, finish, gap_after};
+use file_limits::check_limits;
 use file_needed::needed_names;
-use file_sections::{
-    check_limits, name_rows, put_arrays, put_classes, put_codes, put_datas, put_lists, put_strings,
-};
 use program_types::Program;
 use std::alloc::Global;
 use tables_names::Ranks;

@@ -1,4 +1,7 @@
-//! Whole files, written: the file of a program that keeps the rules and the limits.
+//! The file of a program that keeps the rules and the limits: the parts of its data section one after the other, each with its items in
+//! their fewest bytes and nothing else; then the rows of its tables, from the ranks of the names and the places of the items; then map and
+//! header. What rows, type lists, codes, static values and class data look like is said here for `strip` too, which writes those of the
+//! kept rows of a file.
 //!
 //! ```
 //! let file = assemble(alloc, seed, &program)?; // refused where a limit is broken
@@ -7,16 +10,34 @@
 //! docs/MAP.md says where this crate stands among the others.
 #![tactic(auto)]
 
-// The data, and all of it.
+// Where the items of a part stand, the entries of class data, and the indices of names that are held.
+mod entries;
+mod index;
+mod placed;
+
+// The parts of the data section.
+mod arrays;
+mod class_data;
+mod codes;
+mod texts;
+mod type_lists;
+
+// The rows of each table, and what holds of them.
+mod class_defs;
+mod field_ids;
+mod method_ids;
+mod proto_ids;
+mod row_laws;
+mod tables;
+mod type_ids;
+
+// The whole file, and what holds of it.
+mod assembled_laws;
 mod assembling;
 
-// What holds of it.
-mod laws;
-
+pub use assembled_laws::assembled_is_one;
 pub use assembling::{Data, assemble, codes_part, part, space};
-pub use laws::assembled_is_one;
-
-// What stands below, for the crates above.
-pub use file_sections::{
-    Entries, FieldEntry, MethodEntry, class_count, class_word, entries_at, plus, times, word,
-};
+pub use entries::{put_field, put_method};
+pub use index::{shorty_index, string_index};
+pub use placed::Placed;
+pub use row_laws::{lists_and_data_are_one, rows_are_one, rows_stand_at_their_indices};

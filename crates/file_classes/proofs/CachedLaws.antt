@@ -1,8 +1,8 @@
 -- What is cached by its offset.
 use Rattle.std.proofs.Common.{◌≡◌, ℕ, ap, sym, ◌∙◌, refl, ◌≢◌, Result, Ok, Err, ◌-◌, ◌<◌, ◌≤◌, List, ◌++◌, length, take, drop, arith, length-take, append_assoc, inl, inr}
 use Rattle.std.specs.Prelude.{IfErr, IsErrAnd}
-use Rattle.base_bytes.specs.Fault.{memory}
-use Rattle.base_bytes.specs.declared.fault.Fault.{Fault}
+use Rattle.dex_base.specs.Fault.{memory}
+use Rattle.dex_base.specs.declared.fault.Fault.{Fault}
 use Rattle.std.proofs.lemmas.List.{take-take, take-append-drop}
 use Rattle.dex_container.specs.Where.{slice}
 use Rattle.program_types.specs.Content.{Name, Value}

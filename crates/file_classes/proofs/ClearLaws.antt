@@ -1,7 +1,7 @@
 -- What holds breaks no rule: static values, code.
 use Rattle.std.proofs.Common.{◌≡◌, ℕ, ◌+◌, ◌-◌, ◌≤◌, inl, inr, List, [], length, take, drop, None, sym, ap, ◌∙◌, subst, arith}
 use Rattle.std.proofs.lemmas.List.{take-take, take-append-drop}
-use Rattle.base_bytes.specs.declared.fault.Fault.{Fault}
+use Rattle.dex_base.specs.declared.fault.Fault.{Fault}
 use Rattle.dex_container.specs.Frame.{IsFramed}
 use Rattle.dex_container.proofs.Framed.{IsSection-one}
 use Rattle.program_types.specs.Content.{Name, Value}

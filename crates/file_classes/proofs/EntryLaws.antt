@@ -4,15 +4,15 @@ use Rattle.std.specs.Prelude.{MatchBool, ◌==◌, slice_index}
 use Rattle.std.proofs.lemmas.List.{length_push}
 use Rattle.std.proofs.lemmas.Bool.{cases_lt, eqb-true}
 use Rattle.std.proofs.lemmas.Option.{slice_get_within}
-use Rattle.base_bytes.specs.Grammar.{IsPrefixUnique, Pair, Many}
-use Rattle.base_bytes.specs.Leb128.{Spells}
-use Rattle.base_bytes.proofs.GrammarLaws.{Then-unique, Pair-unique, Many-unique}
-use Rattle.base_bytes.proofs.Numbers.{spells_unique}
+use Rattle.dex_base.specs.Grammar.{IsPrefixUnique, Pair, Many}
+use Rattle.dex_base.specs.Leb128.{Spells}
+use Rattle.dex_base.proofs.GrammarLaws.{Then-unique, Pair-unique, Many-unique}
+use Rattle.dex_base.proofs.Numbers.{spells_unique}
 use Rattle.dex_container.specs.Frame.{IsFramed}
 use Rattle.dex_container.specs.Where.{At}
 use Rattle.dex_container.proofs.Standing.{At-one}
 use Rattle.file_classes.specs.ClassData.{FieldEntry, MethodEntry, Entries, no_entries, counts_of, lists_of, SpellsFieldEntry, SpellsMethodEntry, SpellsCounts, SpellsLists, SpellsEntries, EntriesAt, steps, index_of, FirstEntriesAre, EntriesAre}
-use Rattle.base_bytes.proofs.ListFacts.{slice_split}
+use Rattle.dex_base.proofs.ListFacts.{slice_split}
 
 -- ---- no spelling begins another one
 

@@ -6,7 +6,7 @@ use Rattle.file_classes.proofs.StaticsLaws.{at_other, first_class}
 use Rattle.std.proofs.lemmas.Bool.{cases_lt}
 use Rattle.std.proofs.lemmas.List.{length-map, length_push}
 use Rattle.std.proofs.lemmas.Option.{slice_get_within, slice_get-map, slice_get-get_or, same_Some}
-use Rattle.base_bytes.specs.declared.fault.Fault.{Fault}
+use Rattle.dex_base.specs.declared.fault.Fault.{Fault}
 use Rattle.dex_container.specs.Frame.{IsFramed}
 use Rattle.program_types.specs.Content.{Units, Proto, Method, Class, Value, Code}
 use Rattle.program_types.specs.Formed.{RegistersHold as Named}
@@ -32,7 +32,7 @@ use Rattle.file_classes.specs.declared.members.Bare.{Bare}
 use Rattle.file_classes.specs.declared.heads.Head.{Head}
 use Rattle.file_classes.proofs.EntryLaws.{entry_at, entries_one}
 use Rattle.file_classes.proofs.OnceLaws.{one_of_kind}
-use Rattle.base_bytes.proofs.ListFacts.{slice_split}
+use Rattle.dex_base.proofs.ListFacts.{slice_split}
 
 module _ (b : List ℕ) (ms : List Bare) where
   pub done_more : (n : ℕ) (vs : List Method) (m : Bare) (v : Method) → AreDone b ms n vs → slice_get ms n ≡ Some m → IsDone b m v → AreDone b ms (n + 1) (vs ++ v ∷ [])

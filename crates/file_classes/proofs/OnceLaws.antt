@@ -11,7 +11,7 @@ use Rattle.tables_rows.proofs.TypeLists.{type_one, types_one}
 use Rattle.tables_rows.proofs.NameLaws.{field_one, method_one}
 use Rattle.dex_value.specs.Spelling.{SpellsArray}
 use Rattle.dex_value.specs.Standing.{ArrayStands}
-use Rattle.program_types.specs.declared_IndexKind_TheVariants as kind
+use Rattle.dex_insn.specs.declared.opcode.IndexKind.TheVariants as kind
 use Rattle.code_read.specs.Symbols as code
 use Rattle.dex_value.proofs.FrontLaws.{SpellsArray-unique}
 use Rattle.code_read.proofs.CodeLaws.{code_one}

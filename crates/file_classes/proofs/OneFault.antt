@@ -2,7 +2,7 @@
 use Rattle.std.proofs.Common.{◌≡◌, ℕ, ◌⊎◌, inl, inr, List, length, sym, ap, ◌∙◌, subst, arith, slice_get}
 use Rattle.std.proofs.lemmas.Bool.{cases_lt}
 use Rattle.std.proofs.lemmas.Option.{same_Some}
-use Rattle.base_bytes.specs.declared.fault.Fault.{Fault}
+use Rattle.dex_base.specs.declared.fault.Fault.{Fault}
 use Rattle.dex_container.specs.Frame.{IsFramed}
 use Rattle.tables_rows.specs.Names.{Names, NameIsAt}
 use Rattle.tables_rows.specs.RowFields.{row_place}
@@ -12,7 +12,7 @@ use Rattle.dex_value.proofs.Namings.{NameIsAt-functional}
 use Rattle.dex_value.proofs.OneFault.{array_one_fault}
 use Rattle.code_read.specs.Faults.{CodeBreaks, CodeOverruns}
 use Rattle.code_read.proofs.StandLaws.{NameIsAt-functional as code_names}
-use Rattle.code_read.proofs.OneFault.{code_one_fault, registers_one_fault}
+use Rattle.code_read.proofs.OneItemFault.{code_one_fault, registers_one_fault}
 use Rattle.file_classes.specs.ClassRows.{class_word}
 use Rattle.file_classes.specs.ClassData.{MethodEntry, Entries}
 use Rattle.file_classes.specs.ClassFaults.{at_row, ValuesBreak, BodyHolds, BodyFails, CodeHolds, RegistersFail, EachCodeHolds, SomeCodeFails, MethodsBreak, BodiesBreak, RowRegistersBreak, IsFirstClass}

@@ -3,17 +3,17 @@ use Rattle.std.proofs.Common.{◌≡◌, ◌≢◌, Bool, true, false, length-ta
 use Rattle.std.specs.Prelude.{MatchBool, ◌==◌}
 use Rattle.std.proofs.lemmas.List.{length_push}
 use Rattle.std.proofs.lemmas.Bool.{eqb-true}
-use Rattle.base_bytes.proofs.LengthLaws.{Spells-least}
+use Rattle.dex_base.proofs.LengthLaws.{Spells-least}
 use Rattle.dex_container.specs.declared.section.Section.{Section}
 use Rattle.dex_container.specs.Where.{slice, At, IsInSection, IsSectionOf}
 use Rattle.dex_container.proofs.Standing.{at_place, stands_at, stands_not, mod_one}
-use Rattle.base_bytes.specs.Grammar.{NoneBegins, Takes, IsPrefixUnique, Then, Pair, Each, Many}
-use Rattle.base_bytes.specs.Leb128.{Spells}
-use Rattle.base_bytes.proofs.GrammarLaws.{Then-none_first, Many-none, Many-unique}
-use Rattle.base_bytes.proofs.TakesLaws.{Begins-from_takes, Takes-then, Takes-each_push}
+use Rattle.dex_base.specs.Grammar.{NoneBegins, Takes, IsPrefixUnique, Then, Pair, Each, Many}
+use Rattle.dex_base.specs.Leb128.{Spells}
+use Rattle.dex_base.proofs.GrammarLaws.{Then-none_first, Many-none, Many-unique}
+use Rattle.dex_base.proofs.TakesLaws.{Begins-from_takes, Takes-then, Takes-each_push}
 use Rattle.file_classes.specs.ClassData.{FieldEntry, MethodEntry, Entries, counts_of, lists_of, SpellsFieldEntry, SpellsMethodEntry, SpellsCounts, SpellsLists, SpellsEntries, no_entries, EntriesAt}
 use Rattle.file_classes.proofs.EntryLaws.{at_some, field_unique, method_unique, counts_unique}
-use Rattle.base_bytes.proofs.ViaLaws.{second-none}
+use Rattle.dex_base.proofs.ViaLaws.{second-none}
 
 -- ---- so many of one kind
 

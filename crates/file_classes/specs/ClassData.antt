@@ -1,8 +1,8 @@
 -- What a class defines, as numbers (Dalvik Executable format, "class_data_item", "encoded_field", "encoded_method").
 use Rattle.std.specs.Prelude.{◌≡◌, ℕ, ◌+◌, ◌<◌, ◌==◌, List, [], length, map, take, sum, MatchBool, Some, slice_index}
 use Rattle.std.specs.List.{slice_get}
-use Rattle.base_bytes.specs.Grammar.{Then, Pair, Many}
-use Rattle.base_bytes.specs.Leb128.{Spells}
+use Rattle.dex_base.specs.Grammar.{Then, Pair, Many}
+use Rattle.dex_base.specs.Leb128.{Spells}
 use Rattle.dex_container.specs.Where.{At}
 
 -- a field: the difference of its index to that of the entry before, and its flags

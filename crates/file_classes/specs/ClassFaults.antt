@@ -2,7 +2,7 @@
 -- is asked only where the groups before, and the rows before, hold. Of the rules of a row each says what is asked before it.
 use Rattle.std.specs.Prelude.{◌≡◌, ◌≢◌, ℕ, ◌<◌, ◌≤◌, ◌⊎◌, ◌==◌, ◌||◌, if◌then◌else◌, MatchBool, None, List, length, Option, Some, slice_index, IfSome}
 use Rattle.std.specs.List.{slice_get}
-use Rattle.base_bytes.specs.declared.fault.Fault.{Fault}
+use Rattle.dex_base.specs.declared.fault.Fault.{Fault}
 use Rattle.dex_base.specs.Descriptor.{IsClass}
 use Rattle.dex_container.specs.Layout.{size_of}
 use Rattle.dex_container.specs.Frame.{IsFramed}

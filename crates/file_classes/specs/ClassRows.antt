@@ -1,6 +1,6 @@
 -- The fields of a row of class_defs, and the order of its rows (Dalvik Executable format, "class_def_item").
 use Rattle.std.specs.Prelude.{◌≡◌, ◌≢◌, ℕ, ◌+◌, ◌*◌, ◌<◌, ◌≤◌, List, length, slice_index, Option, MatchOption}
-use Rattle.base_bytes.specs.Fields.{u32_at}
+use Rattle.dex_base.specs.Fields.{u32_at}
 use Rattle.dex_container.specs.Layout.{size_of}
 use Rattle.program_types.specs.Content.{Units}
 use Rattle.tables_rows.specs.RowFields.{row_place}

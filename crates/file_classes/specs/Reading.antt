@@ -1,7 +1,7 @@
 -- What the private functions of reading say.
 use Rattle.std.specs.Prelude.{◌≡◌, ◌≢◌, ℕ, ◌<◌, ◌≤◌, List, [], length, map, option_map, Option, Some, None, IfSome, IfNone}
 use Rattle.std.specs.List.{slice_get}
-use Rattle.base_bytes.specs.declared.fault.Fault.{Fault}
+use Rattle.dex_base.specs.declared.fault.Fault.{Fault}
 use Rattle.program_types.specs.Content as content
 use Rattle.program_types.specs.View.{str, desc, proto, member, value, code}
 use Rattle.file_classes.specs.declared.class_data.FieldEntry.{FieldEntry}

@@ -1,7 +1,7 @@
 //! The third pass over class_defs where no program is asked for: the faults of `read_classes`. Of a code that is read nothing is
 //! cached but what is wrong with its registers.
 ghost use Rattle.std.specs.Prelude.{◌≢◌, ◌⊎◌, IfOk, IfErr, IfSome, IfNone, OnOk, length};
-ghost use Rattle.base_bytes.specs.Fault.{memory};
+ghost use Rattle.dex_base.specs.Fault.{memory};
 ghost use Rattle.dex_container.specs.Layout.{size_of};
 ghost use Rattle.dex_container.specs.Section as section;
 ghost use Rattle.tables_rows.specs.Names.{AreNamesOf, AreRows};

@@ -1,7 +1,7 @@
 //! The second pass over class_defs where no program is asked for: the faults of `read_statics`. Of an array nothing is cached but how many
 //! values it has.
 ghost use Rattle.std.specs.Prelude.{◌≢◌, ◌<◌, List, IfErr, OnOk};
-ghost use Rattle.base_bytes.specs.Fault.{memory};
+ghost use Rattle.dex_base.specs.Fault.{memory};
 ghost use Rattle.dex_container.specs.Layout.{size_of};
 ghost use Rattle.dex_container.specs.Section as section;
 ghost use Rattle.program_types.specs.Content.{Value};

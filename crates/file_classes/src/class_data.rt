@@ -1,8 +1,8 @@
 //! What a class defines, as numbers ("class_data_item"): fault 44.
 ghost use Rattle.std.specs.Prelude.{ℕ, List, IfOk, IfSome, IfNone, IsOkUnless, map};
-ghost use Rattle.base_bytes.specs.Fault.{memory};
-ghost use Rattle.base_bytes.specs.Grammar.{Takes, NoneBegins, Many};
-ghost use Rattle.base_bytes.specs.Leb128.{Spells};
+ghost use Rattle.dex_base.specs.Fault.{memory};
+ghost use Rattle.dex_base.specs.Grammar.{Takes, NoneBegins, Many};
+ghost use Rattle.dex_base.specs.Leb128.{Spells};
 ghost use Rattle.file_classes.specs.ClassData.{SpellsFieldEntry, SpellsMethodEntry, SpellsCounts, SpellsEntries, EntriesAt};
 ghost use Rattle.file_classes.specs.Reading.{field_entry, method_entry, counts, entries};
 

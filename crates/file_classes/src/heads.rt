@@ -2,7 +2,7 @@
 ghost use Rattle.std.specs.Prelude.{◌≡◌, ◌≢◌, ◌<◌, [], IfOk, IfErr, OnOk, map};
 ghost use Rattle.dex_container.specs.Layout.{size_of};
 ghost use Rattle.dex_container.specs.Section as section;
-ghost use Rattle.base_bytes.specs.Fault.{memory};
+ghost use Rattle.dex_base.specs.Fault.{memory};
 ghost use Rattle.program_types.specs.View.{desc};
 ghost use Rattle.tables_rows.specs.Names.{AreNamesOf, AreRows};
 ghost use Rattle.tables_rows.specs.Reading.{AreFirst};

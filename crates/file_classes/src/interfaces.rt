@@ -2,7 +2,7 @@
 ghost use Rattle.std.specs.Prelude.{◌↔◌, ◌<◌, IfOk, IfSome, IfNone, IsTrue, IsOkUnless, OnOk, length, map};
 ghost use Rattle.std.specs.List.{AllByRecursion};
 ghost use Rattle.dex_base.specs.Descriptor.{IsClass};
-ghost use Rattle.base_bytes.specs.Fault.{memory};
+ghost use Rattle.dex_base.specs.Fault.{memory};
 ghost use Rattle.program_types.specs.View.{desc};
 ghost use Rattle.tables_rows.specs.Names.{AreNamesOf};
 ghost use Rattle.file_classes.specs.Classes.{NoTypeTwice, InterfacesAt};

@@ -1,7 +1,7 @@
 //! Laws of the definitions: functions that do nothing, whose contracts are the laws.
 
 ghost use Rattle.std.specs.Prelude.{◌≡◌, ℕ, List};
-ghost use Rattle.base_bytes.specs.declared.fault.Fault.{Fault};
+ghost use Rattle.dex_base.specs.declared.fault.Fault.{Fault};
 ghost use Rattle.file_classes.specs.ClassFaults.{ClassRowBreaks, ClassRowHolds, ClassRowKeeps, ValuesBreak, ValuesHold, BodiesBreak, BodiesHold, RowRegistersBreak, RowRegistersHold};
 ghost use Rattle.file_classes.specs.Classes.{SpellsClass};
 ghost use Rattle.dex_container.specs.Frame.{IsFramed};

@@ -41,6 +41,3 @@ pub use laws::{
 pub use members::Bare;
 pub use methods::read_classes;
 pub use statics::{Statics, read_statics};
-
-// What stands below, for the crates above.
-pub use dex_value::put_array;

@@ -3,10 +3,10 @@ use Rattle.std.proofs.Common.{◌≡◌, ℕ, ◌+◌, ◌-◌, ◌*◌, ◌^◌
 use Rattle.std.proofs.lemmas.List.{drop-drop, drop_at, take_at, drop-append-le, take-append-le, take_all}
 use Rattle.std.proofs.lemmas.List.Sums.{count_by-le-length, length-filter}
 use Rattle.std.specs.List.{filter, flat_map, AllByRecursion}
-use Rattle.base_bytes.specs.Fields.{AreBytes, u16_at, u32_at, u32_bytes}
-use Rattle.base_bytes.specs.Words.{words_bytes}
-use Rattle.base_bytes.proofs.FieldBounds.{u16_at-drop, u16_at-take, u32_at-drop, u32_at-take, length-u32_bytes}
-use Rattle.base_bytes.proofs.WordsBytes.{u32_at-words, words_bytes-more}
+use Rattle.dex_base.specs.Fields.{AreBytes, u16_at, u32_at, u32_bytes}
+use Rattle.dex_base.specs.Words.{words_bytes}
+use Rattle.dex_base.proofs.FieldBounds.{u16_at-drop, u16_at-take, u32_at-drop, u32_at-take, length-u32_bytes}
+use Rattle.dex_base.proofs.WordsBytes.{u32_at-words, words_bytes-more}
 use Rattle.dex_container.specs.Layout.{map_place}
 use Rattle.dex_container.specs.Frame.{HasMagic, HasVersion}
 use Rattle.dex_container.specs.Closed.{SetsSums}

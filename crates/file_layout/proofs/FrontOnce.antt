@@ -4,8 +4,8 @@ use Rattle.std.proofs.lemmas.List.{get_or-drop, length-drop, take-append-drop, d
 use Rattle.std.proofs.lemmas.Bool.{cases_lt}
 use Rattle.std.specs.Prelude.{slice_index, nat_lt, if◌then◌else◌}
 use Rattle.std.specs.List.{filter}
-use Rattle.base_bytes.specs.Fields.{AreBytes, u16_at, u32_at}
-use Rattle.base_bytes.specs.Adler32.{adler32}
+use Rattle.dex_base.specs.Fields.{AreBytes, u16_at, u32_at}
+use Rattle.dex_base.specs.Adler32.{adler32}
 use Rattle.sha1.specs.Sha1.{sha1}
 use Rattle.dex_container.specs.Frame.{HasMagic, HasVersion, HasChecksum, HasSignature, SumsHold}
 use Rattle.dex_container.specs.Layout.{map_place, entry_count, entry_place, kind_at, items_at, place_at}
@@ -14,7 +14,7 @@ use Rattle.file_layout.specs.declared.plan.Plan.{Plan}
 use Rattle.file_layout.specs.Plan.{spans_of, header_words, IsWritten}
 use Rattle.file_layout.specs.Spans.{Span, has_items, MapNames}
 use Rattle.file_layout.specs.Once.{part_of}
-use Rattle.base_bytes.proofs.SameFields.{same_half, same_word}
+use Rattle.dex_base.proofs.SameFields.{same_half, same_word}
 
 -- the same byte at a place
 abbrev pub SameAt : List ℕ → List ℕ → ℕ → Type 0

@@ -1,6 +1,6 @@
 -- Numbers of two bytes in one of four.
 use Rattle.std.proofs.Common.{◌≡◌, ℕ, ◌+◌, ◌*◌, ◌^◌, ◌<◌, List, drop, get_or, refl, arith, get_or-drop}
-use Rattle.base_bytes.specs.Fields.{u16_at, u32_at}
+use Rattle.dex_base.specs.Fields.{u16_at, u32_at}
 
 -- the four bytes of a number
 module _ (b : List ℕ) (p : ℕ) where

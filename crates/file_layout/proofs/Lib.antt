@@ -10,3 +10,6 @@ pub mod FinishLaws
 pub mod PartLaws
 pub mod LayingOnce
 pub mod FrontOnce
+pub mod HeldLaws
+pub mod ItemLaws
+pub mod SharingLaws

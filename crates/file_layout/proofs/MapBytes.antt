@@ -2,11 +2,11 @@
 use Rattle.std.proofs.Common.{◌≡◌, ℕ, zero, suc, ◌+◌, ◌*◌, ◌^◌, ◌<◌, ◌≤◌, Bool, true, false, cond, ltb, List, [], ◌∷◌, ◌++◌, length, map, get_or, drop, refl, sym, ap, ◌∙◌, arith, length-append, append-nil}
 use Rattle.std.proofs.lemmas.List.{get_or-append_right, get_or_append_left}
 use Rattle.std.specs.List.{flat_map, filter}
-use Rattle.base_bytes.specs.Fields.{u32_at}
-use Rattle.base_bytes.specs.Words.{words_bytes}
-use Rattle.base_bytes.proofs.FieldBounds.{u32_at-drop}
+use Rattle.dex_base.specs.Fields.{u32_at}
+use Rattle.dex_base.specs.Words.{words_bytes}
+use Rattle.dex_base.proofs.FieldBounds.{u32_at-drop}
 use Rattle.file_layout.proofs.Halves.{u16_at-small, u16_at-high}
-use Rattle.base_bytes.proofs.WordsBytes.{u32_at-words}
+use Rattle.dex_base.proofs.WordsBytes.{u32_at-words}
 use Rattle.dex_container.specs.Layout.{map_place, entry_count, kind_at, items_at, place_at}
 use Rattle.file_layout.specs.declared.map_list.Entry.{Entry}
 use Rattle.file_layout.specs.Entries.{entry_words, has_some, list_words, entry_of}

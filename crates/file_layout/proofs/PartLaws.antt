@@ -2,10 +2,10 @@
 use Rattle.std.proofs.Common.{◌≡◌, ℕ, ◌+◌, ◌-◌, ◌≤◌, List, [], ◌++◌, length, take, drop, ap, ◌∙◌, arith}
 use Rattle.std.proofs.Math.Seq.{take-add}
 use Rattle.std.proofs.lemmas.List.{get_or-drop, length-drop, length-take-le, drop-drop}
-use Rattle.base_bytes.specs.Fields.{AreBytes}
+use Rattle.dex_base.specs.Fields.{AreBytes}
 use Rattle.dex_container.specs.Where.{slice}
 use Rattle.file_layout.specs.Once.{part_of}
-use Rattle.base_bytes.proofs.ListFacts.{take_bytes}
+use Rattle.dex_base.proofs.ListFacts.{take_bytes}
 
 -- a part of bytes is bytes
 pub slice_are : (b : List ℕ) (place size : ℕ) → AreBytes b → AreBytes (slice b place size)

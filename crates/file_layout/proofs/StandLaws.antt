@@ -7,7 +7,7 @@ use Rattle.file_layout.specs.declared.plan.Part.{Part}
 use Rattle.file_layout.specs.Sections.{IsItself, is_empty_list}
 use Rattle.file_layout.specs.Parts.{SectionReaches, HasPart}
 use Rattle.file_layout.proofs.TileLaws.{Tiles-among}
-use Rattle.base_bytes.proofs.ListFacts.{zip_weaker}
+use Rattle.dex_base.proofs.ListFacts.{zip_weaker}
 
 some_among : {V : Type 0} (items : List (ℕ × V)) (place : ℕ) (v : V) → Among items place v → 0 < length items
 some_among [] place v a = absurd a

@@ -1,8 +1,8 @@
 -- A file that is finished: the map after the data, header and rows in front, signature and checksum.
 -- Page: "Dalvik Executable format", "header_item".
 use Rattle.std.specs.Prelude.{◌≡◌, ℕ, ◌^◌, ◌<◌, ◌++◌, List, length, drop, slice_index}
-use Rattle.base_bytes.specs.Fields.{AreBytes}
-use Rattle.base_bytes.specs.Words.{words_bytes}
+use Rattle.dex_base.specs.Fields.{AreBytes}
+use Rattle.dex_base.specs.Words.{words_bytes}
 use Rattle.dex_container.specs.Closed.{SetsSums}
 use Rattle.dex_container.specs.Where.{slice}
 use Rattle.file_layout.specs.declared.plan.Rows.{Rows}

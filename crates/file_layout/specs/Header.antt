@@ -1,7 +1,7 @@
 -- The fields of the header of a written file, by the page's names.
 -- Page: "Dalvik Executable format", "header_item".
 use Rattle.std.specs.Prelude.{◌≡◌, ℕ, ◌-◌, List, length}
-use Rattle.base_bytes.specs.Fields.{u32_at}
+use Rattle.dex_base.specs.Fields.{u32_at}
 use Rattle.dex_container.specs.Layout.{size_of, offset_of, map_place}
 use Rattle.dex_container.specs.Section as section
 use Rattle.file_layout.specs.declared.plan.Rows.{Rows}

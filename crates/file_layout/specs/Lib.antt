@@ -8,3 +8,6 @@ pub mod Entries
 pub mod Finished
 pub mod Laws
 pub mod Once
+pub mod Hashing
+pub mod OneMore
+pub mod Sharing

@@ -1,7 +1,7 @@
 -- Items that are laid once each: their values and the place at which they begin decide the bytes, and those decide the file.
 -- Page: "Dalvik Executable format", "File layout".
 use Rattle.std.specs.Prelude.{◌≡◌, ℕ, ◌-◌, ◌≤◌, List, Bool, length, slice_get, Some}
-use Rattle.base_bytes.specs.Fields.{AreBytes}
+use Rattle.dex_base.specs.Fields.{AreBytes}
 use Rattle.dex_container.specs.Where.{slice}
 use Rattle.file_layout.specs.declared.plan.Plan.{Plan}
 use Rattle.file_layout.specs.Plan.{IsWritten}

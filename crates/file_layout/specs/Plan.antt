@@ -2,7 +2,7 @@
 -- Page: "Dalvik Executable format", "File layout", "header_item" and "map_list".
 use Rattle.std.specs.Prelude.{◌≡◌, ℕ, ◌+◌, ◌-◌, ◌*◌, ◌%◌, ◌<◌, ◌≤◌, ◌==◌, if◌then◌else◌, List, [], ◌∷◌, length, slice_index}
 use Rattle.std.specs.List.{filter}
-use Rattle.base_bytes.specs.Fields.{u32_at}
+use Rattle.dex_base.specs.Fields.{u32_at}
 use Rattle.dex_container.specs.Frame.{HasMagic, HasVersion, SumsHold}
 use Rattle.file_layout.specs.declared.plan.Rows.{Rows}
 use Rattle.file_layout.specs.declared.plan.Part.{Part}

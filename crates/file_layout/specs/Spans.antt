@@ -1,7 +1,7 @@
 -- What the map of a written file names: each kind with its items and the bytes from `begin` to `end`.
 -- Page: "Dalvik Executable format", "map_list" and "map_item".
 use Rattle.std.specs.Prelude.{◌≡◌, ℕ, ◌+◌, ◌<◌, Bool, nat_lt, List, length, slice_index_or}
-use Rattle.base_bytes.specs.Fields.{u16_at}
+use Rattle.dex_base.specs.Fields.{u16_at}
 use Rattle.dex_container.specs.Layout.{entry_count, entry_place, kind_at, items_at, place_at}
 
 -- a kind, how many items it has, and the bytes that they take

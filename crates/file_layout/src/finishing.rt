@@ -1,8 +1,8 @@
 //! The end and the front of a file whose data stands: map, header, rows, signature and checksum.
 //! Page: "Dalvik Executable format", "header_item".
 ghost use Rattle.std.specs.Prelude.{◌≡◌, ℕ, ◌+◌, ◌*◌, ◌++◌, ◌≤◌, ◌<◌, ◌^◌, OnOk, OnErr, IsOkUnless, length, take, drop};
-ghost use Rattle.base_bytes.specs.Fault.{memory};
-ghost use Rattle.base_bytes.specs.Words.{words_bytes};
+ghost use Rattle.dex_base.specs.Fault.{memory};
+ghost use Rattle.dex_base.specs.Words.{words_bytes};
 ghost use Rattle.dex_container.specs.Frame.{IsFramed};
 ghost use Rattle.file_layout.specs.Plan.{tables_end, header_words, IsPlanned, table_offset};
 ghost use Rattle.file_layout.specs.Finished.{Finishes, IsFronted};
@@ -11,7 +11,7 @@ use crate::map_list::{entries_of, map_after};
 use crate::padding::gap_after;
 use crate::plan::{HEADER_SIZE, Plan, Rows};
 use crate::ranges::are_words;
-use base_bytes::{Fault, are_bytes, put_u32_at};
+use dex_base::{Fault, are_bytes, put_u32_at};
 use dex_container::close;
 use std::alloc::Global;
 

@@ -2,8 +2,8 @@
 //! Page: "Dalvik Executable format", "map_list" and "map_item".
 ghost use Rattle.std.specs.Prelude.{◌≡◌, ℕ, ◌++◌, ◌≤◌, ◌<◌, ◌^◌, OnOk, IfOk, IsOkUnless, length, map, slice_index};
 ghost use Rattle.std.specs.List.{filter};
-ghost use Rattle.base_bytes.specs.Fault.{memory};
-ghost use Rattle.base_bytes.specs.Words.{words_bytes};
+ghost use Rattle.dex_base.specs.Fault.{memory};
+ghost use Rattle.dex_base.specs.Words.{words_bytes};
 ghost use Rattle.file_layout.specs.Entries.{entry_words, has_some, list_words, entry_of};
 ghost use Rattle.file_layout.specs.Plan.{tables_end, spans_of};
 ghost use Rattle.file_layout.specs.Tiles.{zeros, gap};
@@ -11,13 +11,13 @@ ghost use Rattle.file_layout.specs.Tiles.{zeros, gap};
 use crate::padding::pad_after;
 use crate::plan::{HEADER_SIZE, Part, Plan};
 use crate::ranges::are_words;
-use base_bytes::{Fault, push_words};
+use dex_base::{Fault, push_words};
 use dex_container::kind;
 use std::alloc::Global;
 
 /// One entry: a kind of items, how many there are, and the byte at which they begin.
 #[derive(Clone, Copy)]
-pub struct Entry {
+pub(crate) struct Entry {
     pub kind: u16,
     pub items: u32,
     pub place: u32,
@@ -42,7 +42,7 @@ impl Entry {
 }
 
 /// All kinds of items that a file of this plan may have, in the order in which they stand, with the map at `place`.
-pub fn entries_of(plan: &Plan, place: u32) -> [Entry; 13]
+pub(crate) fn entries_of(plan: &Plan, place: u32) -> [Entry; 13]
     requires { tables_end plan.now.rows < 2 ^ 32 }
     ensures { result ≡ map entry_of (spans_of plan.now place 0) }
 {
@@ -109,7 +109,7 @@ fn list_words(alloc: Global, entries: &[Entry]) -> Result<Vec<u32>, Fault>
 /// the map of these entries.
 ///
 /// It fails only when out of memory.
-pub fn map_after(alloc: Global, end: usize, entries: &[Entry]) -> Result<Vec<u8>, Fault>
+pub(crate) fn map_after(alloc: Global, end: usize, entries: &[Entry]) -> Result<Vec<u8>, Fault>
     requires { length entries.now ≤ 100 }
     ensures ok { IfOk result (λ bytes. bytes.items ≡ zeros (gap 4 end) ++ words_bytes (list_words entries.now)) }
     ensures fits { OnOk result ((j : ℕ) → slice_index (list_words entries.now) j < 2 ^ 32) }

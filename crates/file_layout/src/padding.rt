@@ -1,10 +1,10 @@
 //! Zeros where alignment asks for them.
 //! Page: "Dalvik Executable format", "alignment" of each item.
 ghost use Rattle.std.specs.Prelude.{◌≡◌, ◌++◌, OnOk, OnErr, IsOkUnless, length};
-ghost use Rattle.base_bytes.specs.Fault.{memory};
+ghost use Rattle.dex_base.specs.Fault.{memory};
 ghost use Rattle.file_layout.specs.Tiles.{zeros, gap};
 
-use base_bytes::Fault;
+use dex_base::Fault;
 
 /// How many bytes there are from a place to the next that 4 divides.
 pub fn gap_after(place: usize) -> usize
@@ -16,7 +16,7 @@ pub fn gap_after(place: usize) -> usize
 /// Appends as many zeros as there are from `place` to the next place that 4 divides: at most three bytes.
 ///
 /// It fails only when out of memory, and then nothing was added.
-pub fn pad_after(out: &mut Vec<u8>, place: usize) -> Result<(), Fault>
+pub(crate) fn pad_after(out: &mut Vec<u8>, place: usize) -> Result<(), Fault>
     ensures ok { OnOk result (out.new.items ≡ out.old.items ++ zeros (gap 4 place)) }
     ensures err { OnErr result (out.new.items ≡ out.old.items) }
     ensures memory { IsOkUnless result memory }

@@ -4,13 +4,13 @@ use Rattle.std.proofs.lemmas.Bool.{cases_lt, leb-true, leb-false}
 use Rattle.std.proofs.lemmas.Option.{slice_get_within}
 use Rattle.std.specs.Prelude.{nat_le, if◌then◌else◌}
 use Rattle.std.specs.List.{AllByRecursion, slice_get}
-use Rattle.base_bytes.specs.declared.fault.Fault.{Fault}
-use Rattle.code_fits.specs.Fits.{CodeBreaksLimit, FitsCode, IsUnfit}
-use Rattle.code_fits.proofs.BreakLaws.{fits_clear}
+use Rattle.dex_base.specs.declared.fault.Fault.{Fault}
+use Rattle.code_put.specs.Fits.{CodeBreaksLimit, FitsCode, IsUnfit}
+use Rattle.code_put.proofs.BreakLaws.{fits_clear}
 use Rattle.program_types.specs.Content.{Name, Code, Class, Program}
 use Rattle.file_limits.specs.Limits.{SomeBreaks, ClassBreaksLimit, IsFirstToBreak, codes_of}
 use Rattle.file_limits.specs.Lowest.{IsLowestBroken, IsLowestOf, lower, earlier}
-use Rattle.base_bytes.proofs.ListFacts.{get_last, slice_split, all_append, slice_left}
+use Rattle.dex_base.proofs.ListFacts.{get_last, slice_split, all_append, slice_left}
 
 -- ---- one body
 

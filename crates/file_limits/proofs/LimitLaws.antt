@@ -3,16 +3,16 @@ use Rattle.std.proofs.Common.{◌≡◌, ◌≢◌, Bool, true, false, ℕ, zero
 use Rattle.std.proofs.lemmas.Bool.{cases_lt, eqb-true, eqb-false}
 use Rattle.std.specs.Prelude.{if◌then◌else◌, IsTrue}
 use Rattle.std.specs.List.{AllByRecursion, slice_get}
-use Rattle.base_bytes.specs.declared.fault.Fault.{Fault}
-use Rattle.code_fits.proofs.BreakLaws.{breaks_range, clear_fits, fits_clear}
-use Rattle.code_fits.specs.Fits.{FitsCode}
+use Rattle.dex_base.specs.declared.fault.Fault.{Fault}
+use Rattle.code_put.proofs.BreakLaws.{breaks_range, clear_fits, fits_clear}
+use Rattle.code_put.specs.Fits.{FitsCode}
 use Rattle.tables_names.specs.Closure.{NameRanks}
 use Rattle.tables_names.specs.Needed.{needed}
 use Rattle.program_types.specs.Content.{Name, Code, Program}
 use Rattle.file_limits.specs.Limits.{BodyBreaks, ClassBreaksLimit, Fits, HandlerTooFar, IsFirstToBreak, IsLowestLimit, LimitBreaks, TooBig, TooManyProtos, TooManyTypes, codes_of}
 use Rattle.file_limits.specs.Lowest.{IsLowestOf, or_too_big}
 use Rattle.file_limits.specs.Wide.{wide}
-use Rattle.base_bytes.proofs.ListFacts.{all_there, some_inj}
+use Rattle.dex_base.proofs.ListFacts.{all_there, some_inj}
 
 abbrev N : Program → ℕ → Name → Type 0
 N p = NameRanks (needed p)

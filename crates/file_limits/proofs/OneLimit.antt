@@ -1,6 +1,6 @@
 -- Of a program one limit is told, at one place.
 use Rattle.std.proofs.Common.{◌≡◌, ℕ, refl, subst, arith}
-use Rattle.base_bytes.specs.declared.fault.Fault.{Fault}
+use Rattle.dex_base.specs.declared.fault.Fault.{Fault}
 use Rattle.program_types.specs.Content.{Program}
 use Rattle.file_limits.specs.Limits.{BodyBreaks, HandlerTooFar, IsLowestLimit, LimitBreaks, TooBig, TooManyProtos, TooManyTypes}
 use Rattle.file_limits.proofs.LimitLaws.{class_range}

@@ -4,8 +4,8 @@ use Rattle.std.proofs.lemmas.List.{length-map, length-take}
 use Rattle.std.proofs.lemmas.Option.{slice_get_within}
 use Rattle.std.specs.Option.{option_to_list}
 use Rattle.std.specs.List.{AllByRecursion, flat_map}
-use Rattle.base_bytes.specs.declared.fault.Fault.{Fault}
-use Rattle.code_fits.specs.Fits.{HasIndexBelow}
+use Rattle.dex_base.specs.declared.fault.Fault.{Fault}
+use Rattle.code_put.specs.Fits.{HasIndexBelow}
 use Rattle.tables_names.specs.Closure.{Five, NameRanks}
 use Rattle.program_types.specs.Content as content
 use Rattle.program_types.specs.Content.{Name, OfDesc, Code, Catch, Try}
@@ -18,7 +18,7 @@ use Rattle.program_types.specs.Kinds.{HasIndex}
 use Rattle.file_limits.specs.Limits.{codes_in}
 use Rattle.file_limits.specs.Lowest.{IsLowestBroken, IsLowestOf, lower, earlier}
 use Rattle.file_limits.proofs.BodyLaws.{both_least, class_more}
-use Rattle.base_bytes.proofs.ListFacts.{all_back, all_front, all_append, map_more}
+use Rattle.dex_base.proofs.ListFacts.{all_back, all_front, all_append, map_more}
 
 -- ---- the names in a body
 

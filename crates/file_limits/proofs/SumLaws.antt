@@ -14,7 +14,7 @@ use Rattle.program_types.specs.declared.value.Value as made
 use Rattle.dex_value.specs.Wide.{wide_value, wide_values}
 use Rattle.file_limits.specs.Sum.{IsSum}
 use Rattle.file_limits.specs.Wide.{wide_list}
-use Rattle.base_bytes.proofs.ListFacts.{map_more}
+use Rattle.dex_base.proofs.ListFacts.{map_more}
 
 -- what `plus` says
 abbrev pub Adds : ℕ → ℕ → ℕ → Type 0

@@ -3,8 +3,8 @@
 use Rattle.std.specs.Prelude.{◌≡◌, ℕ, ◌<◌, ◌≤◌, List, ◌++◌, length, Some}
 use Rattle.std.specs.List.{AllByRecursion, flat_map, slice_get}
 use Rattle.std.specs.Option.{option_to_list}
-use Rattle.base_bytes.specs.declared.fault.Fault.{Fault}
-use Rattle.code_fits.specs.Fits.{CodeBreaksLimit, FitsCode}
+use Rattle.dex_base.specs.declared.fault.Fault.{Fault}
+use Rattle.code_put.specs.Fits.{CodeBreaksLimit, FitsCode}
 use Rattle.tables_names.specs.Closure.{Five, NameRanks}
 use Rattle.tables_names.specs.Needed.{needed}
 use Rattle.program_types.specs.Content.{Name, Code, Method, Class, Program}

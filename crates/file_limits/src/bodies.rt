@@ -3,13 +3,13 @@
 ghost use Rattle.std.specs.Prelude.{◌≡◌, ℕ, ◌≤◌, ◌∷◌, [], Some, IfOk, IsOkUnless, length, map, option_map, slice_get};
 ghost use Rattle.std.specs.List.{AllByRecursion};
 ghost use Rattle.std.specs.Option.{option_to_list};
-ghost use Rattle.base_bytes.specs.Fault.{memory};
+ghost use Rattle.dex_base.specs.Fault.{memory};
 ghost use Rattle.file_limits.specs.Limits.{BodyIsReady, codes_in, codes_of};
 ghost use Rattle.file_limits.specs.Lowest.{IsLowestBroken, IsLowestOf, earlier, lower};
 ghost use Rattle.tables_names.specs.Closure.{NameRanks};
 ghost use Rattle.program_types.specs.View as view;
 
-use code_fits::fits;
+use code_put::fits;
 use dex_base::Fault;
 use program_types::{Class, Code, Method};
 use std::alloc::Global;
@@ -108,7 +108,7 @@ fn earlier_of(lowest: Option<Fault>, number: Option<u16>, class: usize) -> Optio
 }
 
 /// The lowest limit that a body of these classes breaks, at the number of the first class of which one does.
-pub fn lowest_of(
+pub(crate) fn lowest_of(
     alloc: Global,
     ranks: &Ranks<'_>,
     classes: &[Class<'_>],

@@ -1,7 +1,7 @@
 //! How many bytes bodies take at most.
 //! Page: "Dalvik Executable format", "code_item".
 ghost use Rattle.std.specs.Prelude.{◌*◌, map, option_map};
-ghost use Rattle.code_fits.specs.Fits.{catches_in, wide_code};
+ghost use Rattle.code_put.specs.Fits.{catches_in, wide_code};
 ghost use Rattle.file_layout.specs.Sections.{wide_all};
 ghost use Rattle.program_types.specs.Sizes.{length_of};
 ghost use Rattle.program_types.specs.View as view;
@@ -9,7 +9,7 @@ ghost use Rattle.file_limits.specs.Sum.{IsSum};
 ghost use Rattle.file_limits.specs.Wide.{bodies_in, wide_body};
 
 use crate::sums::{plus, times};
-use code_fits::units_of;
+use code_put::units_of;
 use program_types::{Code, Insn, Method, Try};
 
 /// How many bytes instructions take, two a unit.
@@ -55,7 +55,7 @@ fn body_size(body: Option<&Code<'_>>) -> u64
 }
 
 /// How many bytes the bodies of methods take at most.
-pub fn bodies_size(methods: &[Method<'_>]) -> u64
+pub(crate) fn bodies_size(methods: &[Method<'_>]) -> u64
     ensures { IsSum result (wide_all wide_body (bodies_in (map view.method methods.now))) }
 {
     let mut sum: u64 = 0;

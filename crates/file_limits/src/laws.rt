@@ -1,6 +1,6 @@
 //! Laws of the limits, each the contract of a function that does nothing else.
 ghost use Rattle.std.specs.Prelude.{◌≡◌};
-ghost use Rattle.base_bytes.specs.declared.fault.Fault.{Fault};
+ghost use Rattle.dex_base.specs.declared.fault.Fault.{Fault};
 ghost use Rattle.program_types.specs.Content.{Program};
 ghost use Rattle.file_limits.specs.Laws.{LimitsAreDecided, WideIsByParts};
 ghost use Rattle.file_limits.specs.Limits.{IsLowestLimit};

@@ -26,6 +26,3 @@ pub use file_size::is_too_big;
 pub use laws::{limits_are_decided, one_limit, wide_is_by_parts};
 pub use limits::check_limits;
 pub use sums::{plus, times};
-
-// What stands below, for the crates above.
-pub use code_fits::{make_item, mentions_in};

@@ -2,7 +2,7 @@
 //! Page: "Dalvik Executable format", "header_item": type_ids_size and proto_ids_size are at most 65535, file_size has four bytes.
 ghost use Rattle.std.specs.Prelude.{◌≡◌, ◌≢◌, ℕ, Some, IfErr, OnOk, slice_get};
 ghost use Rattle.std.specs.List.{AllByRecursion};
-ghost use Rattle.base_bytes.specs.Fault.{memory};
+ghost use Rattle.dex_base.specs.Fault.{memory};
 ghost use Rattle.file_limits.specs.Limits.{Fits, IsLowestLimit, BodyIsReady, codes_of};
 ghost use Rattle.file_limits.specs.Lowest.{or_too_big};
 ghost use Rattle.tables_names.specs.Needed.{needed};

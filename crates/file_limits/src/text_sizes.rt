@@ -38,7 +38,7 @@ fn string_size(text: Str<'_>) -> u64
 }
 
 /// How many bytes all strings take at most.
-pub fn strings_size(texts: &[Str<'_>]) -> u64
+pub(crate) fn strings_size(texts: &[Str<'_>]) -> u64
     ensures { IsSum result (wide_all wide_string (map key_of_str texts.now)) }
 {
     let mut sum: u64 = 0;
@@ -49,7 +49,7 @@ pub fn strings_size(texts: &[Str<'_>]) -> u64
 }
 
 /// How many bytes a type list takes at most: none if there is no type.
-pub fn list_size(types: &[Desc<'_>]) -> u64
+pub(crate) fn list_size(types: &[Desc<'_>]) -> u64
     ensures { IsSum result (wide_list (map view.desc types.now)) }
 {
     match types.len() {
@@ -59,7 +59,7 @@ pub fn list_size(types: &[Desc<'_>]) -> u64
 }
 
 /// How many bytes all prototypes take at most.
-pub fn protos_size(protos: &[Proto<'_>]) -> u64
+pub(crate) fn protos_size(protos: &[Proto<'_>]) -> u64
     ensures { IsSum result (wide_all wide_proto (map key_of_proto protos.now)) }
 {
     let mut sum: u64 = 0;

@@ -22,7 +22,7 @@ fn value_size(one: &Value<'_>) -> u64
 
 /// How many bytes values take at most, one after the other.
 #[cycle(values)]
-pub fn values_size(all: &[Value<'_>]) -> u64
+pub(crate) fn values_size(all: &[Value<'_>]) -> u64
     ensures { IsSum result (wide_values (content.values (map view.value all.now))) }
 {
     let mut sum: u64 = 0;

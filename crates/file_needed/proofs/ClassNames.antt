@@ -7,7 +7,7 @@ use Rattle.tables_names.proofs.NeededLemmas.{names_append, same_names}
 use Rattle.program_types.specs.Content as content
 use Rattle.program_types.specs.Content.{Name, OfText, OfDesc, values}
 use Rattle.program_types.specs.Mentions.{names_of_value, names_of_values, names_of_class, names_of_code, names_of_insn, names_of_method, names_of_try, field_of_class, if_any, mentions}
-use Rattle.base_bytes.proofs.ListFacts.{all_append, all_front, all_back}
+use Rattle.dex_base.proofs.ListFacts.{all_append, all_front, all_back}
 
 -- all that a method's body names
 abbrev names_of_body : content.Method → List Name

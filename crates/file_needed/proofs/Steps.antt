@@ -13,7 +13,7 @@ use Rattle.program_types.specs.Content.{Name, values}
 use Rattle.program_types.specs.Mentions.{names_of_value, names_of_values}
 use Rattle.program_types.specs.View.{value}
 use Rattle.program_types.specs.declared.value.Value.{Value}
-use Rattle.base_bytes.proofs.ListFacts.{map_more, all_front, all_back}
+use Rattle.dex_base.proofs.ListFacts.{map_more, all_front, all_back}
 
 -- one more name, of an element
 pub names_more : {A B : Type 0} (f : B → Name) (g : A → B) (s l new : Five) (xs : List A) (i : ℕ) (d : A) → i < length xs → l ≡ with_names s (map f (map g (take i xs))) → new ≡ with_name l (f (g (get_or xs i d)))

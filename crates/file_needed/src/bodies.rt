@@ -2,7 +2,7 @@
 //! Page: "Dalvik Executable format", "code_item" and "encoded_type_addr_pair"; "Dalvik bytecode" for what an index names.
 ghost use Rattle.std.specs.Prelude.{◌≡◌, ◌∷◌, [], map, option_map, OnOk, IsOkUnless};
 ghost use Rattle.std.specs.List.{AllByRecursion, flat_map};
-ghost use Rattle.base_bytes.specs.Fault.{memory};
+ghost use Rattle.dex_base.specs.Fault.{memory};
 ghost use Rattle.tables_names.specs.Closure.{HasShorty, with_names};
 ghost use Rattle.program_types.specs.Content.{OfDesc};
 ghost use Rattle.tables_names.specs.Noted.{AddsNoted};
@@ -10,7 +10,8 @@ ghost use Rattle.program_types.specs.Mentions.{if_any, names_of_insn, names_of_t
 ghost use Rattle.program_types.specs.View as view;
 
 use bumpalo::Bump;
-use program_types::{Catch, Code, Fault, Insn, Name, Try, name_of};
+use dex_base::Fault;
+use program_types::{Catch, Code, Insn, Name, Try, name_of};
 use tables_names::{Needed, Noted};
 
 /// Notes the name in an instruction, if it has one.
@@ -46,7 +47,7 @@ fn note_insns<'a, 'p: 'a>(
 }
 
 /// Notes what the instructions of a body name, if there is one.
-pub fn note_body<'a, 'p: 'a>(
+pub(crate) fn note_body<'a, 'p: 'a>(
     noted: &mut Noted<'a>,
     arena: &'a Bump,
     body: Option<&Code<'p>>,
@@ -84,7 +85,10 @@ fn add_tries<'a, 'p: 'a>(needed: &mut Needed<'a>, tries: &[Try<'p>]) -> Result<(
 }
 
 /// The types that a body catches, if there is one.
-pub fn add_caught<'a, 'p: 'a>(needed: &mut Needed<'a>, body: Option<&Code<'p>>) -> Result<(), Fault>
+pub(crate) fn add_caught<'a, 'p: 'a>(
+    needed: &mut Needed<'a>,
+    body: Option<&Code<'p>>,
+) -> Result<(), Fault>
     ensures added { OnOk result (needed.new ≡ with_names needed.old (if_any (λ c. flat_map names_of_try c.tries) (option_map (λ c. view.code c.now) body.entry))) }
     ensures memory { IsOkUnless result memory }
 {

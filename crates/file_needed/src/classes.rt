@@ -2,7 +2,7 @@
 //! Page: "Dalvik Executable format", "class_def_item", "class_data_item".
 ghost use Rattle.std.specs.Prelude.{◌≡◌, ◌∷◌, ◌++◌, List, [], map, option_map, IfOk, OnOk, IsOkUnless};
 ghost use Rattle.std.specs.List.{AllByRecursion, flat_map};
-ghost use Rattle.base_bytes.specs.Fault.{memory};
+ghost use Rattle.dex_base.specs.Fault.{memory};
 ghost use Rattle.file_needed.specs.Bodies.{caught_in_body, defined_in, named_in_body, named_in_class, named_in_code, other_names, own_names};
 ghost use Rattle.tables_names.specs.Closure.{HasShorty, with_names};
 ghost use Rattle.tables_names.specs.Needed.{needed};
@@ -15,9 +15,9 @@ ghost use Rattle.program_types.specs.View as view;
 
 use crate::bodies::{add_caught, note_body};
 use crate::values::add_values;
-use base_bytes::Seed;
 use bumpalo::Bump;
-use program_types::{Class, Desc, Fault, Method, Program, Str};
+use dex_base::{Fault, Seed};
+use program_types::{Class, Desc, Method, Program, Str};
 use std::alloc::Global;
 use tables_names::{Needed, Noted, Ranks};
 

@@ -2,7 +2,7 @@
 //! Page: "Dalvik Executable format", "encoded_value encoding".
 ghost use Rattle.std.specs.Prelude.{◌≡◌, map, OnOk, IsOkUnless};
 ghost use Rattle.std.specs.List.{AllByRecursion};
-ghost use Rattle.base_bytes.specs.Fault.{memory};
+ghost use Rattle.dex_base.specs.Fault.{memory};
 ghost use Rattle.tables_names.specs.Closure.{HasShorty, with_names};
 ghost use Rattle.program_types.specs.Content as content;
 ghost use Rattle.program_types.specs.Depth.{depth};
@@ -10,7 +10,8 @@ ghost use Rattle.program_types.specs.Mentions.{names_of_value, names_of_values};
 ghost use Rattle.program_types.specs.View as view;
 
 use bumpalo::Bump;
-use program_types::{Fault, Value};
+use dex_base::Fault;
+use program_types::Value;
 use tables_names::Needed;
 
 /// The name in a value that is no array.
@@ -54,7 +55,7 @@ fn add_value<'a, 'p: 'a>(
 
 /// The names in values.
 #[cycle(values)]
-pub fn add_values<'a, 'p: 'a>(
+pub(crate) fn add_values<'a, 'p: 'a>(
     needed: &mut Needed<'a>,
     arena: &'a Bump,
     all: &[Value<'p>],

@@ -3,7 +3,7 @@ use Rattle.std.proofs.Common.{◌≡◌, ◌≢◌, ℕ, zero, suc, ◌+◌, ◌
 use Rattle.std.specs.Prelude.{slice_index, IfSome}
 use Rattle.std.proofs.lemmas.Bool.{cases_lt, cases_eq}
 use Rattle.std.proofs.lemmas.List.{length-map}
-use Rattle.base_bytes.specs.declared.fault.Fault.{Fault}
+use Rattle.dex_base.specs.declared.fault.Fault.{Fault}
 use Rattle.dex_base.specs.Descriptor.{IsClass}
 use Rattle.dex_container.specs.Frame.{IsFramed}
 use Rattle.dex_container.specs.Layout.{size_of}
@@ -11,11 +11,11 @@ use Rattle.program_types.specs.Content.{Units, Method}
 use Rattle.program_types.specs.Content as content
 use Rattle.tables_rows.specs.Sorted.{TablesHold}
 use Rattle.tables_rows.specs.Stands.{StringStands, TypeStands, MethodStands}
-use Rattle.base_bytes.specs.Deciding.{Decided}
-use Rattle.base_bytes.proofs.Deciding.{decide_like, decide_both, decide_le, decide_eq, decide_list, decide_all, decide_below}
+use Rattle.dex_base.specs.Deciding.{Decided}
+use Rattle.dex_base.proofs.Deciding.{decide_like, decide_both, decide_le, decide_eq, decide_list, decide_all, decide_below}
 use Rattle.dex_base.proofs.NamesDecided.{decide_class}
-use Rattle.file_classes.proofs.RowsDecided.{decide_list_at, decide_types, decide_not}
-use Rattle.file_classes.proofs.RowsBreak.{HoldsOrBreaks, first_break}
+use Rattle.tables_rows.proofs.RowsDecided.{decide_list_at, decide_types, decide_not}
+use Rattle.tables_rows.proofs.RowsBreak.{HoldsOrBreaks, first_break}
 use Rattle.file_classes.specs.ClassRows.{class_word, no_index, IndexOrNone, InterfaceIndexes, NoneDefines, InOrder}
 use Rattle.file_classes.specs.ClassData.{FieldEntry, MethodEntry, Entries, EntriesAt, steps, index_of, FirstEntriesAre, EntriesAre}
 use Rattle.file_classes.specs.Classes.{NoTypeTwice, InterfacesAt, RowIs, IsField, IsMethod}
@@ -24,7 +24,7 @@ use Rattle.file_classes.proofs.EntryFaults.{run_holds, field_owned, method_owned
 use Rattle.file_classes.proofs.EntryLaws.{entry_at, runs_none, runs_more}
 use Rattle.file_classes.proofs.HeadLaws.{to_each, no_classes, not_distinct}
 use Rattle.file_classes.proofs.MemberLaws.{field_stands}
-use Rattle.file_classes.proofs.Deciding.{decide-all-below, decide-implied}
+use Rattle.code_read.proofs.Deciding.{decide-all-below, decide-implied}
 use Rattle.file_read.proofs.DataDecided.{decide_entries_at}
 
 -- ---- interfaces

@@ -1,15 +1,15 @@
 -- Whether class data stands at a place is decided.
 use Rattle.std.proofs.Common.{◌≡◌, ℕ, Bool, true, false, inl, inr, List, length, refl, sym, subst}
 use Rattle.std.specs.Prelude.{MatchBool, ◌==◌}
-use Rattle.base_bytes.specs.Grammar.{Takes, Then, Pair, Many}
-use Rattle.base_bytes.specs.Leb128.{Spells}
-use Rattle.base_bytes.proofs.GrammarLaws.{Many-unique}
-use Rattle.base_bytes.proofs.Numbers.{spells_unique}
+use Rattle.dex_base.specs.Grammar.{Takes, Then, Pair, Many}
+use Rattle.dex_base.specs.Leb128.{Spells}
+use Rattle.dex_base.proofs.GrammarLaws.{Many-unique}
+use Rattle.dex_base.proofs.Numbers.{spells_unique}
 use Rattle.dex_container.specs.Frame.{IsFramed}
 use Rattle.dex_container.specs.Where.{At}
-use Rattle.base_bytes.specs.Deciding.{Decided, DecidedFront}
-use Rattle.base_bytes.proofs.Deciding.{decide_uleb}
-use Rattle.file_classes.proofs.Deciding.{decide-then, decide-many}
+use Rattle.dex_base.specs.Deciding.{Decided, DecidedFront}
+use Rattle.dex_base.proofs.Deciding.{decide_uleb}
+use Rattle.code_read.proofs.Deciding.{decide-then, decide-many}
 use Rattle.dex_container.proofs.PlacesDecided.{decide_at}
 use Rattle.file_classes.specs.ClassData.{FieldEntry, MethodEntry, Entries, no_entries, counts_of, lists_of, SpellsFieldEntry, SpellsMethodEntry, SpellsCounts, SpellsLists, SpellsEntries, EntriesAt}
 use Rattle.file_classes.proofs.EntryLaws.{field_unique, method_unique, counts_unique}

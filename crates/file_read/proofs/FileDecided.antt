@@ -2,7 +2,7 @@
 use Rattle.std.proofs.Common.{◌≡◌, ℕ, zero, suc, ◌<◌, ◌≤◌, ◌⊎◌, inl, inr, List, [], length, Option, Some, None, refl, sym, ap, ◌∙◌, subst, arith, slice_get}
 use Rattle.std.proofs.lemmas.Bool.{cases_lt, cases_eq}
 use Rattle.std.proofs.lemmas.Option.{slice_get_within}
-use Rattle.base_bytes.specs.declared.fault.Fault.{Fault}
+use Rattle.dex_base.specs.declared.fault.Fault.{Fault}
 use Rattle.dex_container.specs.Frame.{IsFramed}
 use Rattle.dex_container.specs.Layout.{size_of}
 use Rattle.program_types.specs.Content.{Code, Program}
@@ -11,15 +11,15 @@ use Rattle.tables_rows.specs.RowFields.{row_place}
 use Rattle.tables_rows.specs.Sorted.{RowsHold, TablesHold}
 use Rattle.tables_rows.specs.Stands.{NameStands}
 use Rattle.tables_rows.proofs.NameLaws.{names_stand, stands_names}
-use Rattle.file_classes.proofs.FileLemmas.{tables_have_names}
-use Rattle.file_classes.proofs.RowsBreak.{tables_are_decided}
-use Rattle.base_bytes.specs.Fields.{AreBytes}
-use Rattle.file_classes.proofs.ArraysDecided.{arrays_are_decided}
-use Rattle.file_classes.proofs.Carrying.{file_breaks}
-use Rattle.file_classes.specs.Code.{BodyStands}
-use Rattle.file_classes.specs.Faults.{CodeBreaks}
-use Rattle.file_classes.proofs.CarryLaws.{body_weaker}
-use Rattle.file_classes.proofs.StandLaws.{body_code}
+use Rattle.tables_rows.proofs.FileLemmas.{tables_have_names}
+use Rattle.tables_rows.proofs.RowsBreak.{tables_are_decided}
+use Rattle.dex_base.specs.Fields.{AreBytes}
+use Rattle.dex_value.proofs.ArraysDecided.{arrays_are_decided}
+use Rattle.dex_value.proofs.Carrying.{file_breaks}
+use Rattle.code_read.specs.Code.{BodyStands}
+use Rattle.code_read.specs.Faults.{CodeBreaks}
+use Rattle.code_read.proofs.CarryLaws.{body_weaker}
+use Rattle.code_read.proofs.StandLaws.{body_code}
 use Rattle.file_read.specs.Broken.{Broken}
 use Rattle.file_classes.specs.ClassRows.{class_word}
 use Rattle.file_classes.specs.ClassData.{MethodEntry, Entries, EntriesAt}
@@ -30,7 +30,7 @@ use Rattle.file_read.specs.Refused.{IsRefused}
 use Rattle.file_classes.proofs.EntryLaws.{entry_at, at_some}
 use Rattle.file_read.proofs.PassLaws.{program_meant, table_refused}
 use Rattle.file_read.proofs.FirstLaws.{means_clear, refused_broken}
-use Rattle.file_classes.proofs.CodesDecided.{body-decided, registers-decided}
+use Rattle.code_read.proofs.CodesDecided.{body-decided, registers-decided}
 use Rattle.file_read.specs.FileDeciding.{MeansOrRefused}
 use Rattle.file_read.proofs.ClassesDecided.{classes_are_decided}
 use Rattle.file_classes.proofs.StaticsLaws.{at_other, at_none}

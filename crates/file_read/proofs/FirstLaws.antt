@@ -1,6 +1,6 @@
 -- A fault that is answered stands, and no fault of an earlier group does.
 use Rattle.std.proofs.Common.{ℕ, List, arith}
-use Rattle.base_bytes.specs.declared.fault.Fault.{Fault}
+use Rattle.dex_base.specs.declared.fault.Fault.{Fault}
 use Rattle.dex_container.specs.Frame.{IsFramed}
 use Rattle.dex_container.specs.Layout.{size_of}
 use Rattle.dex_container.proofs.Framed.{framed_clear}

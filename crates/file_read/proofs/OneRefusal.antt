@@ -1,10 +1,10 @@
 -- A file is refused with one fault, and none that means a program is.
 use Rattle.std.proofs.Common.{◌≡◌, ℕ, inl, inr, List, arith}
 use Rattle.std.proofs.lemmas.Bool.{cases_lt}
-use Rattle.base_bytes.specs.declared.fault.Fault.{Fault}
+use Rattle.dex_base.specs.declared.fault.Fault.{Fault}
 use Rattle.dex_container.proofs.OneFault.{one_fault}
 use Rattle.program_types.specs.Content.{Program}
-use Rattle.file_classes.proofs.tables_laws_OneFault.{first_one, one_table_fault}
+use Rattle.tables_rows.proofs.OneFault.{first_one, one_table_fault}
 use Rattle.file_classes.specs.ClassFaults.{ClassRowBreaks, ClassRowHolds, ValuesBreak, ValuesHold, BodiesBreak, BodiesHold, RowRegistersBreak, RowRegistersHold}
 use Rattle.file_classes.proofs.RowFaults.{class_clear, class_number}
 use Rattle.file_classes.proofs.ClearLaws.{values_clear, bodies_clear, methods_clear}

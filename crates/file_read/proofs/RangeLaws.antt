@@ -4,10 +4,10 @@ use Rattle.std.specs.Prelude.{MatchBool, ◌==◌, slice_index, FitsSigned}
 use Rattle.std.specs.Int.{Width, w8, w16, w32, w64}
 use mir.Val.{hbits}
 use Rattle.std.specs.List.{AllByRecursion, AllZip}
-use Rattle.base_bytes.specs.Fields.{AreBytes}
-use Rattle.base_bytes.specs.Grammar.{Each}
-use Rattle.base_bytes.specs.Leb128.{Spells}
-use Rattle.base_bytes.proofs.FieldBounds.{u32_at-fits}
+use Rattle.dex_base.specs.Fields.{AreBytes}
+use Rattle.dex_base.specs.Grammar.{Each}
+use Rattle.dex_base.specs.Leb128.{Spells}
+use Rattle.dex_base.proofs.FieldBounds.{u32_at-fits}
 use Rattle.dex_base.specs.Mutf8.{SpellsUnit}
 use Rattle.dex_container.specs.Frame.{IsFramed}
 use Rattle.dex_container.specs.Where.{At}
@@ -19,18 +19,18 @@ use Rattle.program_rules.specs.Ranges.{ProtoInRange, NameInRange, ValueInRange, 
 use Rattle.program_rules.specs.WellFormed.{WellFormed}
 use Rattle.tables_rows.specs.Stands.{StringStands, TypeStands, ProtoStands, NameStands}
 use Rattle.tables_rows.proofs.TypeLists.{indexes_of}
-use Rattle.file_classes.specs.FileNames.{HasRow}
-use Rattle.file_classes.specs.Spelling.{SpellsValue, SpellsValues, unsigned_of, signed_of, high_of}
-use Rattle.file_classes.specs.Standing.{ArrayStands}
-use Rattle.file_classes.specs.Writing.{magnitude_of}
-use Rattle.file_classes.proofs.Ranges.{power_most, unsigned_below, high_below}
-use Rattle.file_classes.proofs.Narrow.{twos_size}
+use Rattle.tables_rows.specs.FileNames.{HasRow}
+use Rattle.dex_value.specs.Spelling.{SpellsValue, SpellsValues, unsigned_of, signed_of, high_of}
+use Rattle.dex_value.specs.Standing.{ArrayStands}
+use Rattle.dex_value.specs.Writing.{magnitude_of}
+use Rattle.dex_value.proofs.Ranges.{power_most, unsigned_below, high_below}
+use Rattle.dex_value.proofs.Narrow.{twos_size}
 use Rattle.file_classes.specs.ClassRows.{class_word}
 use Rattle.file_classes.specs.ClassData.{FieldEntry, MethodEntry, Entries, no_entries, SpellsFieldEntry, SpellsMethodEntry, SpellsEntries, EntriesAt, EntriesAre}
 use Rattle.file_classes.specs.Classes.{IsField, IsMethod, StaticsAt, CodesAre, SpellsClass}
 use Rattle.file_read.specs.Means.{Means}
 use Rattle.file_read.proofs.WellLaws.{run_entry, class_rows, code_formed, rules_hold}
-use Rattle.base_bytes.proofs.ListFacts.{all_there}
+use Rattle.dex_base.proofs.ListFacts.{all_there}
 use Rattle.std.proofs.lemmas.Option.{IfSome_then}
 
 -- ---- names

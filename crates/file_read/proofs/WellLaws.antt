@@ -22,12 +22,12 @@ use Rattle.tables_rows.specs.Sorted.{TablesHold}
 use Rattle.tables_rows.specs.Stands.{StringStands, TypeStands, ProtoStands, NameStands}
 use Rattle.program_types.specs.Kinds.{void}
 use Rattle.program_types.specs.Formed.{IsFormed, RegistersHold}
-use Rattle.base_bytes.specs.Fields.{AreBytes}
+use Rattle.dex_base.specs.Fields.{AreBytes}
 use Rattle.tables_rows.proofs.TypeLists.{indexes_of}
-use Rattle.file_classes.specs.FileNames.{HasRow, IsMentionedIn}
-use Rattle.file_classes.proofs.FileLemmas.{fields_compare, methods_compare, name_row_one}
-use Rattle.file_classes.specs.Standing.{ArrayStands}
-use Rattle.file_classes.proofs.FileFaults.{names_have_rows}
+use Rattle.tables_rows.specs.FileNames.{HasRow, IsMentionedIn}
+use Rattle.tables_rows.proofs.FileLemmas.{fields_compare, methods_compare, name_row_one}
+use Rattle.dex_value.specs.Standing.{ArrayStands}
+use Rattle.dex_value.proofs.FileFaults.{names_have_rows}
 use Rattle.file_classes.specs.ClassRows.{class_word, no_index, IndexOrNone, NoneDefines}
 use Rattle.file_classes.specs.ClassData.{FieldEntry, MethodEntry, steps, index_of, EntriesAre}
 use Rattle.file_classes.specs.Classes as classes
@@ -36,11 +36,11 @@ use Rattle.file_read.specs.Means.{Means}
 use Rattle.file_classes.proofs.EntryLaws.{entry_at}
 use Rattle.program_rules.specs.Valid.{IsValueType, IsValidProto, IsValidName}
 use Rattle.program_rules.specs.Rules.{KeysRise, member_key, method_key, IsOfType, NoneFrom, AreDistinct, OrderHolds, CodesHold, RulesHold}
-use Rattle.program_rules.proofs.OperandLaws.{formed_operands}
-use Rattle.program_rules.specs.CodeRules.{OperandsHold, TargetsHold, PayloadsHold, TriesHold}
-use Rattle.file_classes.proofs.CodesFormed.{standing-formed}
-use Rattle.file_classes.proofs.NamesHaveRows as codes
-use Rattle.base_bytes.proofs.ListFacts.{all_append, all_there}
+use Rattle.program_code_rules.proofs.OperandLaws.{formed_operands}
+use Rattle.program_code_rules.specs.CodeRules.{OperandsHold, TargetsHold, PayloadsHold, TriesHold}
+use Rattle.code_read.proofs.CodesFormed.{standing-formed}
+use Rattle.code_read.proofs.NamesHaveRows as codes
+use Rattle.dex_base.proofs.ListFacts.{all_append, all_there}
 
 -- ---- a name that stands is one of its kind
 

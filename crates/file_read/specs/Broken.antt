@@ -1,6 +1,6 @@
 -- Where a fault of a group stands, whatever stands before it.
 use Rattle.std.specs.Prelude.{ℕ, ◌<◌, List}
-use Rattle.base_bytes.specs.declared.fault.Fault.{Fault}
+use Rattle.dex_base.specs.declared.fault.Fault.{Fault}
 use Rattle.dex_container.specs.Layout.{size_of}
 use Rattle.dex_container.specs.Faults.{FrameBreaks}
 use Rattle.dex_container.specs.Section as section

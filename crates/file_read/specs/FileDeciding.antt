@@ -1,7 +1,7 @@
 -- What is decided of a file.
 -- Page: "Dalvik Executable format".
 use Rattle.std.specs.Prelude.{ℕ, ◌⊎◌, List}
-use Rattle.base_bytes.specs.declared.fault.Fault.{Fault}
+use Rattle.dex_base.specs.declared.fault.Fault.{Fault}
 use Rattle.program_types.specs.Content.{Program}
 use Rattle.file_read.specs.Means.{Means}
 use Rattle.file_read.specs.Refused.{IsRefused}

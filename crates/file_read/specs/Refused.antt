@@ -1,6 +1,6 @@
 -- Why a file is not read: the first fault, group by group.
 use Rattle.std.specs.Prelude.{ℕ, List}
-use Rattle.base_bytes.specs.declared.fault.Fault.{Fault}
+use Rattle.dex_base.specs.declared.fault.Fault.{Fault}
 use Rattle.dex_container.specs.Faults.{IsFrameFault}
 use Rattle.tables_rows.specs.TableFaults.{IsStringFault, IsTypeFault, IsProtoFault, IsFieldFault, IsMethodFault}
 use Rattle.file_classes.specs.ClassFaults.{IsClassFault, IsValueFault, IsCodeFault, IsRegisterFault}

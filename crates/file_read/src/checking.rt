@@ -1,6 +1,6 @@
 //! Whether the bytes of a file mean a program.
 ghost use Rattle.std.specs.Prelude.{◌≡◌, ◌≢◌, IfErr, OnOk};
-ghost use Rattle.base_bytes.specs.Fault.{memory};
+ghost use Rattle.dex_base.specs.Fault.{memory};
 ghost use Rattle.program_types.specs.Content.{Program};
 ghost use Rattle.file_read.specs.Means.{Means};
 ghost use Rattle.file_read.specs.Refused.{IsRefused};

@@ -5,13 +5,13 @@
 //! ```
 
 ghost use Rattle.std.specs.Prelude.{ℕ, ◌<◌, ◌⊎◌, ◌↔◌, List};
-ghost use Rattle.base_bytes.specs.Fields.{AreBytes};
-ghost use Rattle.base_bytes.specs.declared.fault.Fault.{Fault};
+ghost use Rattle.dex_base.specs.Fields.{AreBytes};
+ghost use Rattle.dex_base.specs.declared.fault.Fault.{Fault};
 ghost use Rattle.dex_container.specs.Frame.{IsFramed};
 ghost use Rattle.program_types.specs.Content.{Program};
 ghost use Rattle.program_rules.specs.WellFormed.{WellFormed};
 ghost use Rattle.tables_rows.specs.Sorted.{TablesHold};
-ghost use Rattle.file_classes.specs.FileNames.{IsMentionedIn};
+ghost use Rattle.tables_rows.specs.FileNames.{IsMentionedIn};
 ghost use Rattle.dex_container.specs.Layout.{size_of};
 ghost use Rattle.dex_container.specs.Section as section;
 ghost use Rattle.file_classes.specs.ClassFaults.{ClassRowHolds, ClassRowBreaks, ClassRowsHold, IsClassFault, ValuesHold, ValuesBreak, BodiesHold, BodiesBreak, RowRegistersHold, RowRegistersBreak};
@@ -19,7 +19,7 @@ ghost use Rattle.file_read.specs.Broken.{Broken};
 ghost use Rattle.file_read.specs.Means.{Means};
 ghost use Rattle.file_read.specs.FileDeciding.{MeansOrRefused};
 
-use base_bytes::are_bytes;
+use dex_base::are_bytes;
 use dex_container::open;
 
 /// Where the tables hold, the class rows hold, or a fault of class rows stands.

@@ -1,6 +1,6 @@
 //! Laws of reading, each the contract of a function that does nothing.
 ghost use Rattle.std.specs.Prelude.{◌≡◌, ℕ, List};
-ghost use Rattle.base_bytes.specs.declared.fault.Fault.{Fault};
+ghost use Rattle.dex_base.specs.declared.fault.Fault.{Fault};
 ghost use Rattle.file_read.specs.Broken.{Broken, GroupBreaks};
 ghost use Rattle.file_read.specs.Groups.{Group, IsAskedBefore};
 ghost use Rattle.file_read.specs.Means.{Means};

@@ -1,14 +1,13 @@
 //! From the bytes of a file to its program.
 ghost use Rattle.std.specs.Prelude.{◌≡◌, ◌≢◌, IfOk, IfErr};
-ghost use Rattle.base_bytes.specs.Fault.{memory};
+ghost use Rattle.dex_base.specs.Fault.{memory};
 ghost use Rattle.program_types.specs.View as view;
 ghost use Rattle.file_read.specs.Means.{Means};
 ghost use Rattle.file_read.specs.Refused.{IsRefused};
 ghost use Rattle.program_rules.specs.WellFormed.{WellFormed};
 
-use base_bytes::are_bytes;
 use bumpalo::Bump;
-use dex_base::Fault;
+use dex_base::{Fault, are_bytes};
 use dex_container::open;
 use file_classes::{read_classes, read_heads, read_statics};
 use program_types::Program;

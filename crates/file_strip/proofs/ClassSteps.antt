@@ -10,15 +10,15 @@ use Rattle.tables_names.specs.Needed.{needed}
 use Rattle.tables_names.proofs.NeededLemmas.{names_append}
 use Rattle.tables_rows.specs.Names.{AreRows}
 use Rattle.file_layout.specs.Sections.{wide_all}
-use Rattle.file_assemble.specs.file_limits_Wide.{wide_class}
-use Rattle.file_assemble.proofs.SumLaws.{wide_all_append}
+use Rattle.file_limits.specs.Wide.{wide_class}
+use Rattle.file_limits.proofs.SumLaws.{wide_all_append}
 use Rattle.dex_container.specs.Frame.{IsFramed}
 use Rattle.program_types.specs.Content.{Class, Name, Program}
 use Rattle.program_types.specs.Mentions.{field_of_class, names_of_class, names_of_method, names_of_value}
-use Rattle.file_assemble.specs.ClassRows.{class_word}
-use Rattle.file_assemble.specs.ClassData.{Entries, EntriesAt}
-use Rattle.file_assemble.specs.Classes.{CodesAre, MembersAre, SpellsClass}
-use Rattle.file_assemble.proofs.EntryLaws.{entries_one, entry_at}
+use Rattle.file_classes.specs.ClassRows.{class_word}
+use Rattle.file_classes.specs.ClassData.{Entries, EntriesAt}
+use Rattle.file_classes.specs.Classes.{CodesAre, MembersAre, SpellsClass}
+use Rattle.file_classes.proofs.EntryLaws.{entries_one, entry_at}
 use Rattle.file_strip.specs.Survey.{AreFound, FindsNames, SpellsMembers, names_of_head, names_of_members}
 use Rattle.file_strip.specs.declared.survey.Found.{Found}
 use Rattle.file_strip.proofs.WalkLaws.{take_next}

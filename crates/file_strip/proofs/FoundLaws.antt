@@ -6,17 +6,17 @@ use Rattle.std.specs.List.{AllByRecursion, flat_map}
 use Rattle.std.specs.HashMap.{HashMap}
 use Rattle.dex_container.specs.Frame.{IsFramed}
 use Rattle.dex_container.proofs.Standing.{At-one}
-use Rattle.file_assemble.specs.Spelling.{SpellsArray}
-use Rattle.file_assemble.specs.Standing.{ArrayStands}
-use Rattle.file_assemble.specs.dex_value_Wide.{wide_values}
-use Rattle.file_assemble.proofs.FrontLaws.{SpellsArray-unique}
-use Rattle.file_assemble.proofs.Carrying.{NameStands-functional}
-use Rattle.file_assemble.specs.Code.{CodeStands}
-use Rattle.file_assemble.proofs.CodeLaws.{code_one}
-use Rattle.file_assemble.specs.Fits.{wide_code}
-use Rattle.file_assemble.specs.ClassRows.{IndexOrNone, no_index}
-use Rattle.file_assemble.specs.Classes.{CodeAt, SomeCodeStands, StaticsAt}
-use Rattle.file_assemble.proofs.file_classes_OnceLaws.{one_of_kind}
+use Rattle.dex_value.specs.Spelling.{SpellsArray}
+use Rattle.dex_value.specs.Standing.{ArrayStands}
+use Rattle.dex_value.specs.Wide.{wide_values}
+use Rattle.dex_value.proofs.FrontLaws.{SpellsArray-unique}
+use Rattle.dex_value.proofs.Carrying.{NameStands-functional}
+use Rattle.code_read.specs.Code.{CodeStands}
+use Rattle.code_read.proofs.CodeLaws.{code_one}
+use Rattle.code_put.specs.Fits.{wide_code}
+use Rattle.file_classes.specs.ClassRows.{IndexOrNone, no_index}
+use Rattle.file_classes.specs.Classes.{CodeAt, SomeCodeStands, StaticsAt}
+use Rattle.file_classes.proofs.OnceLaws.{one_of_kind}
 use Rattle.tables_rows.specs.Stands.{NameStands}
 use Rattle.program_types.specs.Content.{Name, Code, Units, Value, values}
 use Rattle.program_types.specs.Mentions.{names_of_code, names_of_value}
@@ -24,7 +24,7 @@ use Rattle.tables_names.specs.Closure.{Five, AreRising, Holds, IsClosed, closure
 use Rattle.tables_names.proofs.FiveLemmas.{part_adds_nothing}
 use Rattle.tables_names.proofs.NeededLemmas.{holds_part, names_append, with_names-grows, with_names-holds, closure_part}
 use Rattle.tables_rows.specs.Cached.{AreCached}
-use Rattle.file_kept.specs.Marked.{AddsNames, HasMarks, Marked}
+use Rattle.file_renumber.specs.Marked.{AddsNames, HasMarks, Marked}
 use Rattle.file_strip.specs.Survey.{AreFound, ArrayIsFound, CodeIsFound, FindsNames, HasFound}
 use Rattle.file_strip.specs.declared.survey.Found.{Found}
 

@@ -8,18 +8,18 @@ use Rattle.std.proofs.lemmas.Option.{get_or_from_slice_get, slice_get_within}
 use Rattle.dex_insn.specs.declared.opcode.IndexKind.TheVariants as kind
 use Rattle.program_types.specs.Content.{Name, OfMethod, Units, Member, Method}
 use Rattle.program_types.specs.Mentions.{field_of_class, names_of_method}
-use Rattle.file_kept.specs.Marked.{AddsNames, HasMarks, IsRowOf, Marked}
-use Rattle.file_kept.proofs.MarkLemmas.{adds_more}
+use Rattle.file_renumber.specs.Marked.{AddsNames, HasMarks, IsRowOf, Marked}
+use Rattle.file_renumber.proofs.MarkLemmas.{adds_more}
 use Rattle.file_layout.specs.Sections.{wide_all}
-use Rattle.file_assemble.specs.file_limits_Wide.{bodies_in, wide_body}
-use Rattle.file_assemble.proofs.SumLaws.{wide_all_append}
-use Rattle.file_assemble.specs.ClassData.{FieldEntry, MethodEntry, EntriesAre, index_of, steps}
-use Rattle.file_assemble.specs.Classes.{IsField, IsMethod}
-use Rattle.file_assemble.specs.declared_FieldEntry.{FieldEntry as Field}
-use Rattle.file_assemble.specs.declared_MethodEntry.{MethodEntry as Entry}
-use Rattle.file_assemble.specs.Reading.{field_entry, method_entry}
-use Rattle.file_assemble.proofs.EntryLaws.{entry_at}
-use Rattle.file_assemble.proofs.MemberLaws.{next_index, there}
+use Rattle.file_limits.specs.Wide.{bodies_in, wide_body}
+use Rattle.file_limits.proofs.SumLaws.{wide_all_append}
+use Rattle.file_classes.specs.ClassData.{FieldEntry, MethodEntry, EntriesAre, index_of, steps}
+use Rattle.file_classes.specs.Classes.{IsField, IsMethod}
+use Rattle.file_classes.specs.declared.class_data.FieldEntry.{FieldEntry as Field}
+use Rattle.file_classes.specs.declared.class_data.MethodEntry.{MethodEntry as Entry}
+use Rattle.file_classes.specs.Reading.{field_entry, method_entry}
+use Rattle.file_classes.proofs.EntryLaws.{entry_at}
+use Rattle.file_classes.proofs.MemberLaws.{next_index, there}
 use Rattle.file_strip.specs.Survey.{FindsNames}
 use Rattle.file_strip.specs.declared.survey.Found.{Found}
 use Rattle.file_strip.proofs.FoundLaws.{finds_more}

@@ -2,11 +2,11 @@
 -- Page: "Dalvik Executable format", "header_item": type_ids_size and proto_ids_size are at most 65535, file_size has four bytes.
 use Rattle.std.specs.Prelude.{ℕ, ◌≤◌, List, length}
 use Rattle.program_types.specs.Content.{Program}
-use Rattle.file_assemble.specs.WellFormed.{WellFormed}
+use Rattle.program_rules.specs.WellFormed.{WellFormed}
 use Rattle.tables_names.specs.Needed.{needed}
-use Rattle.file_kept.specs.Marked.{Columns}
-use Rattle.file_assemble.specs.file_limits_Wide.{wide}
-use Rattle.file_kept.specs.Keeping.{Keeps}
+use Rattle.file_renumber.specs.Marked.{Columns}
+use Rattle.file_limits.specs.Wide.{wide}
+use Rattle.file_strip.specs.Keeping.{Keeps}
 
 -- These are the numbers of the rows that the program needs; it is well formed, and a file has room for it.
 pub record IsReady (b : List ℕ) (numbers : Columns) (p : Program) : Type 0 where

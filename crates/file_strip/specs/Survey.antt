@@ -7,20 +7,20 @@ use Rattle.program_types.specs.Mentions.{field_of_class, if_any, names_of_code, 
 use Rattle.tables_names.specs.Closure.{Five, Holds, with_names}
 use Rattle.tables_rows.specs.Cached.{AreCached}
 use Rattle.tables_rows.specs.Stands.{NameStands}
-use Rattle.file_kept.specs.Marked.{AreMarks}
+use Rattle.file_renumber.specs.Marked.{AreMarks}
 use Rattle.dex_container.specs.Where.{IsSectionOf}
-use Rattle.file_assemble.specs.Standing.{ArrayStands}
-use Rattle.file_assemble.specs.dex_value_Wide.{wide_array, wide_values}
-use Rattle.file_assemble.specs.Code.{CodeStands}
-use Rattle.file_assemble.specs.Fits.{wide_code}
+use Rattle.dex_value.specs.Standing.{ArrayStands}
+use Rattle.dex_value.specs.Wide.{wide_array, wide_values}
+use Rattle.code_read.specs.Code.{CodeStands}
+use Rattle.code_put.specs.Fits.{wide_code}
 use Rattle.file_layout.specs.Sections.{wide_all}
-use Rattle.file_assemble.specs.Sum.{IsSum}
-use Rattle.file_assemble.specs.file_limits_Wide.{bodies_of, wide_body, wide_class, wide_data}
-use Rattle.file_assemble.specs.ClassData.{Entries, EntriesAre}
-use Rattle.file_assemble.specs.Classes.{CodesAre, IsField, IsMethod, MembersAre, StaticsAt}
-use Rattle.file_assemble.specs.Reading.{field_entry, method_entry}
-use Rattle.file_assemble.specs.declared_FieldEntry.{FieldEntry}
-use Rattle.file_assemble.specs.declared_MethodEntry.{MethodEntry}
+use Rattle.file_limits.specs.Sum.{IsSum}
+use Rattle.file_limits.specs.Wide.{bodies_of, wide_body, wide_class, wide_data}
+use Rattle.file_classes.specs.ClassData.{Entries, EntriesAre}
+use Rattle.file_classes.specs.Classes.{CodesAre, IsField, IsMethod, MembersAre, StaticsAt}
+use Rattle.file_classes.specs.Reading.{field_entry, method_entry}
+use Rattle.file_classes.specs.declared.class_data.FieldEntry.{FieldEntry}
+use Rattle.file_classes.specs.declared.class_data.MethodEntry.{MethodEntry}
 use Rattle.tables_names.specs.Needed.{needed}
 use Rattle.file_strip.specs.declared.survey.Found.{Found}
 use Rattle.file_strip.specs.declared.survey.Survey.{Survey}

@@ -1,8 +1,12 @@
-//! A file without what it doesn't need, by its rows: the rows that its classes mention are marked, with their parts; each item is spelled
-//! anew with the numbers of the kept rows. No name is read, and nothing is looked up but offsets and the bytes of items.
+//! A file without what its program doesn't need, from its rows: those that the classes mention are marked, with their parts; then each item
+//! goes from bytes to bytes, with the numbers of the kept rows in place of the rows' indices, in its fewest bytes. No name is read, and
+//! nothing is looked up but offsets and the bytes of items: what stood at one offset is looked at once, and equal results stand once.
+//!
+//! Laws say how small the tables of a file can be, and that no program is refused that another file could hold.
 //!
 //! ```text
-//! let small = strip_framed(alloc, seed, &sections)?; // of a file that means a program
+//! let survey = look_at_classes(alloc, seed, &sections)?; // which rows are needed, and how many bytes the items take at most
+//! let small = strip_framed(alloc, seed, &sections)?; // the file of these, of a file that means a program
 //! ```
 //!
 //! docs/MAP.md says where this crate stands among the others.
@@ -10,13 +14,28 @@
 
 // What is needed, and how many bytes it takes at most.
 mod members;
+mod sizes;
 mod survey;
 
-// The file of that.
+// Where what stood at an offset stands, and a word of each row of class_defs.
+mod class_words;
+mod moved;
+
+// The parts of the data section.
+mod arrays;
+mod codes;
+mod datas;
+mod lists;
+mod texts;
+
+// The rows of the tables.
+mod class_defs;
+mod tables;
+
+// The whole file, and what every file of a program has at least.
+mod least_laws;
 mod stripping;
 
+pub use least_laws::{needed_names_have_rows, no_refusal_in_vain, standing_codes_fit};
 pub use stripping::strip_framed;
 pub use survey::{Survey, look_at_classes};
-
-// What stands below, for the crates above.
-pub use file_assemble::assemble;

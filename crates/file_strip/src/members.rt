@@ -2,22 +2,23 @@
 //! Page: "Dalvik Executable format", "class_data_item".
 ghost use Rattle.std.specs.Prelude.{◌≡◌, Option, map, IfOk, OnOk, IsOkUnless};
 ghost use Rattle.std.specs.List.{flat_map};
-ghost use Rattle.base_bytes.specs.Fault.{memory};
+ghost use Rattle.dex_base.specs.Fault.{memory};
 ghost use Rattle.program_types.specs.Content.{Code};
 ghost use Rattle.program_types.specs.Mentions.{if_any, field_of_class, names_of_code, names_of_method};
-ghost use Rattle.file_kept.specs.Marked.{HasMarks, AddsNames};
+ghost use Rattle.file_renumber.specs.Marked.{HasMarks, AddsNames};
 ghost use Rattle.file_layout.specs.Sections.{wide_all};
-ghost use Rattle.file_assemble.specs.Sum.{IsSum};
-ghost use Rattle.file_assemble.specs.file_limits_Wide.{bodies_in, wide_body};
-ghost use Rattle.file_assemble.specs.Classes.{CodeAt};
+ghost use Rattle.file_limits.specs.Sum.{IsSum};
+ghost use Rattle.file_limits.specs.Wide.{bodies_in, wide_body};
+ghost use Rattle.file_classes.specs.Classes.{CodeAt};
 ghost use Rattle.file_strip.specs.Survey.{FindsNames, HasFields, HasFound, HasMethods};
 
 use crate::survey::Found;
 use dex_base::Fault;
 use dex_container::Sections;
 use dex_insn::IndexKind;
-use file_assemble::{FieldEntry, MethodEntry, plus};
-use file_kept::{Marks, mark_code};
+use file_classes::{FieldEntry, MethodEntry};
+use file_limits::plus;
+use file_renumber::{Marks, mark_code};
 use std::alloc::Global;
 
 /// Marks the fields of a list of entries.

@@ -1,32 +1,38 @@
 //! From a file to the file of what it needs.
 //! Page: "Dalvik Executable format", "File layout".
 ghost use Rattle.std.specs.Prelude.{◌≡◌, ◌≢◌, ◌+◌, ◌<◌, ◌↔◌, ℕ, IfOk, IfErr, IsTrue, OnOk, IsOkUnless, length};
-ghost use Rattle.base_bytes.specs.Fault.{memory};
+ghost use Rattle.dex_base.specs.Fault.{memory};
 ghost use Rattle.program_types.specs.Content.{Program};
 ghost use Rattle.tables_names.specs.Closure.{NameRanks};
 ghost use Rattle.tables_names.specs.Needed.{needed};
 ghost use Rattle.file_layout.specs.Plan.{tables_end};
 ghost use Rattle.file_layout.specs.Sections.{wide_all};
-ghost use Rattle.file_assemble.specs.Limits.{ClassBreaksLimit, Fits, IsFirstToBreak, IsLowestLimit};
-ghost use Rattle.file_assemble.specs.Sum.{IsSum};
-ghost use Rattle.file_assemble.specs.file_limits_Wide.{wide, wide_class};
-ghost use Rattle.file_kept.specs.Means.{Means};
-ghost use Rattle.file_kept.specs.Keeping.{Keeps};
+ghost use Rattle.file_limits.specs.Limits.{ClassBreaksLimit, Fits, IsFirstToBreak, IsLowestLimit};
+ghost use Rattle.file_limits.specs.Sum.{IsSum};
+ghost use Rattle.file_limits.specs.Wide.{wide, wide_class};
+ghost use Rattle.file_read.specs.Means.{Means};
+ghost use Rattle.file_strip.specs.Keeping.{Keeps};
 ghost use Rattle.file_assemble.specs.Assembled.{Assembled, DataIsLaid, SpellsTables, rows_of};
 ghost use Rattle.file_assemble.specs.Making.{places_of};
 ghost use Rattle.file_strip.specs.Ready.{IsReady};
 
+use crate::arrays::put_arrays;
+use crate::class_defs::put_classes;
+use crate::codes::put_codes;
+use crate::datas::put_datas;
+use crate::lists::put_lists;
+use crate::sizes::names_size;
 use crate::survey::{Survey, look_at_classes};
-use base_bytes::are_bytes;
-use dex_base::{Fault, Seed, fault};
+use crate::tables::name_rows;
+use crate::texts::put_strings;
+use dex_base::{Fault, Seed, are_bytes, fault};
 use dex_container::Sections;
 use dex_insn::IndexKind;
-use file_assemble::{Data, class_count, codes_part, part, plus, space};
-use file_kept::{
-    Numbers, name_rows, names_size, put_arrays, put_classes, put_codes, put_datas, put_lists,
-    put_strings,
-};
+use file_assemble::{Data, codes_part, part, space};
+use file_classes::class_count;
 use file_layout::{Plan, Rows, finish};
+use file_limits::plus;
+use file_renumber::Numbers;
 use std::alloc::Global;
 
 /// Whether the file of the kept rows is too big, where its classes take so many bytes at most.

@@ -2,7 +2,7 @@
 //! Page: "Dalvik Executable format", "class_def_item".
 ghost use Rattle.std.specs.Prelude.{◌≡◌, ◌∷◌, ◌<◌, ℕ, List, Option, [], IfOk, OnOk, IsOkUnless};
 ghost use Rattle.std.specs.List.{flat_map};
-ghost use Rattle.base_bytes.specs.Fault.{memory};
+ghost use Rattle.dex_base.specs.Fault.{memory};
 ghost use Rattle.dex_container.specs.Frame.{IsFramed};
 ghost use Rattle.dex_container.specs.Layout.{size_of};
 ghost use Rattle.dex_container.specs.Section as section;
@@ -10,21 +10,23 @@ ghost use Rattle.program_types.specs.Content.{Class, OfDesc, OfText, Program, Un
 ghost use Rattle.program_types.specs.Mentions.{if_any, names_of_class, names_of_value};
 ghost use Rattle.tables_rows.specs.Names.{AreRows};
 ghost use Rattle.tables_rows.specs.Stands.{StringStands, TypeStands};
-ghost use Rattle.file_kept.specs.Marked.{AddsNames, HasMarks};
-ghost use Rattle.file_assemble.specs.dex_value_Wide.{wide_values};
-ghost use Rattle.file_assemble.specs.Sum.{IsSum};
-ghost use Rattle.file_assemble.specs.file_limits_Wide.{wide_class};
-ghost use Rattle.file_assemble.specs.ClassRows.{IndexOrNone};
-ghost use Rattle.file_assemble.specs.Classes.{SpellsClass, StaticsAt};
+ghost use Rattle.file_renumber.specs.Marked.{AddsNames, HasMarks};
+ghost use Rattle.dex_value.specs.Wide.{wide_values};
+ghost use Rattle.file_limits.specs.Sum.{IsSum};
+ghost use Rattle.file_limits.specs.Wide.{wide_class};
+ghost use Rattle.file_classes.specs.ClassRows.{IndexOrNone};
+ghost use Rattle.file_classes.specs.Classes.{SpellsClass, StaticsAt};
 ghost use Rattle.file_strip.specs.Survey.{FindsNames, HasFound, IsSurvey, SpellsMembers, names_of_head, names_of_members, wide_members};
-ghost use Rattle.file_assemble.specs.Reading.{entries};
+ghost use Rattle.file_classes.specs.Reading.{entries};
 
 use crate::members::{look_at_methods, mark_fields};
+use crate::sizes::list_size;
 use dex_base::{Fault, Seed};
 use dex_container::{Section, Sections, kind, section_of};
 use dex_insn::IndexKind;
-use file_assemble::{Entries, class_count, class_word, entries_at, plus, times, word};
-use file_kept::{Marks, list_size, mark_array};
+use file_classes::{Entries, class_count, class_word, entries_at, word};
+use file_limits::{plus, times};
+use file_renumber::{Marks, mark_array};
 use std::alloc::Global;
 use std::collections::HashMap;
 

@@ -1,22 +1,22 @@
 -- Bodies that are laid stand at their places.
 use Rattle.std.proofs.Common.{◌≡◌, ℕ, zero, suc, ◌+◌, List, [], ◌∷◌, refl, subst, arith, Option, Some, None}
 use Rattle.std.specs.List.{AllZip}
-use Rattle.file_read.specs.ClassData.{MethodEntry}
-use Rattle.file_read.specs.Classes.{CodeAt, CodesAre, SomeCodeStands}
-use Rattle.file_read.proofs.StaticsLaws.{at_none, at_other}
-use Rattle.file_read.specs.Code.{SpellsCode, CodeStands}
-use Rattle.file_read.proofs.CarryLaws.{SpellsCode-weaker}
-use Rattle.file_strip.proofs.PackedLaws.{packed-spells}
+use Rattle.file_classes.specs.ClassData.{MethodEntry}
+use Rattle.file_classes.specs.Classes.{CodeAt, CodesAre, SomeCodeStands}
+use Rattle.file_classes.proofs.StaticsLaws.{at_none, at_other}
+use Rattle.code_read.specs.Code.{SpellsCode, CodeStands}
+use Rattle.code_read.proofs.CarryLaws.{SpellsCode-weaker}
+use Rattle.code_put.proofs.PackedLaws.{packed-spells}
 use Rattle.file_layout.specs.declared.plan.Part.{Part}
 use Rattle.file_layout.specs.Parts.{HasPart}
 use Rattle.file_layout.specs.Tiles.{Among, Lays, Refers, gap}
 use Rattle.file_layout.proofs.StandLaws.{at_item, even_four}
-use Rattle.file_strip.specs.Wide.{bodies_in}
+use Rattle.file_limits.specs.Wide.{bodies_in}
 use Rattle.tables_names.specs.Closure.{Five, NameRanks}
 use Rattle.program_types.specs.Content.{Name, Code, Method}
-use Rattle.file_strip.specs.Codes.{PacksBody, is_bodiless}
-use Rattle.file_strip.specs.Data.{code_offs}
-use Rattle.file_strip.specs.Named.{BodyCanBePut}
+use Rattle.file_assemble.specs.Codes.{PacksBody, is_bodiless}
+use Rattle.file_assemble.specs.Data.{code_offs}
+use Rattle.file_assemble.specs.Named.{BodyCanBePut}
 use Rattle.tables_rows.specs.Stands.{NameStands}
 
 -- the bytes are a code_item of the body, if there is one

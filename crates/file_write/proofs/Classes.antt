@@ -3,30 +3,30 @@ use Rattle.std.proofs.Common.{◌≡◌, ℕ, ◌+◌, ◌<◌, List, ◌++◌, 
 use Rattle.std.proofs.lemmas.List.{length-map}
 use Rattle.std.proofs.lemmas.Option.{slice_get-map}
 use Rattle.std.specs.List.{AllZip}
-use Rattle.file_strip.specs.Assembled.{Assembled}
-use Rattle.file_strip.proofs.FitsLaws.{room_of}
-use Rattle.file_strip.proofs.file_assemble_ReadyLaws.{class_can}
-use Rattle.file_read.specs.ClassData.{EntriesAt}
-use Rattle.file_read.specs.ClassRows.{InOrder, class_word}
-use Rattle.file_read.specs.Classes.{CodeAt, SpellsClass, StaticsAt}
-use Rattle.file_read.proofs.EntryLaws.{entry_at}
-use Rattle.file_strip.specs.ClassDefs.{TypeRanks}
+use Rattle.file_assemble.specs.Assembled.{Assembled}
+use Rattle.file_assemble.proofs.FitsLaws.{room_of}
+use Rattle.file_assemble.proofs.ReadyLaws.{class_can}
+use Rattle.file_classes.specs.ClassData.{EntriesAt}
+use Rattle.file_classes.specs.ClassRows.{InOrder, class_word}
+use Rattle.file_classes.specs.Classes.{CodeAt, SpellsClass, StaticsAt}
+use Rattle.file_classes.proofs.EntryLaws.{entry_at}
+use Rattle.file_assemble.specs.ClassDefs.{TypeRanks}
 use Rattle.dex_container.specs.Layout.{size_of}
 use Rattle.file_read.specs.Means.{Means}
 use Rattle.file_layout.specs.Sections.{is_empty_list}
 use Rattle.file_layout.specs.Tiles.{Refers}
 use Rattle.file_layout.proofs.FrameLaws.{arrays_part, codes_part, datas_part}
 use Rattle.file_layout.proofs.StandLaws.{zip_at}
-use Rattle.file_strip.specs.Limits.{Fits}
-use Rattle.file_strip.specs.Wide.{array_values, bodies_in, bodies_of, body_values}
+use Rattle.file_limits.specs.Limits.{Fits}
+use Rattle.file_limits.specs.Wide.{array_values, bodies_in, bodies_of, body_values}
 use Rattle.tables_names.specs.Closure.{NameRanks}
 use Rattle.tables_names.specs.Needed.{needed}
 use Rattle.program_types.specs.Content.{Class, Name, Program}
 use Rattle.program_rules.specs.WellFormed.{WellFormed}
-use Rattle.file_strip.specs.Codes.{is_bodiless}
-use Rattle.file_strip.specs.Data.{code_offs, has_no_members, method_count, with_code_places}
-use Rattle.file_strip.specs.Named.{BodyCanBePut}
-use Rattle.file_strip.proofs.SitedLaws.{count_of_bodies, rest_after}
+use Rattle.file_assemble.specs.Codes.{is_bodiless}
+use Rattle.file_assemble.specs.Data.{code_offs, has_no_members, method_count, with_code_places}
+use Rattle.file_assemble.specs.Named.{BodyCanBePut}
+use Rattle.file_assemble.proofs.SitedLaws.{count_of_bodies, rest_after}
 use Rattle.tables_rows.specs.Names.{AreRows}
 use Rattle.tables_rows.specs.Stands.{NameStands}
 use Rattle.file_write.proofs.Bodies.{body_at, codes_are}
@@ -38,7 +38,7 @@ use Rattle.file_write.proofs.Statics.{statics_at}
 use Rattle.file_write.proofs.NameLaws.{class_list, list_at, name_stands, ranks_at, ranks_of, valid_of}
 use Rattle.file_write.proofs.RowLaws.{ClassRowIs, class_count, class_row, is_framed}
 use Rattle.file_write.proofs.TableLaws.{tables_hold}
-use Rattle.base_bytes.proofs.ListFacts.{zip_length}
+use Rattle.dex_base.proofs.ListFacts.{zip_length}
 
 module _ (b : List ℕ) (p : Program) (a : Assembled b (needed p) p) (w : WellFormed p) (fits : Fits p) where
   pub stand : (i : ℕ) (which : Name) → NameRanks (needed p) i which → NameStands b i which

@@ -1,14 +1,14 @@
 -- What is written of a code by one naming is written of it by each naming that it implies.
 use Rattle.std.proofs.Common.{ℕ, ℤ, zero, suc, List, Some, None}
-use Rattle.base_bytes.specs.Leb128.{SpellsSigned, Shortest, Spells}
-use Rattle.base_bytes.proofs.PlacedLaws.{Placed-weaker}
-use Rattle.base_bytes.proofs.WeakerLaws.{Implies, Many-weaker, Pair-weaker, Then-weaker}
-use Rattle.file_read.specs.Handlers.{AllBy, Handler, PacksHandlers, PartsBy, AddressBy, TypeBy, catches_of}
-use Rattle.file_strip.specs.Packs.{AreLowered, PacksCatch, PacksCode, PacksHandler, PacksHandlersOf}
+use Rattle.dex_base.specs.Leb128.{SpellsSigned, Shortest, Spells}
+use Rattle.dex_base.proofs.PlacedLaws.{Placed-weaker}
+use Rattle.dex_base.proofs.WeakerLaws.{Implies, Many-weaker, Pair-weaker, Then-weaker}
+use Rattle.code_read.specs.Handlers.{AllBy, Handler, PacksHandlers, PartsBy, AddressBy, TypeBy, catches_of}
+use Rattle.code_put.specs.Packs.{AreLowered, PacksCatch, PacksCode, PacksHandler, PacksHandlersOf}
 use Rattle.dex_insn.specs.Raw as raw
 use Rattle.dex_insn.specs.Raw.{Raw}
 use Rattle.program_types.specs.Content.{Code, Insn, Name, OfDesc, Try}
-use Rattle.file_read.proofs.CarryLaws.{says-weaker}
+use Rattle.code_read.proofs.CarryLaws.{says-weaker}
 
 module _ (M N : ℕ → Name → Type 0) (f : (i : ℕ) (which : Name) → M i which → N i which) where
   -- ---- instructions

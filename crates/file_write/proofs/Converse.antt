@@ -3,8 +3,8 @@ use Rattle.std.proofs.Common.{◌≡◌, ◌≢◌, ℕ, ◌+◌, ◌*◌, ◌�
 use Rattle.std.proofs.lemmas.List.{drop_at, length-map, take_at}
 use Rattle.std.proofs.lemmas.List.Sums.{count_by-le-length, length-filter}
 use Rattle.std.specs.List.{AllZip, flat_map, slice_get}
-use Rattle.base_bytes.specs.Grammar.{Each}
-use Rattle.base_bytes.specs.Leb128.{Shortest}
+use Rattle.dex_base.specs.Grammar.{Each}
+use Rattle.dex_base.specs.Leb128.{Shortest}
 use Rattle.dex_base.specs.Mutf8.{PacksText, SpellsText}
 use Rattle.dex_base.proofs.TextLaws.{packed_length}
 use Rattle.dex_container.specs.Frame.{IsFramed}
@@ -13,12 +13,12 @@ use Rattle.dex_container.specs.Where.{At, slice}
 use Rattle.dex_value.specs.Spelling.{SpellsArray}
 use Rattle.dex_value.specs.Wide.{wide_array}
 use Rattle.dex_value.proofs.Lengths.{SpellsArray-most}
-use Rattle.file_strip.specs.Assembled.{Assembled, DataLies, Places, SpellsTables, StandOnce, rows_of}
-use Rattle.file_strip.proofs.OnceLaws.{datas_shared}
-use Rattle.file_read.specs.ClassData.{Entries}
-use Rattle.file_read.specs.ClassRows.{class_data_off, interfaces_off, static_values_off}
-use Rattle.file_read.specs.Classes.{CodeAt, CodesAre, MembersAre}
-use Rattle.file_read.proofs.EntryLaws.{entries_one}
+use Rattle.file_assemble.specs.Assembled.{Assembled, DataLies, Places, SpellsTables, StandOnce, rows_of}
+use Rattle.file_assemble.proofs.OnceLaws.{datas_shared}
+use Rattle.file_classes.specs.ClassData.{Entries}
+use Rattle.file_classes.specs.ClassRows.{class_data_off, interfaces_off, static_values_off}
+use Rattle.file_classes.specs.Classes.{CodeAt, CodesAre, MembersAre}
+use Rattle.file_classes.proofs.EntryLaws.{entries_one}
 use Rattle.file_read.proofs.RangeLaws.{well_formed}
 use Rattle.file_layout.specs.declared.plan.Plan.{Plan}
 use Rattle.file_layout.specs.Plan.{IsPlanned, IsWritten, spans_of, tables_end}
@@ -27,18 +27,18 @@ use Rattle.file_layout.specs.Spans.{has_items}
 use Rattle.file_layout.specs.Tiles.{gap}
 use Rattle.file_layout.proofs.PartLaws.{length_slice, slice_more}
 use Rattle.file_layout.proofs.TileLaws.{Tiles-le}
-use Rattle.file_strip.specs.Wide.{array_values, bodies_in, bodies_of, body_values, list_values, params_of, text_values, wide_body, wide_list, wide_of, wide_text}
-use Rattle.file_strip.proofs.PartLaws.{by_parts}
+use Rattle.file_limits.specs.Wide.{array_values, bodies_in, bodies_of, body_values, list_values, params_of, text_values, wide_body, wide_list, wide_of, wide_text}
+use Rattle.file_limits.proofs.PartLaws.{by_parts}
 use Rattle.file_read.specs.Means.{Means}
-use Rattle.file_strip.specs.ClassDefs.{SpellsClassRow, with_places}
-use Rattle.file_strip.specs.Rows.{SpellsRows}
-use Rattle.file_strip.specs.Codes.{PacksBody, is_bodiless}
-use Rattle.file_strip.specs.Data.{PacksData, ClassWithCodes, code_offs, has_no_members, method_count, with_code_places, wide_with_codes}
-use Rattle.file_strip.specs.Lists.{SpellsRanks}
-use Rattle.file_strip.proofs.CodeLaws.{packed_room}
-use Rattle.file_strip.proofs.file_parts_DataLaws.{data_length}
-use Rattle.file_strip.proofs.ListLaws.{gap_four, list_most}
-use Rattle.file_strip.proofs.SitedLaws.{count_of_bodies, length-sited, room_of_sited}
+use Rattle.file_assemble.specs.ClassDefs.{SpellsClassRow, with_places}
+use Rattle.file_assemble.specs.Rows.{SpellsRows}
+use Rattle.file_assemble.specs.Codes.{PacksBody, is_bodiless}
+use Rattle.file_assemble.specs.Data.{PacksData, ClassWithCodes, code_offs, has_no_members, method_count, with_code_places, wide_with_codes}
+use Rattle.file_assemble.specs.Lists.{SpellsRanks}
+use Rattle.file_assemble.proofs.OneBody.{packed_room}
+use Rattle.file_assemble.proofs.DataLengths.{data_length}
+use Rattle.file_assemble.proofs.RankedLists.{gap_four, list_most}
+use Rattle.file_assemble.proofs.SitedLaws.{count_of_bodies, length-sited, room_of_sited}
 use Rattle.program_rules.specs.WellFormed.{WellFormed}
 use Rattle.program_types.specs.Content.{Class, Code, Descriptor, OfDesc, OfText, Program, Units, Value}
 use Rattle.program_types.specs.Key.{proto_key, text_key}
@@ -57,7 +57,7 @@ use Rattle.file_write.proofs.Retold.{IsTold, retold, retold_shared, zip_one}
 use Rattle.file_write.proofs.TableBytes.{length-words_of, word_or, words_zip}
 use Rattle.file_write.proofs.TableRows.{class_rows, name_rows, names_size}
 use Rattle.file_write.proofs.Told.{all_bodies_zip, bodies_zip, body_is_told, map_was, members_are_told, text_is_told, types_are_told, values_are_told, was_sited}
-use Rattle.base_bytes.proofs.ListFacts.{zip_length, zip_append, zip_weaker}
+use Rattle.dex_base.proofs.ListFacts.{zip_length, zip_append, zip_weaker}
 use Rattle.tables_names.proofs.PlaceLemmas.{rank_one, one_key}
 
 -- ---- the file

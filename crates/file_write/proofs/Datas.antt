@@ -1,10 +1,10 @@
 -- Class data that is laid stands at its places.
 use Rattle.std.proofs.Common.{◌≡◌, ℕ, ◌<◌, Bool, true, false, List, [], ◌∷◌, ◌++◌, length, refl, ap, arith}
 use Rattle.std.specs.Prelude.{MatchBool, ◌&&◌}
-use Rattle.base_bytes.specs.Leb128.{Spells}
-use Rattle.file_read.specs.ClassData.{Entries, EntriesAt, SpellsEntries, no_entries}
-use Rattle.file_read.specs.Classes.{IsField, IsMethod, MembersAre}
-use Rattle.file_read.proofs.StaticsLaws.{at_none, at_other}
+use Rattle.dex_base.specs.Leb128.{Spells}
+use Rattle.file_classes.specs.ClassData.{Entries, EntriesAt, SpellsEntries, no_entries}
+use Rattle.file_classes.specs.Classes.{IsField, IsMethod, MembersAre}
+use Rattle.file_classes.proofs.StaticsLaws.{at_none, at_other}
 use Rattle.dex_container.specs.Where.{At}
 use Rattle.file_layout.specs.declared.plan.Part.{Part}
 use Rattle.file_layout.specs.Parts.{HasPart}
@@ -13,7 +13,7 @@ use Rattle.file_layout.specs.Tiles.{Among, Lays, Refers}
 use Rattle.file_layout.proofs.StandLaws.{at_item, even_one}
 use Rattle.tables_names.specs.Closure.{Five, NameRanks}
 use Rattle.program_types.specs.Content.{Name}
-use Rattle.file_strip.specs.Data.{PacksData, ClassWithCodes, code_offs, has_no_members, method_count}
+use Rattle.file_assemble.specs.Data.{PacksData, ClassWithCodes, code_offs, has_no_members, method_count}
 use Rattle.tables_rows.specs.Stands.{NameStands}
 use Rattle.file_write.proofs.Members.{empty_run, entries_spelled, members_stand}
 use Rattle.std.proofs.lemmas.Bool.{and_parts}

@@ -3,10 +3,10 @@ use Rattle.std.proofs.Common.{◌≡◌, ℕ, zero, suc, ◌+◌, ◌*◌, ◌^�
 use Rattle.std.proofs.lemmas.List.{drop_at}
 use Rattle.std.specs.List.{AllByRecursion, AllZip}
 use Rattle.byteorder.specs.Numbers.{little_number-reads_back}
-use Rattle.base_bytes.specs.Fields.{u16_at, u16_bytes, u32_at, u32_bytes}
-use Rattle.base_bytes.specs.Words.{words_bytes}
-use Rattle.base_bytes.proofs.FieldBounds.{u16_at-drop, u16_at-front, u16_at-take, u32_at-append, u32_at-bytes, u32_at-drop, u32_at-front, u32_at-take}
-use Rattle.base_bytes.proofs.WordsBytes.{u32_at-words}
+use Rattle.dex_base.specs.Fields.{u16_at, u16_bytes, u32_at, u32_bytes}
+use Rattle.dex_base.specs.Words.{words_bytes}
+use Rattle.dex_base.proofs.FieldBounds.{u16_at-drop, u16_at-front, u16_at-take, u32_at-append, u32_at-bytes, u32_at-drop, u32_at-front, u32_at-take}
+use Rattle.dex_base.proofs.WordsBytes.{u32_at-words}
 use Rattle.dex_container.specs.Where.{slice}
 use Rattle.file_layout.specs.Sections.{never}
 use Rattle.file_layout.specs.Tiles.{Among, Refers}

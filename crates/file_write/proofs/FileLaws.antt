@@ -1,15 +1,15 @@
 -- What is assembled is the file of its program.
 use Rattle.std.proofs.Common.{◌≡◌, ◌≢◌, ℕ, zero, suc, ◌≤◌, List, ap, arith, inr}
-use Rattle.file_strip.specs.Assembled.{Assembled}
-use Rattle.base_bytes.specs.Fault.{memory}
-use Rattle.base_bytes.specs.Fields.{AreBytes}
-use Rattle.base_bytes.specs.declared.fault.Fault.{Fault}
+use Rattle.file_assemble.specs.Assembled.{Assembled}
+use Rattle.dex_base.specs.Fault.{memory}
+use Rattle.dex_base.specs.Fields.{AreBytes}
+use Rattle.dex_base.specs.declared.fault.Fault.{Fault}
 use Rattle.file_read.specs.Means.{Means}
 use Rattle.file_strip.specs.AtLeast.{HoldsAtLeast}
 use Rattle.file_strip.proofs.RowsFrom.{holds_at_least}
 use Rattle.file_strip.proofs.VainLaws.{meant, without_file}
-use Rattle.file_strip.specs.Limits.{Fits, IsLowestLimit}
-use Rattle.file_strip.proofs.LimitLaws.{fits_breaks_none}
+use Rattle.file_limits.specs.Limits.{Fits, IsLowestLimit}
+use Rattle.file_limits.proofs.LimitLaws.{fits_breaks_none}
 use Rattle.tables_names.specs.Closure.{Five}
 use Rattle.tables_names.specs.Needed.{needed}
 use Rattle.program_types.specs.Content.{Program}

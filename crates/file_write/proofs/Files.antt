@@ -4,31 +4,31 @@ use Rattle.std.proofs.lemmas.List.{take-append-drop, nil_from_length}
 use Rattle.std.proofs.lemmas.Option.{slice_get-get_or}
 use Rattle.std.specs.Prelude.{if◌then◌else◌, ◌==◌}
 use Rattle.std.specs.List.{flat_map}
-use Rattle.file_strip.specs.Assembled.{Assembled}
-use Rattle.file_strip.proofs.AssembledLaws.{array_count, data_count, list_count, text_count}
+use Rattle.file_assemble.specs.Assembled.{Assembled}
+use Rattle.file_assemble.proofs.AssembledLaws.{array_count, data_count, list_count, text_count}
 use Rattle.dex_base.specs.Mutf8.{PacksText}
-use Rattle.base_bytes.specs.Leb128.{Shortest}
-use Rattle.file_read.specs.ClassData.{Entries, EntriesAt}
-use Rattle.file_read.specs.ClassRows.{class_word}
-use Rattle.file_read.proofs.EntryLaws.{entry_at}
+use Rattle.dex_base.specs.Leb128.{Shortest}
+use Rattle.file_classes.specs.ClassData.{Entries, EntriesAt}
+use Rattle.file_classes.specs.ClassRows.{class_word}
+use Rattle.file_classes.proofs.EntryLaws.{entry_at}
 use Rattle.dex_container.specs.Layout.{data_begin, offset_of, size_of}
 use Rattle.file_layout.specs.Header.{HasHeader}
 use Rattle.file_layout.specs.Plan.{class_defs_begin, field_ids_begin, method_ids_begin, proto_ids_begin, table_offset, type_ids_begin}
 use Rattle.file_layout.specs.Sections.{is_empty_list, never}
 use Rattle.file_layout.specs.Tiles.{IsNext, Refers}
 use Rattle.file_layout.proofs.FrameLaws.{arrays_part, codes_part, data_end_is, datas_part, header_of, kinds_known, lists_part, strings_part}
-use Rattle.file_strip.specs.Limits.{Fits}
-use Rattle.file_strip.specs.Wide.{array_values, bodies_of, body_values, list_values, text_values}
+use Rattle.file_limits.specs.Limits.{Fits}
+use Rattle.file_limits.specs.Wide.{array_values, bodies_of, body_values, list_values, text_values}
 use Rattle.tables_names.specs.Closure.{NameRanks}
 use Rattle.tables_names.specs.Needed.{needed}
 use Rattle.tables_names.specs.Rank.{IsAt}
 use Rattle.program_types.specs.Content.{Class, Program, Proto, Value}
 use Rattle.program_types.specs.Key.{proto_key}
 use Rattle.program_rules.specs.WellFormed.{WellFormed}
-use Rattle.file_strip.specs.Codes.{PacksBody, is_bodiless}
-use Rattle.file_strip.specs.Data.{PacksData, has_no_members, method_count, with_code_places}
-use Rattle.file_strip.specs.Lists.{SpellsRanks}
-use Rattle.file_strip.proofs.SitedLaws.{count_of_bodies, rest_after}
+use Rattle.file_assemble.specs.Codes.{PacksBody, is_bodiless}
+use Rattle.file_assemble.specs.Data.{PacksData, has_no_members, method_count, with_code_places}
+use Rattle.file_assemble.specs.Lists.{SpellsRanks}
+use Rattle.file_assemble.proofs.SitedLaws.{count_of_bodies, rest_after}
 use Rattle.tables_rows.specs.RowFields.{proto_parameters, string_place}
 use Rattle.dex_value.specs.Spelling.{SpellsArray}
 use Rattle.file_write.proofs.Classes.{data_stands, row}
@@ -43,7 +43,7 @@ use Rattle.file_write.specs.Packed.{DataIsPacked, IsPackedSection, Packed, SomeC
 use Rattle.file_write.proofs.Readings.{AreEntriesOf, AreIndicesOf, IsBodyOf, bodies_can, codes_read, members_read, members_told, types_read, types_told, values_read}
 use Rattle.file_write.proofs.References.{all_words, both_words}
 use Rattle.file_write.proofs.Sections.{packed_section}
-use Rattle.base_bytes.proofs.ListFacts.{zip_length}
+use Rattle.dex_base.proofs.ListFacts.{zip_length}
 
 -- ---- the class data of each class
 

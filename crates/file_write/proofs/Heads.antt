@@ -4,8 +4,8 @@ use Rattle.std.proofs.lemmas.Bool.{cases_lt}
 use Rattle.std.proofs.lemmas.Option.{slice_get_within}
 use Rattle.std.specs.Prelude.{IfSome}
 use Rattle.dex_base.specs.Descriptor.{IsClass}
-use Rattle.file_read.specs.ClassRows.{IndexOrNone, class_word}
-use Rattle.file_read.specs.Classes.{NoTypeTwice, InterfacesAt, RowIs}
+use Rattle.file_classes.specs.ClassRows.{IndexOrNone, class_word}
+use Rattle.file_classes.specs.Classes.{NoTypeTwice, InterfacesAt, RowIs}
 use Rattle.tables_names.specs.Closure.{Five, NameRanks}
 use Rattle.program_types.specs.Content.{Class, Descriptor, Name, OfDesc, OfText, Units}
 use Rattle.program_rules.specs.Rules as rules

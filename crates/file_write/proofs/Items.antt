@@ -4,7 +4,7 @@ use Rattle.std.specs.Prelude.{MatchBool, ◌==◌, ◌||◌, if◌then◌else◌
 use Rattle.std.specs.List.{AllByRecursion, AllZip, fold, list_any, slice_get}
 use Rattle.std.proofs.lemmas.Bool.{eq-eqb}
 use Rattle.file_layout.specs.Tiles.{Among, Lays, Refers, add_place, distinct_places}
-use Rattle.base_bytes.proofs.ListFacts.{all_weaker, all_append}
+use Rattle.dex_base.proofs.ListFacts.{all_weaker, all_append}
 
 -- ---- a place has one item
 

@@ -26,9 +26,3 @@ pub mod TableBytes
 pub mod TableRows
 pub mod Told
 pub mod Converse
--- What stands below, for the crates above.
-pub use Rattle.file_strip.proofs.LimitLaws
-pub use Rattle.file_strip.proofs.OneLimit
-pub use Rattle.file_read.proofs.OneRefusal
-pub use Rattle.file_read.proofs.PassLaws
-pub use Rattle.file_read.proofs.RangeLaws

@@ -4,7 +4,7 @@ use Rattle.std.proofs.lemmas.Bool.{cases_lt}
 use Rattle.std.proofs.lemmas.List.{length-map}
 use Rattle.std.specs.Prelude.{if◌then◌else◌, ◌==◌, slice_index}
 use Rattle.std.specs.List.{filter, AllByRecursion}
-use Rattle.base_bytes.specs.Fields.{u16_at, u32_at}
+use Rattle.dex_base.specs.Fields.{u16_at, u32_at}
 use Rattle.dex_container.specs.Layout.{size_of, offset_of, map_place, map_end, entry_count, entry_place, kind_at, items_at, place_at}
 use Rattle.dex_container.specs.Frame.{HasKind, IsFramed}
 use Rattle.file_layout.specs.declared.plan.Part.{Part}
@@ -16,7 +16,7 @@ use Rattle.file_layout.specs.Spans.{Span, has_items, span_at, MapNames}
 use Rattle.file_layout.specs.Tiles.{IsNext, Tiles, gap}
 use Rattle.file_layout.proofs.MapLaws.{Has}
 use Rattle.file_layout.proofs.TileLaws.{Tiles-le}
-use Rattle.file_strip.proofs.file_assemble_DataLaws.{tiles_take}
+use Rattle.file_assemble.proofs.DataParts.{tiles_take}
 use Rattle.file_write.specs.Packed.{IsPackedSection, MapIsPacked, MapSays, TablesArePacked, table_end}
 use Rattle.file_write.proofs.Sections.{first_place}
 use Rattle.file_layout.proofs.Named.{◌&◌}

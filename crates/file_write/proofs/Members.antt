@@ -1,12 +1,12 @@
 -- Class data in the fewest bytes is class data, and its members stand where their names do.
 use Rattle.std.proofs.Common.{◌≡◌, ℕ, List, [], length, ap, arith}
-use Rattle.base_bytes.specs.Grammar.{Pair}
-use Rattle.base_bytes.specs.Leb128.{Spells, Shortest}
-use Rattle.base_bytes.proofs.WeakerLaws.{Implies, Shortest-weaker, Then-weaker, Pair-weaker, Many-weaker}
-use Rattle.file_read.specs.ClassData.{FieldEntry, MethodEntry, Entries, counts_of, lists_of, SpellsFieldEntry, SpellsMethodEntry, SpellsCounts, SpellsLists, SpellsEntries, EntriesAre}
-use Rattle.file_read.specs.Classes.{IsField, IsMethod, MembersAre}
+use Rattle.dex_base.specs.Grammar.{Pair}
+use Rattle.dex_base.specs.Leb128.{Spells, Shortest}
+use Rattle.dex_base.proofs.WeakerLaws.{Implies, Shortest-weaker, Then-weaker, Pair-weaker, Many-weaker}
+use Rattle.file_classes.specs.ClassData.{FieldEntry, MethodEntry, Entries, counts_of, lists_of, SpellsFieldEntry, SpellsMethodEntry, SpellsCounts, SpellsLists, SpellsEntries, EntriesAre}
+use Rattle.file_classes.specs.Classes.{IsField, IsMethod, MembersAre}
 use Rattle.program_types.specs.Content.{Name, OfField, OfMethod, Descriptor, Member, Method, Class}
-use Rattle.file_strip.specs.Data.{FieldRanks, MethodRanks, MembersRank}
+use Rattle.file_assemble.specs.Data.{FieldRanks, MethodRanks, MembersRank}
 use Rattle.tables_rows.specs.Stands.{NameStands}
 
 -- ---- numbers in any spelling

@@ -2,9 +2,9 @@
 use Rattle.std.proofs.Common.{◌≡◌, ◌≢◌, ℕ, zero, suc, ◌<◌, ◌≤◌, List, [], ◌∷◌, length, get_or, refl, sym, ap, ◌∙◌, subst, arith, Option, Some, None, option_map, slice_get}
 use Rattle.std.proofs.lemmas.Option.{slice_get-map}
 use Rattle.std.specs.Prelude.{IfSome}
-use Rattle.file_read.specs.ClassRows.{InOrder, IndexOrNone, NoneDefines, class_word, no_index}
-use Rattle.file_read.proofs.EntryLaws.{entry_at}
-use Rattle.file_strip.specs.ClassDefs.{TypeRanks}
+use Rattle.file_classes.specs.ClassRows.{InOrder, IndexOrNone, NoneDefines, class_word, no_index}
+use Rattle.file_classes.proofs.EntryLaws.{entry_at}
+use Rattle.file_assemble.specs.ClassDefs.{TypeRanks}
 use Rattle.dex_container.specs.Frame.{IsFramed}
 use Rattle.dex_container.specs.Layout.{size_of}
 use Rattle.dex_container.specs.Where.{AtOrNone}
@@ -16,7 +16,7 @@ use Rattle.program_rules.specs.Rules.{IsOfType, NoneFrom, OrderHolds}
 use Rattle.tables_rows.specs.Stands.{SpellsIndexes}
 use Rattle.tables_rows.proofs.HalvesLaws.{list_or_none_one}
 use Rattle.file_write.proofs.RowLaws.{ClassRowIs}
-use Rattle.base_bytes.proofs.ListFacts.{all_get}
+use Rattle.dex_base.proofs.ListFacts.{all_get}
 
 -- an index is that of one type
 one_type : (s : Five) (i j : ℕ) (t u : Descriptor) → i ≡ j → TypeRanks s i t → TypeRanks s j u → t ≡ u

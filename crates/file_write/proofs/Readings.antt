@@ -3,17 +3,17 @@ use Rattle.std.proofs.Common.{◌≡◌, ℕ, zero, suc, ◌+◌, ◌<◌, false
 use Rattle.std.proofs.lemmas.Bool.{cases_lt}
 use Rattle.std.specs.Prelude.{◌&&◌}
 use Rattle.std.specs.List.{AllByRecursion, flat_map, slice_get}
-use Rattle.file_read.proofs.CarryLaws.{SpellsCode-weaker}
-use Rattle.file_strip.proofs.PackedLaws.{packed-spells}
-use Rattle.file_strip.proofs.FitsLaws.{room_of}
-use Rattle.file_strip.proofs.OnceLaws.{sited_class, types_apart}
-use Rattle.file_strip.proofs.file_assemble_ReadyLaws.{class_can}
-use Rattle.file_read.specs.ClassData.{Entries, FieldEntry, EntriesAre, MethodEntry, index_of, steps}
-use Rattle.file_strip.specs.Limits.{Fits}
-use Rattle.file_strip.specs.Wide.{bodies_of, body_values}
-use Rattle.file_strip.specs.Data.{FieldRanks, MembersRank, MethodRanks, PacksData, ClassWithCodes, has_no_members, with_code_places}
-use Rattle.file_strip.specs.Named.{BodyCanBePut}
-use Rattle.file_strip.proofs.ListLaws.{named_one}
+use Rattle.code_read.proofs.CarryLaws.{SpellsCode-weaker}
+use Rattle.code_put.proofs.PackedLaws.{packed-spells}
+use Rattle.file_assemble.proofs.FitsLaws.{room_of}
+use Rattle.file_assemble.proofs.OnceLaws.{sited_class, types_apart}
+use Rattle.file_assemble.proofs.ReadyLaws.{class_can}
+use Rattle.file_classes.specs.ClassData.{Entries, FieldEntry, EntriesAre, MethodEntry, index_of, steps}
+use Rattle.file_limits.specs.Limits.{Fits}
+use Rattle.file_limits.specs.Wide.{bodies_of, body_values}
+use Rattle.file_assemble.specs.Data.{FieldRanks, MembersRank, MethodRanks, PacksData, ClassWithCodes, has_no_members, with_code_places}
+use Rattle.file_assemble.specs.Named.{BodyCanBePut}
+use Rattle.file_assemble.proofs.RankedLists.{named_one}
 use Rattle.program_rules.specs.WellFormed.{WellFormed}
 use Rattle.program_types.specs.Content.{Class, Code, Descriptor, FieldRef, Member, Method, MethodRef, Name, Program, Value}
 use Rattle.program_types.specs.Key.{field_ref_key, method_ref_key, text_key}
@@ -22,17 +22,17 @@ use Rattle.tables_names.specs.Needed.{needed}
 use Rattle.tables_names.specs.Rank.{IsAt}
 use Rattle.file_write.specs.Packed.{SomeCode, SomeMembers, SomeTypes, SomeValues}
 use Rattle.file_write.proofs.Sections.{Reads, Tells}
-use Rattle.base_bytes.specs.Leb128.{Shortest}
+use Rattle.dex_base.specs.Leb128.{Shortest}
 use Rattle.file_layout.specs.Sections.{is_empty_list}
 use Rattle.tables_names.specs.Closure.{Five, NameRanks}
-use Rattle.file_strip.specs.Codes.{PacksBody, is_bodiless}
-use Rattle.file_strip.specs.Lists.{SpellsRanks}
+use Rattle.file_assemble.specs.Codes.{PacksBody, is_bodiless}
+use Rattle.file_assemble.specs.Lists.{SpellsRanks}
 use Rattle.tables_rows.specs.Stands.{NameStands}
 use Rattle.dex_value.specs.Spelling.{SpellsArray}
 use Rattle.dex_value.proofs.Weaker.{SpellsArray-weaker}
 use Rattle.file_write.proofs.Codes.{PacksCode-weaker}
-use Rattle.base_bytes.proofs.ListFacts.{all_append, zip_length, all_get}
-use Rattle.file_read.proofs.EntryLaws.{entry_at}
+use Rattle.dex_base.proofs.ListFacts.{all_append, zip_length, all_get}
+use Rattle.file_classes.proofs.EntryLaws.{entry_at}
 use Rattle.tables_names.proofs.PlaceLemmas.{one_key}
 
 -- ---- type lists

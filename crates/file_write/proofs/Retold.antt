@@ -5,13 +5,13 @@ use Rattle.std.specs.List.{AllByRecursion, AllZip, fold, list_any, slice_get}
 use Rattle.std.proofs.lemmas.Bool.{eq-eqb}
 use Rattle.std.proofs.lemmas.Option.{slice_get_within}
 use Rattle.dex_container.specs.Where.{slice}
-use Rattle.file_read.proofs.EntryLaws.{entry_at}
+use Rattle.file_classes.proofs.EntryLaws.{entry_at}
 use Rattle.file_layout.specs.Tiles.{Among, AreShared, Lays, Refers, add_place, distinct_places}
 use Rattle.file_layout.proofs.TileLaws.{Tiles-among, refers_some, zip_there}
 use Rattle.file_write.specs.Packed.{IsPackedSection}
 use Rattle.file_write.proofs.Items.{among_kept, places_kept}
 use Rattle.file_write.proofs.Sections.{Reread, Tells, reread, same_length}
-use Rattle.base_bytes.proofs.ListFacts.{all_there, zip_length}
+use Rattle.dex_base.proofs.ListFacts.{all_there, zip_length}
 
 -- ---- each place that isn't 0 is among the distinct ones
 

@@ -2,8 +2,8 @@
 use Rattle.std.proofs.Common.{◌≡◌, ℕ, ◌≤◌, Bool, true, false, List, [], length, arith}
 use Rattle.std.specs.Prelude.{MatchBool, ◌==◌}
 use Rattle.std.specs.List.{AllByRecursion}
-use Rattle.base_bytes.specs.Leb128.{Shortest}
-use Rattle.file_read.specs.Classes.{StaticsAt}
+use Rattle.dex_base.specs.Leb128.{Shortest}
+use Rattle.file_classes.specs.Classes.{StaticsAt}
 use Rattle.dex_container.specs.Where.{At, AtOrNone}
 use Rattle.file_layout.specs.declared.plan.Part.{Part}
 use Rattle.file_layout.specs.Parts.{HasPart}

@@ -3,17 +3,17 @@ use Rattle.std.proofs.Common.{◌≡◌, ℕ, zero, suc, ◌+◌, ◌*◌, ◌/�
 use Rattle.std.proofs.lemmas.Bool.{cases_lt}
 use Rattle.std.proofs.lemmas.Option.{slice_get-get_or, slice_get-map, slice_get_within}
 use Rattle.std.specs.List.{AllZip, slice_get}
-use Rattle.base_bytes.specs.Fields.{AreBytes, u16_at, u16_bytes, u32_at, u32_bytes}
-use Rattle.base_bytes.specs.Grammar.{Each}
-use Rattle.base_bytes.specs.Words.{words_bytes}
-use Rattle.base_bytes.proofs.FieldBounds.{u16_at-drop, u32_at-drop, drop-AreBytes}
+use Rattle.dex_base.specs.Fields.{AreBytes, u16_at, u16_bytes, u32_at, u32_bytes}
+use Rattle.dex_base.specs.Grammar.{Each}
+use Rattle.dex_base.specs.Words.{words_bytes}
+use Rattle.dex_base.proofs.FieldBounds.{u16_at-drop, u32_at-drop, drop-AreBytes}
 use Rattle.dex_container.specs.Where.{slice}
 use Rattle.file_layout.proofs.PartLaws.{slice_more}
 use Rattle.tables_rows.proofs.HalvesLaws.{u32_bytes-u32_at}
 use Rattle.file_write.specs.Packed.{words_of_rows}
 use Rattle.file_write.proofs.Retold.{zip_of}
-use Rattle.base_bytes.proofs.WordsBytes.{words_bytes-push}
-use Rattle.base_bytes.proofs.ListFacts.{some_inj}
+use Rattle.dex_base.proofs.WordsBytes.{words_bytes-push}
+use Rattle.dex_base.proofs.ListFacts.{some_inj}
 
 -- ---- numbers
 

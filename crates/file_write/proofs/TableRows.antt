@@ -4,18 +4,18 @@ use Rattle.std.proofs.lemmas.List.{length-map}
 use Rattle.std.proofs.lemmas.Option.{slice_get_within}
 use Rattle.std.specs.Prelude.{if◌then◌else◌, ◌==◌}
 use Rattle.std.specs.List.{slice_get}
-use Rattle.base_bytes.specs.Fields.{AreBytes, u16_at, u16_bytes, u32_at, u32_bytes}
-use Rattle.base_bytes.specs.Grammar.{Each}
-use Rattle.base_bytes.specs.Words.{words_bytes}
-use Rattle.base_bytes.proofs.FieldBounds.{u32_at-fits, drop-AreBytes}
+use Rattle.dex_base.specs.Fields.{AreBytes, u16_at, u16_bytes, u32_at, u32_bytes}
+use Rattle.dex_base.specs.Grammar.{Each}
+use Rattle.dex_base.specs.Words.{words_bytes}
+use Rattle.dex_base.proofs.FieldBounds.{u32_at-fits, drop-AreBytes}
 use Rattle.dex_container.specs.Layout.{offset_of, size_of}
 use Rattle.dex_container.specs.Where.{slice}
-use Rattle.file_read.specs.ClassRows.{IndexOrNone, class_word}
-use Rattle.file_read.specs.Classes.{RowIs}
-use Rattle.file_read.proofs.EntryLaws.{entry_at}
-use Rattle.file_strip.specs.ClassDefs.{ClassWithPlaces, SpellsClassRow, StringRanks, TypeRanks, with_places}
-use Rattle.file_strip.specs.Rows.{SpellsFieldRow, SpellsMethodRow, SpellsProtoRow, SpellsProtos, SpellsRows, SpellsTable, SpellsTypeRow}
-use Rattle.file_strip.proofs.ClassRowLaws.{length-seated}
+use Rattle.file_classes.specs.ClassRows.{IndexOrNone, class_word}
+use Rattle.file_classes.specs.Classes.{RowIs}
+use Rattle.file_classes.proofs.EntryLaws.{entry_at}
+use Rattle.file_assemble.specs.ClassDefs.{ClassWithPlaces, SpellsClassRow, StringRanks, TypeRanks, with_places}
+use Rattle.file_assemble.specs.Rows.{SpellsFieldRow, SpellsMethodRow, SpellsProtoRow, SpellsProtos, SpellsRows, SpellsTable, SpellsTypeRow}
+use Rattle.file_assemble.proofs.PlacedClasses.{length-seated}
 use Rattle.program_types.specs.Content.{Class, Descriptor, FieldRef, MethodRef, OfDesc, OfField, OfMethod, OfText, Program, Proto, Units}
 use Rattle.program_types.specs.Key.{Key, field_ref_key, method_ref_key, proto_key, text_key}
 use Rattle.program_types.specs.Shorty.{shorty}
@@ -29,7 +29,7 @@ use Rattle.file_write.proofs.RowLaws.{seated_is}
 use Rattle.file_write.proofs.TableBytes.{beside, beside_got, beside_keys, beside_places, half_bytes, key_got, length-words_of, names_from, rows_part, word_bytes, word_got, words_part}
 use Rattle.file_layout.proofs.PartLaws.{slice_more}
 use Rattle.tables_names.proofs.PlaceLemmas.{one_key}
-use Rattle.base_bytes.proofs.ListFacts.{some_inj}
+use Rattle.dex_base.proofs.ListFacts.{some_inj}
 
 u16_fits : (b : List ℕ) (p : ℕ) → AreBytes b → u16_at b p < 2 ^ 16
 unfolding u16_at

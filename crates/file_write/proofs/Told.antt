@@ -3,8 +3,8 @@ use Rattle.std.proofs.Common.{◌≡◌, ◌≢◌, ℕ, zero, suc, ◌+◌, ◌
 use Rattle.std.proofs.lemmas.List.{drop_at, length-map, take-append-drop, take_at}
 use Rattle.std.specs.Prelude.{MatchBool, ◌==◌, ◌&&◌}
 use Rattle.std.specs.List.{AllZip, flat_map, slice_get}
-use Rattle.base_bytes.specs.Grammar.{IsPrefixUnique}
-use Rattle.base_bytes.specs.Leb128.{Shortest, Spells}
+use Rattle.dex_base.specs.Grammar.{IsPrefixUnique}
+use Rattle.dex_base.specs.Leb128.{Shortest, Spells}
 use Rattle.dex_base.specs.Mutf8.{PacksText, SpellsText}
 use Rattle.dex_base.proofs.TextLaws.{packed_is_text, text_unique}
 use Rattle.dex_container.specs.Frame.{IsFramed}
@@ -13,18 +13,18 @@ use Rattle.dex_value.specs.Spelling.{SpellsArray}
 use Rattle.dex_value.specs.Standing.{ArrayStands}
 use Rattle.dex_value.proofs.Weaker.{SpellsArray-weaker}
 use Rattle.dex_value.proofs.Carrying.{file_array_unique}
-use Rattle.file_read.specs.Code.{SpellsCode}
-use Rattle.file_read.proofs.CodeLaws.{SpellsCode-unique}
-use Rattle.file_read.specs.ClassData.{Entries, EntriesAt, FieldEntry, MethodEntry, SpellsEntries, no_entries}
-use Rattle.file_read.specs.Classes.{CodeAt, CodesAre, IsField, IsMethod, MembersAre, SomeCodeStands, StaticsAt}
-use Rattle.file_read.proofs.EntryLaws.{entries_unique}
-use Rattle.file_read.proofs.OnceLaws.{one_of_kind}
+use Rattle.code_read.specs.Code.{SpellsCode}
+use Rattle.code_read.proofs.CodeLaws.{SpellsCode-unique}
+use Rattle.file_classes.specs.ClassData.{Entries, EntriesAt, FieldEntry, MethodEntry, SpellsEntries, no_entries}
+use Rattle.file_classes.specs.Classes.{CodeAt, CodesAre, IsField, IsMethod, MembersAre, SomeCodeStands, StaticsAt}
+use Rattle.file_classes.proofs.EntryLaws.{entries_unique}
+use Rattle.file_classes.proofs.OnceLaws.{one_of_kind}
 use Rattle.file_layout.specs.Sections.{is_empty_list, never}
 use Rattle.file_layout.proofs.SectionLaws.{not_none}
-use Rattle.file_strip.specs.Wide.{bodies_in, bodies_of, body_values}
-use Rattle.file_strip.specs.Codes.{PacksBody, is_bodiless}
-use Rattle.file_strip.specs.Data.{FieldRanks, MembersRank, MethodRanks, PacksData, ClassWithCodes, code_offs, has_no_members, method_count, with_code_places}
-use Rattle.file_strip.specs.Lists.{SpellsRanks}
+use Rattle.file_limits.specs.Wide.{bodies_in, bodies_of, body_values}
+use Rattle.file_assemble.specs.Codes.{PacksBody, is_bodiless}
+use Rattle.file_assemble.specs.Data.{FieldRanks, MembersRank, MethodRanks, PacksData, ClassWithCodes, code_offs, has_no_members, method_count, with_code_places}
+use Rattle.file_assemble.specs.Lists.{SpellsRanks}
 use Rattle.program_types.specs.Content.{Class, Code, Descriptor, Member, Method, Name, OfDesc, OfField, OfMethod, Program, Units, Value}
 use Rattle.program_types.specs.Key.{text_key}
 use Rattle.tables_names.specs.Closure.{Five, NameRanks}
@@ -37,7 +37,7 @@ use Rattle.file_write.proofs.Codes.{PacksCode-weaker}
 use Rattle.file_write.proofs.Members.{entries_spelled, run_weaker}
 use Rattle.file_write.proofs.Readings.{AreEntriesOf, AreIndicesOf, IsBodyOf, shortest_same}
 use Rattle.file_write.proofs.Retold.{IsTold, told_made, zip_of}
-use Rattle.base_bytes.proofs.ListFacts.{zip_length, zip_append, zip_weaker}
+use Rattle.dex_base.proofs.ListFacts.{zip_length, zip_append, zip_weaker}
 
 -- two spellings that begin at one place are of one value
 one_at : {V : Type 0} (G : List ℕ → V → Type 0) → IsPrefixUnique G → (b : List ℕ) (place m n : ℕ) (v w : V) → G (slice b place m) v → G (slice b place n) w → w ≡ v

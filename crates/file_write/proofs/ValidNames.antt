@@ -15,7 +15,7 @@ use Rattle.program_types.specs.KeyLaws.{key_cmp-same}
 use Rattle.program_types.specs.Mentions.{mentions}
 use Rattle.program_rules.specs.Valid.{IsValidField, IsValidMethod, IsValidName, IsValidProto, IsValueType}
 use Rattle.dex_base.proofs.DescriptorLaws.{class_is_descriptor, owner_is_descriptor}
-use Rattle.base_bytes.proofs.ListFacts.{all_weaker}
+use Rattle.dex_base.proofs.ListFacts.{all_weaker}
 
 -- ---- what holds of each key of a set
 

@@ -3,18 +3,18 @@
 use Rattle.std.specs.Prelude.{◌≡◌, ℕ, zero, suc, ◌+◌, ◌*◌, ◌<◌, ◌==◌, if◌then◌else◌, List, [], ◌∷◌, ◌++◌, length, map, slice_index}
 use Rattle.std.specs.List.{flat_map}
 use Rattle.dex_base.specs.Mutf8.{PacksText}
-use Rattle.base_bytes.specs.Fields.{AreBytes, u16_at, u32_at}
-use Rattle.base_bytes.specs.Leb128.{Spells, Shortest}
-use Rattle.file_read.specs.ClassData.{Entries, EntriesAt, SpellsEntries}
-use Rattle.file_read.specs.ClassRows.{annotations_off, class_data_off, interfaces_off, static_values_off}
-use Rattle.file_strip.specs.Packs.{PacksCode}
-use Rattle.file_read.specs.Code.{SpellsCode}
+use Rattle.dex_base.specs.Fields.{AreBytes, u16_at, u32_at}
+use Rattle.dex_base.specs.Leb128.{Spells, Shortest}
+use Rattle.file_classes.specs.ClassData.{Entries, EntriesAt, SpellsEntries}
+use Rattle.file_classes.specs.ClassRows.{annotations_off, class_data_off, interfaces_off, static_values_off}
+use Rattle.code_put.specs.Packs.{PacksCode}
+use Rattle.code_read.specs.Code.{SpellsCode}
 use Rattle.dex_container.specs.Layout.{size_of, offset_of, row_bytes, map_place, map_end, entry_count, entry_place, kind_at, items_at, place_at, data_begin, data_end}
 use Rattle.dex_container.specs.Section as section
 use Rattle.file_layout.specs.Parts.{IsWrittenKind}
 use Rattle.file_layout.specs.Tiles.{Among, Tiles, IsNext, distinct_places}
 use Rattle.program_types.specs.Content.{Code, Value}
-use Rattle.file_strip.specs.Data.{code_offs}
+use Rattle.file_assemble.specs.Data.{code_offs}
 use Rattle.tables_rows.specs.Names.{AreRows}
 use Rattle.tables_rows.specs.RowFields.{string_place, proto_parameters}
 use Rattle.tables_rows.specs.Stands.{NameStands, SpellsIndexes}

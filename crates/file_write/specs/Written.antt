@@ -1,13 +1,13 @@
 -- What is written of a program, and of a file.
 -- Page: "Dalvik Executable format", "File layout".
 use Rattle.std.specs.Prelude.{◌≡◌, ℕ, ◌<◌, ◌≤◌, ◌⊎◌, List, length}
-use Rattle.base_bytes.specs.declared.fault.Fault.{Fault}
+use Rattle.dex_base.specs.declared.fault.Fault.{Fault}
 use Rattle.dex_container.specs.Layout.{size_of}
 use Rattle.file_read.specs.Means.{Means}
 use Rattle.file_read.specs.Refused.{IsRefused}
 use Rattle.file_strip.specs.AtLeast.{HoldsAtLeast}
-use Rattle.file_strip.specs.Limits.{Fits, IsLowestLimit}
-use Rattle.file_strip.specs.Wide.{wide}
+use Rattle.file_limits.specs.Limits.{Fits, IsLowestLimit}
+use Rattle.file_limits.specs.Wide.{wide}
 use Rattle.tables_names.specs.Needed.{needed}
 use Rattle.program_types.specs.Content.{Program}
 use Rattle.file_write.specs.Packed.{Packed}

@@ -1,14 +1,14 @@
 //! Laws of what is assembled, each the contract of a function that does nothing.
 //! Page: "Dalvik Executable format", "File layout".
 ghost use Rattle.std.specs.Prelude.{◌≡◌, ℕ, ◌<◌, ◌↔◌, List};
-ghost use Rattle.file_strip.specs.Assembled.{Assembled};
-ghost use Rattle.file_read.specs.ClassRows.{InOrder};
-ghost use Rattle.file_read.specs.Classes.{SpellsClass};
+ghost use Rattle.file_assemble.specs.Assembled.{Assembled};
+ghost use Rattle.file_classes.specs.ClassRows.{InOrder};
+ghost use Rattle.file_classes.specs.Classes.{SpellsClass};
 ghost use Rattle.dex_container.specs.Frame.{IsFramed};
 ghost use Rattle.dex_container.specs.Layout.{size_of};
 ghost use Rattle.dex_container.specs.Section as section;
 ghost use Rattle.file_read.specs.Means.{Means};
-ghost use Rattle.file_strip.specs.Limits.{Fits};
+ghost use Rattle.file_limits.specs.Limits.{Fits};
 ghost use Rattle.tables_names.specs.Needed.{needed};
 ghost use Rattle.program_types.specs.Content.{Program};
 ghost use Rattle.program_rules.specs.WellFormed.{WellFormed};

@@ -19,6 +19,3 @@ pub use laws::{
     packed_is_assembled, stripped_alike_exactly_if_meaning_alike, stripped_stays, written_is_read,
 };
 pub use writing::{strip, strip_seeded, write, write_seeded};
-
-// What stands below, for the crates above.
-pub use file_read::{check, read};

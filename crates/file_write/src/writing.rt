@@ -1,19 +1,19 @@
 //! From a program to its file, and from a file to one without slack.
 //! Page: "Dalvik Executable format", "File layout".
 ghost use Rattle.std.specs.Prelude.{◌≡◌, ◌≢◌, ◌≤◌, ℕ, List, IfOk, IfErr, IsOkUnless, OnOk};
-ghost use Rattle.base_bytes.specs.Fault.{memory};
-ghost use Rattle.base_bytes.specs.Fields.{AreBytes};
+ghost use Rattle.dex_base.specs.Fault.{memory};
+ghost use Rattle.dex_base.specs.Fields.{AreBytes};
 ghost use Rattle.file_read.specs.Means.{Means};
-ghost use Rattle.file_strip.specs.Limits.{Fits, IsLowestLimit};
+ghost use Rattle.file_limits.specs.Limits.{Fits, IsLowestLimit};
 ghost use Rattle.program_types.specs.View as view;
 ghost use Rattle.program_rules.specs.WellFormed.{WellFormed};
 ghost use Rattle.file_write.specs.Written.{IsFileOf, IsStripped, IsStripRefused};
 
-use base_bytes::are_bytes;
-use dex_base::{Fault, Seed};
+use dex_base::{Fault, Seed, are_bytes};
 use dex_container::open;
+use file_assemble::assemble;
 use file_read::check_framed;
-use file_strip::{assemble, strip_framed};
+use file_strip::strip_framed;
 use program_types::Program;
 use std::alloc::Global;
 

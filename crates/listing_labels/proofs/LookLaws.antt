@@ -8,7 +8,7 @@ use Rattle.listing_slots.proofs.KeyLaws.{same_true}
 use Rattle.listing_labels.specs.Labels.{Label, lookup, with_label}
 use Rattle.listing_labels.specs.View.{label, place_in}
 use Rattle.listing_labels.specs.declared.known.Place.{Place}
-use Rattle.base_bytes.proofs.ListFacts.{by_kind}
+use Rattle.dex_base.proofs.ListFacts.{by_kind}
 
 chosen : (b : Bool) (name : Bor (List ℕ)) (p : Place) (o : Option Place) (q : Option Label) → o ≡ place_in q → cond b (Some p) o ≡ place_in (if b then Some (label (name, p)) else q)
 chosen true name p o q e = refl

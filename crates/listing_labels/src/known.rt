@@ -1,15 +1,14 @@
 //! The labels of a code, held so that each is found by its name.
 
 ghost use Rattle.std.specs.Prelude.{◌≡◌, [], Some, map, IfSome, OnOk, IsOkUnless};
-ghost use Rattle.base_bytes.specs.Fault.{memory};
+ghost use Rattle.dex_base.specs.Fault.{memory};
 ghost use Rattle.listing_labels.specs.Labels.{Label, lookup, with_label};
 ghost use Rattle.listing_labels.specs.Order.{shortlex, is_above, LabelsRise};
 ghost use Rattle.listing_labels.specs.View.{label, place_in};
 
-use base_bytes::Seed;
+use dex_base::{Fault, Seed};
 use indexmap::IndexMap;
 use listing_slots::is_same;
-use listing_words::Fault;
 use std::alloc::Global;
 use std::cmp::Ordering;
 use std::marker::Model;

@@ -1,7 +1,7 @@
 //! Labels: how they are spelled, what they mark, and what words say where they stand.
 
 ghost use Rattle.std.specs.Prelude.{◌≡◌, ◌<◌, ◌+◌, ◌^◌, ◌∷◌, [], Some, map, length, IfOk, IfSome, IfNone, OnOk, IsOkUnless};
-ghost use Rattle.base_bytes.specs.Fault.{memory};
+ghost use Rattle.dex_base.specs.Fault.{memory};
 ghost use Rattle.listing_words.specs.Words.{up_to_space};
 ghost use Rattle.listing_words.specs.View.{word};
 ghost use Rattle.listing_slots.specs.Data.{Datum as Said};
@@ -16,10 +16,11 @@ ghost use Rattle.listing_labels.specs.Labels.{SpellsHere, SpellsAll, MisspellsAl
 use crate::known::{Labels, Place};
 use crate::pieces::split_line;
 use bumpalo::Bump;
+use dex_base::{Fault, fault};
 use listing_slots::{
     Datum, Key, Mark, Slot, Spelled, fault_of, is_same, key_text, read_datum, read_marked,
 };
-use listing_words::{Fault, Word, after_spaces, fault};
+use listing_words::{Word, after_spaces};
 
 /// Whether a byte can stand in a label.
 fn is_name_byte(c: u8) -> bool

@@ -22,7 +22,7 @@ use Rattle.listing_laws.proofs.RunLaws.{IsLine, line_first, line_is, graphic_lin
 use Rattle.listing_laws.proofs.FormWords.{label_written}
 use Rattle.listing_laws.proofs.InsnRuns.{insn_words, insn_is, insn_is_other, insn_line_is, insn_written, insn_shown}
 use Rattle.listing_words.proofs.PrintLaws.{starts, up_to_end}
-use Rattle.base_bytes.proofs.ListFacts.{by_kind}
+use Rattle.dex_base.proofs.ListFacts.{by_kind}
 use Rattle.listing_slots.proofs.KeyLaws.{same_true}
 use Rattle.listing_labels.proofs.LookLaws.{look_after, with_new}
 

@@ -19,7 +19,7 @@ use Rattle.listing_laws.proofs.NameFits.{IsNamed, proto_fits, name_fits}
 use Rattle.listing_laws.proofs.InsnFits.{operands_append, signed8, signed16, signed32, signed64}
 use Rattle.listing_laws.proofs.CodeRules.{code_fits}
 use Rattle.listing_laws.proofs.OrderRules.{keys_sorted}
-use Rattle.base_bytes.proofs.ListFacts.{all_front, all_back}
+use Rattle.dex_base.proofs.ListFacts.{all_front, all_back}
 
 names_of : (ns : List Name) → AllByRecursion IsValidName ns → AllByRecursion NameInRange ns → AllByRecursion IsNamed ns
 names_of [] v r = tt

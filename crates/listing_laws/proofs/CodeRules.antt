@@ -8,7 +8,7 @@ use Rattle.program_types.specs.Operands.{IsOperand}
 use Rattle.listing_laws.proofs.Printable.{InstructionsFit, CatchFits, CatchAllFits, TryFits, CodeFits}
 use Rattle.listing_laws.proofs.NameFits.{IsNamed, name_fits}
 use Rattle.listing_laws.proofs.InsnFits.{target_fits, insn_fits}
-use Rattle.base_bytes.proofs.ListFacts.{all_back, all_front}
+use Rattle.dex_base.proofs.ListFacts.{all_back, all_front}
 
 -- ---- what holds of two lists
 

@@ -26,7 +26,7 @@ use Rattle.listing_laws.proofs.FormWords.{TargetsAreMarked, label_written, named
 use Rattle.listing_laws.proofs.InsnRuns.{insn_runs}
 use Rattle.listing_laws.proofs.Ahead.{label_of, marked, past_mark, labels_from, AreBefore, before_more, found_first, label_is_line}
 use Rattle.listing_laws.proofs.Targets.{MarkAll, AreNamed, insn_marked}
-use Rattle.base_bytes.proofs.ListFacts.{by_kind}
+use Rattle.dex_base.proofs.ListFacts.{by_kind}
 
 pub nothing_runs : (f : Frame) (s : State) → RunsTo f s [] s
 nothing_runs f s rest u r = r

@@ -11,9 +11,9 @@ use Rattle.listing_slots.specs.Data.{Datum, word, named, said, text_of, type_of,
 use Rattle.listing_slots.specs.Keys.{key_text, same, find_key, lead_keys}
 use Rattle.listing_slots.specs.Slots.{mark_text, SpellsNumber, SpellsNamed, IsMember, IsType, SpellsSlots, has_form, have_forms}
 use Rattle.listing_slots.specs.declared.slot.Mark.TheVariants.{Nothing}
-use Rattle.listing_shapes.specs.declared.due.Due.TheVariants as due
-use Rattle.listing_shapes.specs.Shapes.{Shape, Row, IsKeyed, key_row, given_row, field_slots, flags, value_slots}
-use Rattle.listing_shapes.proofs.ShapeLaws.{no_colon}
+use Rattle.listing_slots.specs.declared.due.Due.TheVariants as due
+use Rattle.listing_slots.specs.Shapes.{Shape, Row, IsKeyed, key_row, given_row, field_slots, flags, value_slots}
+use Rattle.listing_slots.proofs.ShapeLaws.{no_colon}
 use Rattle.listing_lines.specs.Lines.{line_of, static_line, value_of, member_of}
 use Rattle.listing_print.proofs.RowLaws.{past_three}
 use Rattle.listing_lines.specs.declared.form.Form.{Form}

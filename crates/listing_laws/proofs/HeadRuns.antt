@@ -18,7 +18,7 @@ use Rattle.listing_laws.proofs.RunLaws.{runs_join}
 use Rattle.listing_laws.proofs.KeyedLaws.{keyed_runs}
 use Rattle.listing_laws.proofs.CodeRuns.{nothing_runs}
 use Rattle.listing_slots.proofs.KeyLaws.{same_true}
-use Rattle.base_bytes.proofs.ListFacts.{slice_left}
+use Rattle.dex_base.proofs.ListFacts.{slice_left}
 
 -- A class that has its heads so far, and no members.
 abbrev pub headed : Class → Option Descriptor → List Descriptor → Option Units → Open

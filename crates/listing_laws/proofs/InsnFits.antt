@@ -13,7 +13,7 @@ use Rattle.program_types.specs.Content.{Insn, Name, OfText, OfDesc, OfField, OfM
 use Rattle.program_types.specs.Mentions.{names_of_insn}
 use Rattle.program_types.specs.Operands.{IsOfIndexKind, IsOperand}
 use Rattle.listing_slots.specs.Slots.{IsSignedWithin}
-use Rattle.listing_shapes.specs.Shapes.{name_slot}
+use Rattle.listing_slots.specs.Shapes.{name_slot}
 use Rattle.listing_lines.specs.Needs.{insn_needs, most_needed}
 use Rattle.listing_print.specs.Operands.{Operand, insn_operands, name_operand, v4, to, keyword, pair_operands, element_operands}
 use Rattle.listing_print.specs.Reading.{FitOperands, OpcodeFits, IsNameOfOpcode}

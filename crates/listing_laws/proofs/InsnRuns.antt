@@ -41,7 +41,7 @@ use Rattle.listing_laws.proofs.Runs.{RunsTo, frame, at}
 use Rattle.listing_laws.proofs.RunLaws.{IsLine, line_runs, line_is, words_line, spaced_words}
 use Rattle.listing_laws.proofs.FormWords.{words_written, text_is_in, TargetsAreMarked, spelled_in}
 use Rattle.listing_laws.proofs.KeyedLaws.{not_line_of_form, no_line_of_form}
-use Rattle.base_bytes.proofs.ListFacts.{all_append, not_true}
+use Rattle.dex_base.proofs.ListFacts.{all_append, not_true}
 use Rattle.listing_parse.proofs.FormLineLaws.{not_second}
 
 -- ---- its words are written

@@ -12,7 +12,7 @@ use Rattle.listing_slots.specs.declared.slot.Slot.TheVariants as slot
 use Rattle.listing_slots.specs.Keys.{key_text, same}
 use Rattle.listing_slots.specs.Data.{said}
 use Rattle.listing_slots.proofs.ShownLaws.{shown_written}
-use Rattle.listing_shapes.specs.Shapes.{Shape}
+use Rattle.listing_slots.specs.Shapes.{Shape}
 use Rattle.listing_lines.specs.Lines.{Line, first_line, static_line, open_code, end_code, insn_line, try_line, catch_line, catch_all_line}
 use Rattle.listing_lines.specs.Places.{may_stand, is_insn}
 use Rattle.listing_lines.specs.Forms.{is_two}
@@ -33,7 +33,7 @@ use Rattle.listing_print.proofs.RowLaws.{keyed_has_shape, keyed_says_line}
 use Rattle.listing_laws.proofs.Runs.{Frame, bare, at, RunsInto, RunsTo}
 use Rattle.listing_laws.proofs.RunLaws.{IsLine, line_reads, line_runs, line_is, words_line, spaced_words}
 use Rattle.listing_laws.proofs.FormWords.{words_written, text_is_in, text_is, TargetIsMarked, TargetsAreMarked, first_marked, spelled_in}
-use Rattle.base_bytes.proofs.ListFacts.{all_append}
+use Rattle.dex_base.proofs.ListFacts.{all_append}
 
 -- ---- a line that begins with a keyword says something of the program
 

@@ -8,7 +8,7 @@ use Rattle.program_rules.specs.Ranges.{ProtoInRange, NameInRange}
 use Rattle.listing_words.specs.Written.{proto_units}
 use Rattle.listing_slots.specs.Shown.{IsProto, FitsSlot}
 use Rattle.listing_print.specs.Operands.{name_operand}
-use Rattle.base_bytes.proofs.ListFacts.{all_append, all_weaker}
+use Rattle.dex_base.proofs.ListFacts.{all_append, all_weaker}
 use Rattle.dex_base.proofs.DescriptorLaws.{class_is_descriptor, owner_is_descriptor}
 
 -- The name is one that a file can have, and its units are of 16 bits.

@@ -13,9 +13,9 @@ use Rattle.listing_slots.specs.declared.slot.Slot.TheVariants as slot
 use Rattle.listing_slots.specs.Data.{Datum, said}
 use Rattle.listing_slots.specs.Keys.{key_text, same, find_key, value_keys}
 use Rattle.listing_slots.specs.Slots.{SpellsSlot, has_form}
-use Rattle.listing_shapes.specs.declared.due.Due.TheVariants as due
-use Rattle.listing_shapes.specs.Shapes.{slot_at, due_after_word, due_after, due_of_key, due_after_close, due_after_key, key_slot}
-use Rattle.listing_shapes.proofs.ShapeLaws.{chosen}
+use Rattle.listing_slots.specs.declared.due.Due.TheVariants as due
+use Rattle.listing_slots.specs.Shapes.{slot_at, due_after_word, due_after, due_of_key, due_after_close, due_after_key, key_slot}
+use Rattle.listing_slots.proofs.ShapeLaws.{chosen}
 use Rattle.listing_lines.specs.Lines.{value_of}
 use Rattle.listing_print.specs.Operands.{value_operands, values_operands}
 use Rattle.listing_print.specs.Operands as print

@@ -12,7 +12,7 @@ use Rattle.listing_labels.specs.Lines.{lines}
 use Rattle.listing_parse.specs.Text.{Reading, TakesLine, Reads, IsListing}
 use Rattle.listing_lines.specs.declared.form.Form.TheVariants.{One}
 use Rattle.listing_laws.proofs.Runs.{Frame, bare, at, RunsInto, RunsTo}
-use Rattle.base_bytes.proofs.ListFacts.{all_append}
+use Rattle.dex_base.proofs.ListFacts.{all_append}
 
 pub runs_joined : (f g h : Frame) (s t u : State) (a b : List ℕ) → RunsInto f s a g t → RunsInto g t b h u → RunsInto f s (a ++ b) h u
 runs_joined f g h s t u a b x y rest v r = subst (λ (t : List ℕ). Reads (at f s) (lines t) [] v) (sym (append_assoc a b rest)) (x (b ++ rest) v (y rest v r))

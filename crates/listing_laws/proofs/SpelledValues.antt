@@ -13,8 +13,8 @@ use Rattle.listing_slots.specs.Data.{Datum, half, word, wide, tiny, short, int, 
 use Rattle.listing_slots.specs.Keys.{key_text, same, find_key}
 use Rattle.listing_slots.specs.Slots.{SpellsSlot, has_form}
 use Rattle.listing_slots.proofs.ShownLaws.{same_refl}
-use Rattle.listing_shapes.specs.declared.due.Due.TheVariants as due
-use Rattle.listing_shapes.specs.Shapes.{slot_at, due_after_word, due_after}
+use Rattle.listing_slots.specs.declared.due.Due.TheVariants as due
+use Rattle.listing_slots.specs.Shapes.{slot_at, due_after_word, due_after}
 use Rattle.listing_print.specs.Operands.{value_operands, values_operands}
 use Rattle.listing_print.specs.Operands as print
 use Rattle.listing_print.specs.Reading.{data_of}

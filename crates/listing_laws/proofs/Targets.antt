@@ -17,7 +17,7 @@ use Rattle.listing_print.specs.Canon.{try_numbers, code_numbers, is_named}
 use Rattle.listing_print.specs.Reading.{FitOperands}
 use Rattle.listing_laws.proofs.FormWords.{TargetIsMarked, TargetsAreMarked, first_marked}
 use Rattle.listing_laws.proofs.Ahead.{labels_from, none_before, found_each}
-use Rattle.base_bytes.proofs.ListFacts.{all_append}
+use Rattle.dex_base.proofs.ListFacts.{all_append}
 
 -- Each named number up to the count is marked by its label.
 abbrev pub MarkAll : Form → List ℕ → List Label → ℕ → Type 0

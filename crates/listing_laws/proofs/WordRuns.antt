@@ -4,8 +4,8 @@ use Rattle.listing_words.specs.Words.{Word}
 use Rattle.listing_slots.specs.declared.slot.Slot.{Slot}
 use Rattle.listing_slots.specs.Data.{Datum}
 use Rattle.listing_slots.specs.Slots.{SpellsSlot, SpellsSlots, has_form, have_forms}
-use Rattle.listing_shapes.specs.declared.due.Due.{Due}
-use Rattle.listing_shapes.specs.Shapes.{slot_at, due_after_word, is_whole, value_slots}
+use Rattle.listing_slots.specs.declared.due.Due.{Due}
+use Rattle.listing_slots.specs.Shapes.{slot_at, due_after_word, is_whole, value_slots}
 use Rattle.std.proofs.lemmas.Bool.{and_parts}
 
 -- from what is due, the words say this, and then a value is whole

@@ -13,8 +13,8 @@ use Rattle.listing_slots.specs.declared.slot.Slot.{Slot}
 use Rattle.listing_slots.specs.Data.{Datum}
 use Rattle.listing_slots.specs.Keys.{key_text}
 use Rattle.listing_slots.specs.Slots.{SpellsNumber, SpellsInteger, SpellsPlain, SpellsNamed, IsMember, IsType, SpellsSlots, have_forms}
-use Rattle.listing_shapes.specs.declared.due.Due.TheVariants as due
-use Rattle.listing_shapes.specs.Shapes.{Shape, value_slots}
+use Rattle.listing_slots.specs.declared.due.Due.TheVariants as due
+use Rattle.listing_slots.specs.Shapes.{Shape, value_slots}
 use Rattle.listing_lines.specs.Lines.{Line, line_of, value_of}
 use Rattle.listing_lines.specs.declared.form.Form.{Form}
 use Rattle.listing_labels.specs.Labels.{Label}

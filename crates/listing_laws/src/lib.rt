@@ -14,6 +14,3 @@ mod values;
 pub use laws::what_is_printed_is_read_again;
 pub use twice_laws::only_what_is_given_twice_is_refused;
 pub use values::values_are_spelled;
-
-// What stands below, for the crates above.
-pub use listing_print::print;

@@ -1,7 +1,7 @@
 //! Lines made of what their slots say.
 
 ghost use Rattle.std.specs.Prelude.{◌≡◌, map, drop, false, IfOk, IsOkUnless};
-ghost use Rattle.listing_slots.specs.Fault.{memory};
+ghost use Rattle.dex_base.specs.Fault.{memory};
 ghost use Rattle.dex_insn.specs.Opcodes.{format_of};
 ghost use Rattle.program_types.specs.View.{insn};
 ghost use Rattle.listing_slots.specs.View.{datum};
@@ -14,7 +14,8 @@ use crate::make::{make_member, make_method, plain_insn};
 use crate::making::make_value;
 use bumpalo::Bump;
 use bumpalo::collections::into_bump_slice;
-use dex_insn::{Fault, format_of};
+use dex_base::Fault;
+use dex_insn::format_of;
 use listing_slots::{
     Datum, Kind, datum_at, elements_of, half_of, int_of, text_of, type_of, word_of,
 };

@@ -15,7 +15,7 @@ use program_types::{Insn, Member, Method};
 /// The instruction of this opcode and these operands.
 #[rattlefmt::skip]
 #[tactic(auto, unfolding(crate::specs::Lines::insn_of))]
-pub fn plain_insn<'a>(format: Format, op: u8, said: &[Datum<'a>]) -> Insn<'a>
+pub(crate) fn plain_insn<'a>(format: Format, op: u8, said: &[Datum<'a>]) -> Insn<'a>
     ensures { insn result ≡ insn_of (Some format) op (map datum said.now) }
 {
     let first = datum_at(said, 0);
@@ -60,7 +60,7 @@ pub fn plain_insn<'a>(format: Format, op: u8, said: &[Datum<'a>]) -> Insn<'a>
 }
 
 /// The field.
-pub fn make_member<'a>(said: &[Datum<'a>]) -> Member<'a>
+pub(crate) fn make_member<'a>(said: &[Datum<'a>]) -> Member<'a>
     ensures { member result ≡ member_of (map datum said.now) }
 {
     Member {
@@ -71,7 +71,7 @@ pub fn make_member<'a>(said: &[Datum<'a>]) -> Member<'a>
 }
 
 /// The method, without code.
-pub fn make_method<'a>(said: &[Datum<'a>]) -> Method<'a>
+pub(crate) fn make_method<'a>(said: &[Datum<'a>]) -> Method<'a>
     ensures { method result ≡ method_of (map datum said.now) }
 {
     Method {

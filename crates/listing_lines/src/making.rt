@@ -1,7 +1,7 @@
 //! Values made of what the words say.
 
 ghost use Rattle.std.specs.Prelude.{◌≡◌, map, IfOk, OnOk, IsOkUnless};
-ghost use Rattle.listing_slots.specs.Fault.{memory};
+ghost use Rattle.dex_base.specs.Fault.{memory};
 ghost use Rattle.program_types.specs.Content as content;
 ghost use Rattle.program_types.specs.View.{value, name};
 ghost use Rattle.listing_slots.specs.declared.datum.Datum.TheVariants as Datum;
@@ -11,13 +11,13 @@ ghost use Rattle.listing_lines.specs.Lines.{value_of, with_word, with_value};
 ghost use Rattle.listing_lines.specs.MakingView.{making};
 
 use bumpalo::Bump;
-use dex_insn::Fault;
+use dex_base::Fault;
 use listing_slots::{Datum, Key};
 use program_types::{Name, Value};
 
 /// The values so far, and where the open arrays begin in them.
 #[derive(Drop)]
-pub struct Making<'a> {
+pub(crate) struct Making<'a> {
     pub values: Vec<Value<'a>, &'a Bump>,
     pub begins: Vec<usize, &'a Bump>,
 }
@@ -109,7 +109,7 @@ impl<'a> Making<'a> {
 }
 
 /// The value that the words say.
-pub fn make_value<'a>(alloc: &'a Bump, words: &[Datum<'a>]) -> Result<Value<'a>, Fault>
+pub(crate) fn make_value<'a>(alloc: &'a Bump, words: &[Datum<'a>]) -> Result<Value<'a>, Fault>
     ensures ok { IfOk result (λ v. value v ≡ value_of (map datum words.now)) }
     ensures memory { IsOkUnless result memory }
 {

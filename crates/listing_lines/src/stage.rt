@@ -34,28 +34,28 @@ pub fn is_start(stage: Stage) -> bool
 }
 
 /// Whether outside of classes.
-pub fn is_top(stage: Stage) -> bool
+pub(crate) fn is_top(stage: Stage) -> bool
     ensures { result ≡ is_top stage }
 {
     matches!(stage, Stage::Top)
 }
 
 /// Whether before the members of a class.
-pub fn is_heads(stage: Stage) -> bool
+pub(crate) fn is_heads(stage: Stage) -> bool
     ensures { result ≡ is_heads stage }
 {
     matches!(stage, Stage::Heads)
 }
 
 /// Whether in a class, outside of code.
-pub fn is_in_class(stage: Stage) -> bool
+pub(crate) fn is_in_class(stage: Stage) -> bool
     ensures { result ≡ is_in_class stage }
 {
     matches!(stage, Stage::Heads | Stage::Members | Stage::After)
 }
 
 /// Whether after a method.
-pub fn is_after(stage: Stage) -> bool
+pub(crate) fn is_after(stage: Stage) -> bool
     ensures { result ≡ is_after stage }
 {
     matches!(stage, Stage::After)
@@ -69,7 +69,7 @@ pub fn is_insns(stage: Stage) -> bool
 }
 
 /// Whether in code.
-pub fn is_in_code(stage: Stage) -> bool
+pub(crate) fn is_in_code(stage: Stage) -> bool
     ensures { result ≡ is_in_code stage }
 {
     matches!(stage, Stage::Insns | Stage::Tries | Stage::Caught)

@@ -1,7 +1,7 @@
 -- A text is one program, and none where a fault stands.
 use Rattle.std.proofs.Common.{◌≡◌, ◌⊎◌, ℕ, Bool, true, false, inl, inr, List, [], ◌∷◌, ◌++◌, Some, None, sym, ap, subst, ◌∙◌, append_assoc}
 use Rattle.std.proofs.lemmas.List.{append-nil}
-use Rattle.base_bytes.specs.declared.fault.Fault.{Fault}
+use Rattle.dex_base.specs.declared.fault.Fault.{Fault}
 use Rattle.program_types.specs.Content.{Program}
 use Rattle.program_rules.specs.Rules.{RulesHold, RuleBreaks}
 use Rattle.program_rules.proofs.OneRule.{class_keeps}
@@ -9,7 +9,7 @@ use Rattle.listing_words.specs.Words.{Word}
 use Rattle.listing_words.proofs.WordLaws.{words_one}
 use Rattle.listing_slots.specs.declared.slot.Slot.{Slot}
 use Rattle.listing_slots.specs.Data.{Datum}
-use Rattle.listing_draft.specs.Shapes.{Shape}
+use Rattle.listing_slots.specs.Shapes.{Shape}
 use Rattle.listing_labels.specs.Lines.{lines, is_skipped}
 use Rattle.listing_labels.specs.Labels.{Label}
 use Rattle.listing_labels.proofs.SpellLaws.{here_one, here_bad}
@@ -19,10 +19,10 @@ use Rattle.listing_parse.specs.Forms.{HasShapeInForm, may_stand_in_form, SpellsI
 use Rattle.listing_parse.specs.declared.form_line.FormLine.TheVariants.{Nothing, Refused, First, Mark}
 use Rattle.listing_lines.specs.Lines.{line_of}
 use Rattle.listing_slots.proofs.SpellLaws.{all_one, none_bad}
-use Rattle.listing_draft.specs.States.{add}
+use Rattle.listing_parse.specs.States.{add}
 use Rattle.listing_parse.specs.Text.{Reading, begin, line_counted, line_of_form, in_second, LineSays, AddsLine, IsUnsaid, AreRefused, TakesLine, Reads, IsListing, LineIsRefused, IsBadLine, ListingBreaks}
 use Rattle.listing_slots.proofs.SpellsOneLaws.{spells_one}
-use Rattle.listing_draft.proofs.ShapeLaws.{shapes_one, bare_one}
+use Rattle.listing_slots.proofs.ShapeLaws.{shapes_one, bare_one}
 
 pub not_both : (b : Bool) → b ≡ true → b ≡ false → ⊥
 not_both b e f = let g = sym e ∙ f in cc

@@ -4,7 +4,7 @@ use Rattle.std.proofs.lemmas.Bool.{eq-eqb, ne_eqb}
 use Rattle.listing_labels.specs.Labels.{Label, is_label, lookup}
 use Rattle.listing_labels.specs.View.{place_in}
 use Rattle.listing_labels.specs.declared.known.Place.{Place}
-use Rattle.listing_draft.specs.States.{stage_of}
+use Rattle.listing_parse.specs.States.{stage_of}
 use Rattle.listing_lines.specs.Forms.{is_two}
 use Rattle.listing_lines.specs.Places.{is_start, is_insns}
 use Rattle.listing_words.specs.Words.{Word, plain_word}
@@ -13,7 +13,7 @@ use Rattle.listing_words.specs.declared.words.Word.{Word as Made}
 use Rattle.listing_parse.specs.Text.{Reading, is_on, is_second, line_of_label, line_of_mark, line_of_form}
 use Rattle.listing_parse.specs.declared.form_line.FormLine.{FormLine}
 use Rattle.listing_parse.specs.declared.form_line.FormLine.TheVariants.{Nothing, Refused, First, Mark}
-use Rattle.base_bytes.proofs.ListFacts.{or_last}
+use Rattle.dex_base.proofs.ListFacts.{or_last}
 use Rattle.listing_slots.specs.Keys.{same}
 
 -- the place is of this line

@@ -1,9 +1,24 @@
+pub mod CloseLaws
+pub mod OpenLaws
+pub mod EntryLaws
+pub mod StageLaws
 pub mod RefusedLaws
 pub mod ReadingLaws
 pub mod FormLineLaws
 pub mod ExactLaws
 pub mod OneFault
 pub mod NamedLaws
--- What stands below, for the crates above.
-pub use Rattle.listing_draft.proofs.ShapeLaws
-pub use Rattle.listing_draft.proofs.StageLaws
+pub mod LateLaws
+pub mod CodeLaws
+pub mod HeldLaws
+pub mod ValueLaws
+pub mod Numbering
+pub mod HeadLaws
+pub mod MemberLaws
+pub mod ClassLaws
+pub mod SecondFormLaws
+pub mod LineSteps
+pub mod LabelLaws
+pub mod ReadOn
+pub mod ReadBack
+pub mod ListingLaws

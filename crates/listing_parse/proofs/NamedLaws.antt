@@ -3,7 +3,7 @@ use Rattle.std.proofs.Common.{◌≡◌, ℕ, Bool, true, false, if◌then◌els
 use Rattle.std.specs.Prelude.{⊤, IfSome}
 use Rattle.std.specs.List.{AllByRecursion}
 use Rattle.std.specs.Ordering.{is_eq, is_lt}
-use Rattle.base_bytes.proofs.ListFacts.{all_append}
+use Rattle.dex_base.proofs.ListFacts.{all_append}
 use Rattle.dex_insn.specs.declared.opcode.Format.{Format}
 use Rattle.dex_insn.specs.declared.opcode.Format.TheVariants as format
 use Rattle.dex_insn.specs.Opcodes.{format_of}
@@ -18,11 +18,11 @@ use Rattle.listing_slots.specs.declared.kind.Kind.TheVariants as kind
 use Rattle.listing_lines.specs.Lines.{Line, first_line, open_class, end_class, super_line, implements_line, source_line, static_line, instance_line, direct_line, virtual_line, open_code, end_code, insn_line, try_line, catch_line, catch_all_line, insn_of, line_of}
 use Rattle.listing_lines.specs.Needs.{earliest}
 use Rattle.listing_lines.specs.Places.{is_start, is_top}
-use Rattle.listing_draft.specs.Members.{Given, given_key, is_held, put_in, with_member}
-use Rattle.listing_draft.specs.States.{Open, Owner, ClassPart, at_heads, at_members, after_method, Body, CodePart, after_try, Block, at_top, in_class, in_code, State, stage_of, opened, closed, with_code, with_code_at, is_among, with_static, with_instance, with_direct, with_virtual, with_superclass, with_source, with_interface, at_part, class_line, begun, noted, with_tries, with_catch, is_in_try, whole_code, code_line, inside, class_of, owner_of, with_body, code_ended, late_in, with_block, add}
+use Rattle.listing_parse.specs.Members.{Given, given_key, is_held, put_in, with_member}
+use Rattle.listing_parse.specs.States.{Open, Owner, ClassPart, at_heads, at_members, after_method, Body, CodePart, after_try, Block, at_top, in_class, in_code, State, stage_of, opened, closed, with_code, with_code_at, is_among, with_static, with_instance, with_direct, with_virtual, with_superclass, with_source, with_interface, at_part, class_line, begun, noted, with_tries, with_catch, is_in_try, whole_code, code_line, inside, class_of, owner_of, with_body, code_ended, late_in, with_block, add}
 use Rattle.listing_parse.specs.Named.{MethodsAreNamed, OpenIsNamed, BlockIsNamed, StateIsNamed, ReadingIsNamed}
 use Rattle.listing_parse.specs.Text.{Reading, begin, in_second, line_counted}
-use Rattle.base_bytes.proofs.OptionLaws.{IfSome-map}
+use Rattle.dex_base.proofs.OptionLaws.{IfSome-map}
 
 -- ---- of one of two, and of what may be missing
 

@@ -1,7 +1,7 @@
 -- A listing has one fault, at one place.
 use Rattle.std.proofs.Common.{◌≡◌, ◌⊎◌, ℕ, ◌+◌, ◌<◌, true, inl, inr, List, [], ◌∷◌, ◌++◌, length, Some, None, refl, sym, ap, subst, ◌∙◌, arith}
 use Rattle.std.proofs.lemmas.Bool.{cases_lt}
-use Rattle.base_bytes.specs.declared.fault.Fault.{Fault}
+use Rattle.dex_base.specs.declared.fault.Fault.{Fault}
 use Rattle.program_types.specs.Content.{Program}
 use Rattle.program_rules.specs.Rules.{RuleBreaks}
 use Rattle.program_rules.proofs.OneRule.{rule_one}
@@ -9,7 +9,7 @@ use Rattle.listing_words.specs.Words.{Word, HasWords}
 use Rattle.listing_words.proofs.WordLaws.{words_one}
 use Rattle.listing_slots.specs.declared.slot.Slot.{Slot}
 use Rattle.listing_slots.specs.Slots.{MisspellsSlots}
-use Rattle.listing_draft.specs.Shapes.{Shape}
+use Rattle.listing_slots.specs.Shapes.{Shape}
 use Rattle.listing_labels.specs.Lines.{lines}
 use Rattle.listing_labels.specs.Labels.{Label, MisspellsAll}
 use Rattle.listing_lines.specs.declared.form.Form.{Form}

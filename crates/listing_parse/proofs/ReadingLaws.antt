@@ -1,18 +1,18 @@
 -- Lines one after the other.
 use Rattle.std.proofs.Common.{◌≡◌, ℕ, ◌+◌, inl, inr, List, [], ◌∷◌, ◌++◌, length, Some, None, refl, sym, ap, subst, ◌∙◌, append_assoc}
 use Rattle.std.proofs.lemmas.List.{append-nil}
-use Rattle.base_bytes.specs.declared.fault.Fault.{Fault}
+use Rattle.dex_base.specs.declared.fault.Fault.{Fault}
 use Rattle.program_rules.specs.Rules.{RuleBreaks}
 use Rattle.program_rules.specs.WellFormed.{WellFormed}
 use Rattle.program_types.specs.Content.{Program}
-use Rattle.listing_draft.specs.declared.block.Block.{Block}
-use Rattle.listing_draft.specs.declared.block.Block.TheVariants.{Top}
-use Rattle.listing_draft.specs.declared.draft.Draft.{Draft}
-use Rattle.listing_draft.specs.States.{at_top, State}
+use Rattle.listing_parse.specs.declared.block.Block.{Block}
+use Rattle.listing_parse.specs.declared.block.Block.TheVariants.{Top}
+use Rattle.listing_parse.specs.declared.draft.Draft.{Draft}
+use Rattle.listing_parse.specs.States.{at_top, State}
 use Rattle.listing_labels.specs.Lines.{lines}
 use Rattle.listing_parse.specs.Text.{Reading, begin, line_counted, TakesLine, Reads, IsListing, LineIsRefused, IsBadLine, ListingBreaks, IsFinished, IsUnfinished}
-use Rattle.listing_draft.specs.View.{block, state}
-use Rattle.listing_parse.specs.View.{reading}
+use Rattle.listing_parse.specs.View.{block, state}
+use Rattle.listing_parse.specs.ReadingView.{reading}
 use Rattle.listing_parse.specs.declared.reading.Reading.{Reading as Made}
 
 pub Reads-push : (s t u : Reading) (ls : List (List ℕ)) (l : List ℕ) (rest : List (List ℕ)) → Reads s ls (l ∷ rest) t → TakesLine t rest l u → Reads s (ls ++ l ∷ []) rest u

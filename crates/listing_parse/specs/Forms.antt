@@ -6,11 +6,11 @@ use Rattle.listing_slots.specs.declared.slot.Slot.{Slot}
 use Rattle.listing_slots.specs.Data.{Datum}
 use Rattle.listing_slots.specs.Slots.{SpellsSlots, MisspellsSlots}
 use Rattle.listing_labels.specs.Labels.{Label, SpellsAll, MisspellsAll}
-use Rattle.listing_draft.specs.Shapes.{Shape, HasShape, HasBareShape}
+use Rattle.listing_slots.specs.Shapes.{Shape, HasShape, HasBareShape}
 use Rattle.listing_lines.specs.Places.{may_stand}
 use Rattle.listing_lines.specs.declared.form.Form.{Form}
 use Rattle.listing_lines.specs.declared.form.Form.TheVariants.{One, Two}
-use Rattle.listing_draft.specs.States.{State, stage_of, stands}
+use Rattle.listing_parse.specs.States.{State, stage_of, stands}
 
 -- The words have this shape, in a listing of this form.
 abbrev pub HasShapeInForm : Form → List Word → Shape → Type 0

@@ -1,8 +1,12 @@
+pub mod Members
+pub mod States
+pub mod View
 pub mod Forms
 pub mod Text
-pub mod View
+pub mod ReadingView
 pub mod Named
--- What stands below, for the crates above.
-pub use Rattle.listing_draft.specs.Shapes
-pub use Rattle.listing_draft.specs.Members
-pub use Rattle.listing_draft.specs.States
+pub mod Codes
+pub mod Classes
+pub mod Runs
+pub mod Texts
+pub mod Reads

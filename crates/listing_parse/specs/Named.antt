@@ -6,7 +6,7 @@ use Rattle.program_types.specs.Content.{Method}
 use Rattle.program_rules.specs.Rules.{CodesHold}
 use Rattle.program_rules.specs.Valid.{InsnIsNamed, InsnsAreNamed}
 use Rattle.listing_slots.specs.ValidNames.{Spellings}
-use Rattle.listing_draft.specs.States.{Open, Block, in_class, in_code, State}
+use Rattle.listing_parse.specs.States.{Open, Block, in_class, in_code, State}
 use Rattle.listing_parse.specs.Text.{Reading}
 
 -- A file can have what each instruction of these methods names.

@@ -9,11 +9,11 @@ use Rattle.listing_slots.specs.Data.{Datum}
 use Rattle.listing_slots.specs.declared.kind.Kind.{Kind}
 use Rattle.listing_slots.specs.declared.kind.Kind.TheVariants as kind
 use Rattle.listing_slots.specs.Keys.{same}
-use Rattle.listing_draft.specs.Shapes.{Shape}
+use Rattle.listing_slots.specs.Shapes.{Shape}
 use Rattle.listing_lines.specs.Lines.{line_of}
 use Rattle.listing_lines.specs.Places.{is_start, is_insns}
 use Rattle.listing_lines.specs.Forms.{is_two}
-use Rattle.listing_draft.specs.States.{at_top, State, start, stage_of, counted, add}
+use Rattle.listing_parse.specs.States.{at_top, State, start, stage_of, counted, add}
 use Rattle.listing_labels.specs.Lines.{lines, is_skipped}
 use Rattle.listing_labels.specs.Labels.{Label, is_label, is_mark, lookup, labels_ahead}
 use Rattle.listing_parse.specs.Forms.{HasShapeInForm, may_stand_in_form, SpellsInForm, MisspellsInForm}

@@ -1,15 +1,43 @@
-//! Listings: a program as text, and back.
+//! Listings, read: from a text to the program that it is the text of. The reader goes line by line, over a draft that knows what is whole so
+//! far, what is open, and which line may follow. What lines mean is said without such a state too: `specs/Codes.antt` and
+//! `specs/Classes.antt` say which code and which classes lines mean, `specs/Texts.antt` which lines of a program those of a text say, and when
+//! a text is the text of a program. Laws say that the reader reads just these texts, in both forms.
+//!
+//! ```
+//! let program = parse(alloc, &arena, b"dex 035 listing 2\n")?; // no class; or the rule that is broken, and in which line
+//! ```
 //!
 //! docs/MAP.md says where this crate stands among the others.
 #![tactic(auto)]
 
+// The draft: what is whole so far, and what is open.
+mod block;
+mod close;
+mod draft;
+mod open_class;
+mod open_code;
+
+// Lines, the whole listing, and what holds of it.
 mod form_line;
 mod laws;
 mod lines;
 mod listing;
 mod reading;
 
+// What lines mean, without a reader's state.
+mod class_laws;
+mod code_laws;
+mod text_laws;
+mod whole_laws;
+
+pub use class_laws::{a_class_is_its_lines, classes_are_their_lines};
+pub use close::Given;
+pub use code_laws::a_code_is_its_lines;
 pub use form_line::FormLine;
 pub use laws::{one_fault, one_program};
 pub use listing::{parse, parse_seeded};
+pub use open_class::{ClassPart, Defined, FieldKey, InClass, MethodKey, Open, Owner, Static};
+pub use open_code::{Body, CodePart, InCode, OpenTry};
 pub use reading::Reading;
+pub use text_laws::lines_are_read_as_they_say;
+pub use whole_laws::a_listing_is_its_lines;

@@ -1,29 +1,31 @@
 //! A line of a listing, read and added to what the lines before it make.
 
 ghost use Rattle.std.specs.Prelude.{◌≡◌, ◌≢◌, false, ◌+◌, ◌<◌, ◌^◌, map, length, drop, IfOk, IfErr, IfSome, IfNone, OnOk, IsOkUnless, MatchBool, Some, None};
-ghost use Rattle.base_bytes.specs.Fault.{memory};
+ghost use Rattle.dex_base.specs.Fault.{memory};
 ghost use Rattle.listing_words.specs.View.{word};
 ghost use Rattle.listing_slots.specs.ValidNames.{StayValid};
 ghost use Rattle.listing_slots.specs.View.{datum};
-ghost use Rattle.listing_draft.specs.Shapes.{Shape};
-ghost use Rattle.listing_draft.specs.ShapeView.{shape};
+ghost use Rattle.listing_slots.specs.Shapes.{Shape};
+ghost use Rattle.listing_slots.specs.ShapeView.{shape};
 ghost use Rattle.listing_lines.specs.Lines.{line_of};
-ghost use Rattle.listing_draft.specs.States.{add};
-ghost use Rattle.listing_draft.specs.View.{state};
+ghost use Rattle.listing_parse.specs.States.{add};
+ghost use Rattle.listing_parse.specs.View.{state};
 ghost use Rattle.listing_labels.specs.Lines.{lines, is_skipped};
 ghost use Rattle.listing_parse.specs.Forms.{HasShapeInForm, SpellsInForm, MisspellsInForm};
 ghost use Rattle.listing_parse.specs.Named.{ReadingIsNamed};
 ghost use Rattle.listing_parse.specs.Text.{line_counted, LineSays, IsUnsaid, AddsLine, TakesLine, LineIsRefused};
-ghost use Rattle.listing_parse.specs.View.{reading};
+ghost use Rattle.listing_parse.specs.ReadingView.{reading};
 
+use crate::draft::Draft;
 use crate::form_line::FormLine;
 use crate::reading::Reading;
 use bumpalo::Bump;
 use dex_base::{Fault, fault};
-use listing_draft::{Draft, Found, read_bare_shape, read_shape};
 use listing_labels::{is_skipped, read_all};
 use listing_lines::{Form, make_insn, make_line};
-use listing_slots::{Datum, Kind, Slot, Spelled, read_operands};
+use listing_slots::{
+    Datum, Found, Kind, Slot, Spelled, read_bare_shape, read_operands, read_shape,
+};
 use listing_words::{Word, read_words};
 
 /// The shape of a line of these words.
@@ -184,7 +186,7 @@ fn add_line<'a, 'b>(
 }
 
 /// Counts one line more as read.
-#[tactic(auto, unfolding(crate::specs::View::reading))]
+#[tactic(auto, unfolding(crate::specs::ReadingView::reading))]
 fn count_line(listing: &mut Reading<'_, '_>)
     requires { listing.old.draft.lines + 1 < 2 ^ 64 }
     ensures state { reading listing.new ≡ line_counted (reading listing.old) }

@@ -1,20 +1,21 @@
 //! A whole listing, line by line, and the program that it is one of.
 
 ghost use Rattle.std.specs.Prelude.{◌≡◌, ◌≢◌, [], length, IsTrue, IfOk, IfErr, OnOk};
-ghost use Rattle.base_bytes.specs.Fault.{memory};
+ghost use Rattle.dex_base.specs.Fault.{memory};
 ghost use Rattle.program_types.specs.View.{program};
-ghost use Rattle.listing_draft.specs.View.{state};
+ghost use Rattle.listing_parse.specs.View.{state};
 ghost use Rattle.listing_labels.specs.Lines.{lines};
 ghost use Rattle.listing_parse.specs.Named.{StateIsNamed};
 ghost use Rattle.listing_parse.specs.Text as spec;
 ghost use Rattle.listing_parse.specs.Text.{begin, Reads, IsListing, IsBadLine, ListingBreaks, IsFinished, IsUnfinished};
-ghost use Rattle.listing_parse.specs.View.{reading};
+ghost use Rattle.listing_parse.specs.ReadingView.{reading};
 
+use crate::block::Block;
+use crate::draft::Draft;
 use crate::lines::{Scratch, read_line};
 use crate::reading::Reading;
 use bumpalo::Bump;
 use dex_base::{Fault, Seed, fault};
-use listing_draft::{Block, Draft};
 use listing_labels::{Labels, split_line};
 use listing_lines::Form;
 use listing_slots::Spelled;
@@ -29,7 +30,7 @@ const BYTES_A_NAME: usize = 256;
 const MOST_NAMES: usize = 65536;
 
 /// Nothing was read.
-#[tactic(auto, unfolding(crate::specs::View::reading))]
+#[tactic(auto, unfolding(crate::specs::ReadingView::reading))]
 fn begin<'a, 't>(alloc: Global, seed: Seed, arena: &'a Bump) -> Reading<'a, 't>
     ensures { reading result ≡ begin }
 {

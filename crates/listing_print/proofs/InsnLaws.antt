@@ -22,8 +22,8 @@ use Rattle.listing_slots.specs.declared.slot.Slot.{Slot}
 use Rattle.listing_slots.specs.declared.slot.Slot.TheVariants as slot
 use Rattle.listing_slots.specs.Keys.{key_text, same, find_key, lead_keys, payload_keys}
 use Rattle.listing_slots.specs.Data.{Datum, named, byte_of, half_of, word_of, tiny_of, short_of, int_of, long_of, elements_of, name_of}
-use Rattle.listing_shapes.specs.Shapes.{Row, HasShape, HasBareShape, BeginsWithInsn, IsInsnRow, payload_row, plain_slots, name_slot, before_close, pairs, target, register4, register8, register16}
-use Rattle.listing_shapes.proofs.ShapeLaws.{labelled_shape}
+use Rattle.listing_slots.specs.Shapes.{Row, HasShape, HasBareShape, BeginsWithInsn, IsInsnRow, payload_row, plain_slots, name_slot, before_close, pairs, target, register4, register8, register16}
+use Rattle.listing_slots.proofs.ShapeLaws.{labelled_shape}
 use Rattle.listing_lines.specs.declared.form.Form.{Form}
 use Rattle.listing_lines.specs.declared.form.Form.TheVariants.{One, Two}
 use Rattle.listing_lines.specs.Lines.{insn_line, line_of, insn_of, alternate}

@@ -16,11 +16,11 @@ use Rattle.listing_slots.specs.Shown.{shown, FitsSlot}
 use Rattle.listing_slots.proofs.ShownLaws.{shown_all, FitSlots, shown_form, shown_spelled}
 use Rattle.listing_lines.specs.declared.form.Form.{Form}
 use Rattle.listing_lines.specs.declared.form.Form.TheVariants.{One, Two}
-use Rattle.listing_shapes.specs.declared.due.Due.TheVariants as due
-use Rattle.listing_shapes.specs.Shapes.{value_slots, slot_at, due_after_word, due_after, due_of_key}
+use Rattle.listing_slots.specs.declared.due.Due.TheVariants as due
+use Rattle.listing_slots.specs.Shapes.{value_slots, slot_at, due_after_word, due_after, due_of_key}
 use Rattle.listing_print.specs.Reading.{slots_of, data_of, words_in, FitOperands}
 use Rattle.listing_print.specs.Operands.{Operand, shown_in, target_word, keyword, named_operands, truth_key, value_operands, values_operands}
-use Rattle.listing_shapes.proofs.ValueSlotLaws.{after_slots}
+use Rattle.listing_slots.proofs.ValueSlotLaws.{after_slots}
 
 -- ---- operands as slots, data and words
 

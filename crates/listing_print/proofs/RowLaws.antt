@@ -6,7 +6,7 @@ use Rattle.program_types.specs.Content.{Method}
 use Rattle.listing_words.specs.Words.{Word, plain_word}
 use Rattle.listing_slots.specs.Keys.{key_text, same, find_key, lead_keys}
 use Rattle.listing_slots.specs.Data.{byte_of, half_of, word_of, tiny_of, short_of, int_of, long_of, elements_of, name_of, text_of, type_of, proto_of}
-use Rattle.listing_shapes.specs.Shapes.{IsKeyed, key_row}
+use Rattle.listing_slots.specs.Shapes.{IsKeyed, key_row}
 use Rattle.listing_lines.specs.Lines.{Line, static_line, direct_line, virtual_line, insn_line, line_of}
 use Rattle.listing_print.specs.Operands.{value_operands}
 use Rattle.listing_print.specs.Printed.{line_key, line_operands}

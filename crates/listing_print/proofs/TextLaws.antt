@@ -15,7 +15,7 @@ use Rattle.listing_slots.specs.declared.slot.Slot.TheVariants as slot
 use Rattle.listing_slots.specs.declared.key.Key.TheVariants as key
 use Rattle.listing_slots.specs.Data.{byte, int, said}
 use Rattle.listing_slots.specs.Shown.{shown}
-use Rattle.listing_shapes.specs.Shapes.{register4}
+use Rattle.listing_slots.specs.Shapes.{register4}
 use Rattle.listing_lines.specs.Lines.{static_line}
 use Rattle.listing_lines.specs.declared.form.Form.{Form}
 use Rattle.listing_print.specs.Operands.{Operand, operand, operand_text, operand_text_in, shown_in, keyword, v4, name_operand, to, pair_operands, value_operands, values_operands}

@@ -15,7 +15,7 @@ use Rattle.listing_slots.specs.Data.{Datum, byte, half, word, wide, tiny, short,
 use Rattle.listing_slots.specs.Shown.{shown}
 use Rattle.listing_lines.specs.declared.form.Form.{Form}
 use Rattle.listing_lines.specs.declared.form.Form.TheVariants.{One, Two}
-use Rattle.listing_shapes.specs.Shapes.{register4, register8, register16, target, size}
+use Rattle.listing_slots.specs.Shapes.{register4, register8, register16, target, size}
 
 -- A slot, and what its word says.
 pub record Operand : Type 0 where

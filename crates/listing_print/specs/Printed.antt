@@ -10,7 +10,7 @@ use Rattle.listing_slots.specs.declared.key.Key.TheVariants as key
 use Rattle.listing_slots.specs.declared.slot.Slot.TheVariants as slot
 use Rattle.listing_slots.specs.Keys.{key_text}
 use Rattle.listing_slots.specs.Data.{word, half, named, prototype}
-use Rattle.listing_shapes.specs.Shapes.{size}
+use Rattle.listing_slots.specs.Shapes.{size}
 use Rattle.listing_lines.specs.Lines.{Line, first_line, open_class, end_class, super_line, implements_line, source_line, static_line, instance_line, direct_line, virtual_line, open_code, end_code, insn_line, try_line, catch_line, catch_all_line}
 use Rattle.listing_lines.specs.declared.form.Form.{Form}
 use Rattle.listing_lines.specs.declared.form.Form.TheVariants.{One, Two}

@@ -5,7 +5,7 @@ use Rattle.dex_insn.specs.declared.opcode.Format.TheVariants as format
 use Rattle.dex_insn.specs.Opcodes.{format_of, index_kind_of}
 use Rattle.program_types.specs.Content as content
 use Rattle.program_types.specs.Content.{Insn, Name}
-use Rattle.listing_shapes.specs.Shapes.{name_slot}
+use Rattle.listing_slots.specs.Shapes.{name_slot}
 use Rattle.listing_words.specs.Words.{Word}
 use Rattle.listing_slots.specs.declared.kind.Kind.{Kind}
 use Rattle.listing_slots.specs.declared.kind.Kind.TheVariants as kind

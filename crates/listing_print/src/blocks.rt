@@ -2,7 +2,7 @@
 
 ghost use Rattle.std.specs.Prelude.{◌≡◌, ◌<◌, ◌+◌, ℕ, List, length, ◌++◌, map, option_map, slice_get, OnOk, IfOk, IsOkUnless};
 ghost use Rattle.std.specs.List.{flat_map};
-ghost use Rattle.base_bytes.specs.Fault.{memory};
+ghost use Rattle.dex_base.specs.Fault.{memory};
 ghost use Rattle.program_types.specs.View.{desc, str, member, method, value, insn, catch, try, code, class, program};
 ghost use Rattle.listing_lines.specs.Lines as says;
 ghost use Rattle.listing_print.specs.Printed.{keyed_text};

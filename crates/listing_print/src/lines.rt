@@ -35,7 +35,7 @@ fn put_feed(out: &mut Vec<u8>) -> Result<(), AllocError>
 }
 
 /// Appends a line of two keywords.
-pub fn put_keys(out: &mut Vec<u8>, first: Key, second: Key) -> Result<(), AllocError>
+pub(crate) fn put_keys(out: &mut Vec<u8>, first: Key, second: Key) -> Result<(), AllocError>
     ensures ok { OnOk result (out.new.items ≡ out.old.items ++ (key_text first ++ (operand_text (keyword second ∷ []) ++ 10 ∷ []))) }
 {
     put_first(out, first)?;
@@ -44,7 +44,7 @@ pub fn put_keys(out: &mut Vec<u8>, first: Key, second: Key) -> Result<(), AllocE
 }
 
 /// Appends the first line of a class.
-pub fn put_class_line(out: &mut Vec<u8>, ty: Desc<'_>, flags: u32) -> Result<(), AllocError>
+pub(crate) fn put_class_line(out: &mut Vec<u8>, ty: Desc<'_>, flags: u32) -> Result<(), AllocError>
     ensures ok { OnOk result (out.new.items ≡ out.old.items ++ keyed_text (says.open_class (desc ty.entry) flags)) }
 {
     put_first(out, Key::Class)?;
@@ -54,7 +54,7 @@ pub fn put_class_line(out: &mut Vec<u8>, ty: Desc<'_>, flags: u32) -> Result<(),
 }
 
 /// Appends a line of a keyword and a type.
-pub fn put_type_line(out: &mut Vec<u8>, key: Key, ty: Desc<'_>) -> Result<(), AllocError>
+pub(crate) fn put_type_line(out: &mut Vec<u8>, key: Key, ty: Desc<'_>) -> Result<(), AllocError>
     ensures ok { OnOk result (out.new.items ≡ out.old.items ++ (key_text key ++ (operand_text (type_operand (desc ty.entry) ∷ []) ++ 10 ∷ []))) }
 {
     put_first(out, key)?;
@@ -63,7 +63,7 @@ pub fn put_type_line(out: &mut Vec<u8>, key: Key, ty: Desc<'_>) -> Result<(), Al
 }
 
 /// Appends the line of a source file.
-pub fn put_source_line(out: &mut Vec<u8>, text: Str<'_>) -> Result<(), AllocError>
+pub(crate) fn put_source_line(out: &mut Vec<u8>, text: Str<'_>) -> Result<(), AllocError>
     ensures ok { OnOk result (out.new.items ≡ out.old.items ++ keyed_text (says.source_line (str text.entry))) }
 {
     put_first(out, Key::Source)?;
@@ -81,7 +81,11 @@ fn put_member(out: &mut Vec<u8>, field: &Member<'_>) -> Result<(), AllocError>
 }
 
 /// Appends the line of a field without a value.
-pub fn put_member_line(out: &mut Vec<u8>, key: Key, field: &Member<'_>) -> Result<(), AllocError>
+pub(crate) fn put_member_line(
+    out: &mut Vec<u8>,
+    key: Key,
+    field: &Member<'_>,
+) -> Result<(), AllocError>
     ensures ok { OnOk result (out.new.items ≡ out.old.items ++ (key_text key ++ (operand_text (member_operands (member field.now)) ++ 10 ∷ []))) }
 {
     put_first(out, key)?;
@@ -90,7 +94,7 @@ pub fn put_member_line(out: &mut Vec<u8>, key: Key, field: &Member<'_>) -> Resul
 }
 
 /// Appends the line of a static field with a value.
-pub fn put_given_line(
+pub(crate) fn put_given_line(
     out: &mut Vec<u8>,
     field: &Member<'_>,
     initial: &Value<'_>,
@@ -105,7 +109,11 @@ pub fn put_given_line(
 }
 
 /// Appends the line of a method.
-pub fn put_method_line(out: &mut Vec<u8>, key: Key, one: &Method<'_>) -> Result<(), AllocError>
+pub(crate) fn put_method_line(
+    out: &mut Vec<u8>,
+    key: Key,
+    one: &Method<'_>,
+) -> Result<(), AllocError>
     ensures ok { OnOk result (out.new.items ≡ out.old.items ++ (key_text key ++ (operand_text (method_operands (method one.now)) ++ 10 ∷ []))) }
 {
     put_first(out, key)?;
@@ -116,7 +124,7 @@ pub fn put_method_line(out: &mut Vec<u8>, key: Key, one: &Method<'_>) -> Result<
 }
 
 /// Appends the first line of a code block.
-pub fn put_code_line(
+pub(crate) fn put_code_line(
     out: &mut Vec<u8>,
     registers: u16,
     ins: u16,
@@ -132,7 +140,12 @@ pub fn put_code_line(
 }
 
 /// Appends the first line of a try.
-pub fn put_try_line(out: &mut Vec<u8>, form: Form, from: u32, to: u32) -> Result<(), AllocError>
+pub(crate) fn put_try_line(
+    out: &mut Vec<u8>,
+    form: Form,
+    from: u32,
+    to: u32,
+) -> Result<(), AllocError>
     ensures ok { OnOk result (out.new.items ≡ out.old.items ++ keyed_text_in form (says.try_line from to)) }
 {
     put_first(out, Key::Try)?;
@@ -142,7 +155,7 @@ pub fn put_try_line(out: &mut Vec<u8>, form: Form, from: u32, to: u32) -> Result
 }
 
 /// Appends the line of a catch.
-pub fn put_catch_line(
+pub(crate) fn put_catch_line(
     out: &mut Vec<u8>,
     form: Form,
     ty: Desc<'_>,
@@ -157,7 +170,7 @@ pub fn put_catch_line(
 }
 
 /// Appends the line of a catch-all.
-pub fn put_catch_all_line(out: &mut Vec<u8>, form: Form, at: u32) -> Result<(), AllocError>
+pub(crate) fn put_catch_all_line(out: &mut Vec<u8>, form: Form, at: u32) -> Result<(), AllocError>
     ensures ok { OnOk result (out.new.items ≡ out.old.items ++ keyed_text_in form (says.catch_all_line at)) }
 {
     put_first(out, Key::CatchAll)?;
@@ -216,7 +229,7 @@ fn put_numbered(out: &mut Vec<u8>, form: Form, k: u64) -> Result<(), AllocError>
 }
 
 /// Appends the line of instruction k's label.
-pub fn put_label_line(out: &mut Vec<u8>, k: u64) -> Result<(), AllocError>
+pub(crate) fn put_label_line(out: &mut Vec<u8>, k: u64) -> Result<(), AllocError>
     ensures ok { OnOk result (out.new.items ≡ out.old.items ++ label_text k) }
 {
     out.extend_from_slice(b":L")?;
@@ -225,7 +238,7 @@ pub fn put_label_line(out: &mut Vec<u8>, k: u64) -> Result<(), AllocError>
 }
 
 /// Appends instruction k.
-pub fn put_insn_line(
+pub(crate) fn put_insn_line(
     out: &mut Vec<u8>,
     form: Form,
     k: u64,

@@ -92,7 +92,7 @@ fn mark_code(marks: &mut [bool], one: &Code<'_>)
 }
 
 /// Which instructions a code names, and whether the one after its last.
-pub fn marks_of(alloc: Global, one: &Code<'_>) -> Result<Vec<bool>, AllocError>
+pub(crate) fn marks_of(alloc: Global, one: &Code<'_>) -> Result<Vec<bool>, AllocError>
     ensures marked { IfOk result (λ marks. IsMarked marks.items (code_numbers (code one.now))) }
     ensures count { IfOk result (λ marks. length marks.items ≡ length one.now.insns.now + 1) }
 {

@@ -6,7 +6,7 @@ ghost use Rattle.listing_slots.specs.declared.key.Key.TheVariants as Key;
 ghost use Rattle.listing_slots.specs.declared.slot.Mark.TheVariants.{Nothing};
 ghost use Rattle.listing_slots.specs.declared.slot.Slot.TheVariants as slot;
 ghost use Rattle.listing_slots.specs.Data.{byte, half, int, long};
-ghost use Rattle.listing_shapes.specs.Shapes.{size};
+ghost use Rattle.listing_slots.specs.Shapes.{size};
 ghost use Rattle.listing_print.specs.Operands.{operand, operand_text, operand_text_in, keyword, v4, to, name_operand, pair_operands, element_operands, insn_operands};
 
 use listing_lines::Form;
@@ -18,7 +18,7 @@ use program_types::{Insn, Name};
 use std::alloc::AllocError;
 
 /// Appends a name in the form of its kind.
-pub fn put_named(out: &mut Vec<u8>, which: Name<'_>) -> Result<(), AllocError>
+pub(crate) fn put_named(out: &mut Vec<u8>, which: Name<'_>) -> Result<(), AllocError>
     ensures ok { OnOk result (out.new.items ≡ out.old.items ++ operand_text (name_operand (name which.entry) ∷ [])) }
 {
     match which {
@@ -40,7 +40,7 @@ fn put_registers(out: &mut Vec<u8>, regs: &[u8]) -> Result<(), AllocError>
 }
 
 /// Appends a space and a target: its number, or its label.
-pub fn put_target(out: &mut Vec<u8>, form: Form, n: u32) -> Result<(), AllocError>
+pub(crate) fn put_target(out: &mut Vec<u8>, form: Form, n: u32) -> Result<(), AllocError>
     ensures ok { OnOk result (out.new.items ≡ out.old.items ++ operand_text_in form (to n ∷ [])) }
 {
     match form {
@@ -194,7 +194,7 @@ fn put_data(out: &mut Vec<u8>, width: u16, bytes: &[u8]) -> Result<(), AllocErro
 /// Appends the operands of an instruction, in the order of its format. Each arm is one call: an answer that is looked into
 /// would take room, and time, for all others too.
 #[rattlefmt::skip]
-pub fn put_operands(out: &mut Vec<u8>, form: Form, one: &Insn<'_>) -> Result<(), AllocError>
+pub(crate) fn put_operands(out: &mut Vec<u8>, form: Form, one: &Insn<'_>) -> Result<(), AllocError>
     ensures ok { OnOk result (out.new.items ≡ out.old.items ++ operand_text_in form (insn_operands (insn one.now))) }
 {
     match *one {

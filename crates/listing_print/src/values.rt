@@ -59,7 +59,7 @@ fn put_leaf(out: &mut Vec<u8>, one: Value<'_>) -> Result<(), AllocError>
 }
 
 /// Appends a value. The stack holds a call for each array that a value is in.
-pub fn put_value(out: &mut Vec<u8>, one: &Value<'_>) -> Result<(), AllocError>
+pub(crate) fn put_value(out: &mut Vec<u8>, one: &Value<'_>) -> Result<(), AllocError>
     ensures ok { OnOk result (out.new.items ≡ out.old.items ++ operand_text (value_operands (value one.now))) }
 {
     match one {

@@ -7,3 +7,6 @@ pub mod OperandLaws
 pub mod ShownLaws
 pub mod DecimalLaws
 pub mod PartLaws
+pub mod ValueSlotLaws
+pub mod FormLaws
+pub mod ShapeLaws

@@ -5,9 +5,9 @@ use Rattle.listing_words.specs.declared.words.Word.{Word as Made}
 use Rattle.listing_slots.specs.declared.slot.Slot.{Slot}
 use Rattle.listing_slots.specs.Data.{Datum, named}
 use Rattle.std.specs.Prelude.{Option, Some, None, Result, Ok, Err, IfOk, IfSome, IfNone}
-use Rattle.base_bytes.specs.declared.fault.Fault.{Fault}
-use Rattle.base_bytes.proofs.ListFacts.{all_append}
-use Rattle.listing_words.specs.Content.{OfText, OfDesc}
+use Rattle.dex_base.specs.declared.fault.Fault.{Fault}
+use Rattle.dex_base.proofs.ListFacts.{all_append}
+use Rattle.program_types.specs.Content.{OfText, OfDesc}
 use Rattle.listing_words.specs.Words.{plain_word}
 use Rattle.listing_words.specs.Names.{SpellsUnits, IsProtoText, IsFieldText, IsMethodText}
 use Rattle.listing_words.proofs.NameLaws.{units_one}

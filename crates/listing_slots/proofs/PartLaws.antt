@@ -8,7 +8,7 @@ use Rattle.std.proofs.lemmas.List.Elements.{Contains-push}
 use Rattle.std.proofs.lemmas.List.Quantifiers.{position-Some}
 use Rattle.std.proofs.lemmas.Slice.Eq.{slice_eq-Decides, bytes_eq-Decides}
 use lib.Pointwise.{pointwise}
-use Rattle.listing_words.proofs.Comparisons.{units_eq}
+use Rattle.program_types.proofs.Comparisons.{units_eq}
 
 -- what goes last, since no equal one is there, is there then
 last_is_held : {X : Type 0} (equal : X → Bool) (xs ys : List X) (x : X) → ys ≡ (if list_any equal xs then xs else xs ++ x ∷ []) → list_any equal xs ≡ false → Contains ys x

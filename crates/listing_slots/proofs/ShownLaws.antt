@@ -6,8 +6,8 @@ use Rattle.std.specs.Str.Parse.{AllDigits}
 use Rattle.std.specs.Fmt.{decimal, signed_decimal}
 use Rattle.std.proofs.lemmas.Fmt.{decimal_is_IsNumeral}
 use Rattle.std.proofs.lemmas.Bool.{ltb-true, eq-eqb, and_parts}
-use Rattle.listing_words.specs.Descriptor.{IsMemberName}
-use Rattle.listing_words.specs.Content.{OfText, OfDesc, OfField, OfMethod}
+use Rattle.dex_base.specs.Descriptor.{IsMemberName}
+use Rattle.program_types.specs.Content.{OfText, OfDesc, OfField, OfMethod}
 use Rattle.listing_words.specs.Numbers.{SpellsNatural}
 use Rattle.listing_words.specs.Words.{Word, IsGraphic, IsWritable, plain_word}
 use Rattle.listing_words.specs.Written.{hex_digits, hex_width, flags_text, elements_text, name_text, proto_units, field_units, method_units}
@@ -22,9 +22,9 @@ use Rattle.listing_slots.specs.Keys.{key_text, same}
 use Rattle.listing_slots.specs.Data.{Datum, byte, half, word, wide, tiny, short, int, long, elements, named, constant, prototype, said}
 use Rattle.listing_slots.specs.Slots.{mark_text, SpellsNumber, SpellsInteger, IsSignedWithin, SpellsSlot, SpellsSlots, has_form}
 use Rattle.listing_slots.specs.Shown.{shown, FitsSlot}
-use Rattle.listing_words.proofs.dex_base_NameLaws.{simple_some}
-use Rattle.listing_words.proofs.Letters.{descriptor_some}
-use Rattle.base_bytes.proofs.ListFacts.{all_append}
+use Rattle.dex_base.proofs.NameLaws.{simple_some}
+use Rattle.program_types.proofs.Letters.{descriptor_some}
+use Rattle.dex_base.proofs.ListFacts.{all_append}
 
 pub natural_printed : (n : ℕ) → n < 2 ^ 64 → SpellsNatural (decimal n) n
 natural_printed n h = let d = decimal_is_IsNumeral n h in inl (d.0, sym d.1)

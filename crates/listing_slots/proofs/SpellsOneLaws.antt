@@ -1,6 +1,6 @@
 -- A word says one thing in a slot.
 use Rattle.std.proofs.Common.{◌≡◌, ℕ, ℤ, List, sym, ap, subst, ◌∙◌}
-use Rattle.listing_words.specs.Content.{OfText, OfDesc, OfField, OfMethod}
+use Rattle.program_types.specs.Content.{OfText, OfDesc, OfField, OfMethod}
 use Rattle.listing_words.specs.Words.{Word}
 use Rattle.listing_words.specs.Numbers.{SpellsWhole, SpellsBits, SpellsElements}
 use Rattle.listing_words.specs.Names.{SpellsUnits, IsProtoText, IsFieldText, IsMethodText}

@@ -1,6 +1,6 @@
 -- What the words of a line say.
 use Rattle.std.specs.Prelude.{ℕ, ℤ, pos, List, [], get_or}
-use Rattle.listing_words.specs.Content.{Units, Descriptor, Proto, FieldRef, Name, OfText, OfDesc}
+use Rattle.program_types.specs.Content.{Units, Descriptor, Proto, FieldRef, Name, OfText, OfDesc}
 use Rattle.listing_slots.specs.declared.key.Key.{Key}
 use Rattle.listing_slots.specs.declared.key.Key.TheVariants.{Equals}
 

@@ -5,6 +5,5 @@ pub mod Slots
 pub mod Shown
 pub mod ValidNames
 pub mod Spelled
--- What stands below, for the crates above.
-pub use Rattle.base_bytes.specs.Fault
-pub use Rattle.program_rules.specs.Rules
+pub mod Shapes
+pub mod ShapeView

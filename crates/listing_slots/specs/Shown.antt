@@ -3,8 +3,8 @@
 use Rattle.std.specs.Prelude.{◌≡◌, ◌<◌, ◌≤◌, ◌^◌, [], ◌++◌, length}
 use Rattle.std.specs.List.{AllByRecursion}
 use Rattle.std.specs.Fmt.{decimal, signed_decimal}
-use Rattle.listing_words.specs.Descriptor.{IsDescriptor, IsMemberName}
-use Rattle.listing_words.specs.Content.{OfText, OfDesc, OfField, OfMethod, Proto, FieldRef, MethodRef, AreUnits}
+use Rattle.dex_base.specs.Descriptor.{IsDescriptor, IsMemberName}
+use Rattle.program_types.specs.Content.{OfText, OfDesc, OfField, OfMethod, Proto, FieldRef, MethodRef, AreUnits}
 use Rattle.listing_words.specs.Words.{Word, plain_word, text_in_quotes}
 use Rattle.listing_words.specs.Written.{hex_digits, flags_text, elements_text, name_text, proto_units, field_units, method_units}
 use Rattle.listing_slots.specs.declared.slot.Slot.{Slot}

@@ -1,8 +1,8 @@
 -- What a word says in a slot.
 -- Page: docs/LISTING.md, "What a word can be", "Faults".
 use Rattle.std.specs.Prelude.{◌≡◌, ℕ, ◌≤◌, ◌⊎◌, ℤ, pos, negsuc, Bool, true, false, ◌&&◌, if◌then◌else◌, List, [], ◌∷◌, ◌++◌}
-use Rattle.listing_words.specs.Descriptor.{IsDescriptor, IsMemberName}
-use Rattle.listing_words.specs.Content.{FieldRef, MethodRef, Proto, OfText, OfDesc, OfField, OfMethod}
+use Rattle.dex_base.specs.Descriptor.{IsDescriptor, IsMemberName}
+use Rattle.program_types.specs.Content.{FieldRef, MethodRef, Proto, OfText, OfDesc, OfField, OfMethod}
 use Rattle.listing_words.specs.Words.{Word, plain_word, text_in_quotes}
 use Rattle.listing_words.specs.Numbers.{SpellsNatural, SpellsWhole, SpellsBits, SpellsElements}
 use Rattle.listing_words.specs.Names.{SpellsUnits, IsProtoText, IsFieldText, IsMethodText}

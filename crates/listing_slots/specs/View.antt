@@ -1,5 +1,5 @@
 -- What stands in memory, as its content.
-use Rattle.listing_words.specs.program_types_View.{name, field_ref, proto}
+use Rattle.program_types.specs.View.{name, field_ref, proto}
 use Rattle.listing_slots.specs.Data as says
 use Rattle.listing_slots.specs.declared.datum.Datum.{Datum}
 use Rattle.listing_slots.specs.declared.datum.Datum.TheVariants as made

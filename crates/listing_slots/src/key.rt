@@ -83,7 +83,7 @@ fn leads_with(first: u8) -> &'static [Key]
 
 /// The keyword of a line. The longest is `implements`; most mnemonics are longer.
 #[tactic(auto, unfolding(crate::specs::Keys::find_key, crate::specs::Keys::key_text, crate::specs::Keys::same))]
-pub fn lead_key(text: &[u8]) -> Option<Key>
+pub(crate) fn lead_key(text: &[u8]) -> Option<Key>
     ensures { result ≡ find_key lead_keys text.now }
 {
     if text.len() > 10 {
@@ -96,14 +96,14 @@ pub fn lead_key(text: &[u8]) -> Option<Key>
 }
 
 /// The keyword of a value.
-pub fn value_key(text: &[u8]) -> Option<Key>
+pub(crate) fn value_key(text: &[u8]) -> Option<Key>
     ensures { result ≡ find_key value_keys text.now }
 {
     find_key(&VALUES, text)
 }
 
 /// The word of a payload. The shortest is `array-payload`, and all end with `d`, which no mnemonic as long does.
-pub fn payload_key(text: &[u8]) -> Option<Key>
+pub(crate) fn payload_key(text: &[u8]) -> Option<Key>
     ensures { result ≡ find_key payload_keys text.now }
 {
     if text.len() < 13 {

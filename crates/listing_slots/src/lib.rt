@@ -1,9 +1,9 @@
-//! Slots of a line of a listing: what each word may stand for, what it says there, and how it is printed.
-//!
-//! A line is what it is (`Kind`) and a slot for each word after its first ones. A word says one `Datum` in its slot, or
-//! nothing there; what is printed of a datum says that datum again.
+//! A line's words: its first ones tell its shape, which is what the line is and a slot for each word after them; a slot says what its word
+//! may stand for, and so what the word says and how it is printed.
 //!
 //! ```text
+//! read_shape(words of `try @0 @5`, &mut slots)?   // Found { kind: Kind::Try, lead: 1, .. }, and slots for two targets
+//! read_shape(words of `try @0`, &mut slots)?      // None
 //! read_operands(spelled, arena, &[Slot::Byte(Mark::Register, 15), Slot::Short], words, &mut data)?
 //! // None, and data is [Byte(3), Short(-1)], for the words `v3 -1`; Some(102), Number, for `v16 -1`
 //! ```
@@ -11,29 +11,41 @@
 //! docs/MAP.md says where this crate stands among the others.
 #![tactic(auto)]
 
+// Slots: what a word says there, how it is printed, and what holds of both.
 mod datum;
 mod key;
 mod kind;
-mod laws;
 mod name_parts;
 mod numbers;
 mod put;
 mod read;
 mod slot;
 mod spelled;
+mod word_laws;
+
+// Shapes: what a line is, its slots, and what holds of them.
+mod due;
+mod forms;
+mod found;
+mod shape;
+mod shape_laws;
+mod values;
 
 pub use datum::{
     Datum, byte_of, datum_at, elements_of, half_of, int_of, long_of, name_of, proto_of, short_of,
     text_of, tiny_of, type_of, word_of,
 };
-pub use key::{Key, is_same, key_text, lead_key, payload_key, value_key};
+pub use found::Found;
+pub use key::{Key, is_same, key_text};
 pub use kind::Kind;
-pub use laws::{printed_words_are_read_again, words_say_one_thing};
 pub use numbers::read_marked;
 pub use put::{
     put_bits, put_decimal, put_elements, put_field, put_flags, put_key, put_method, put_name,
     put_number, put_proto, put_register, put_signed, put_target, put_text,
 };
 pub use read::{fault_of, read_datum, read_operands};
+pub use shape::{read_bare_shape, read_shape};
+pub use shape_laws::{words_have_one_bare_shape, words_have_one_shape};
 pub use slot::{Mark, Slot};
 pub use spelled::Spelled;
+pub use word_laws::{printed_words_are_read_again, words_say_one_thing};

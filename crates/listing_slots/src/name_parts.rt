@@ -1,14 +1,14 @@
 //! The parts of names, each in the arena once.
 
 ghost use Rattle.std.specs.Prelude.{◌≡◌, map, Contains, [], IfOk, IsOkUnless};
-ghost use Rattle.base_bytes.specs.Fault.{memory};
-ghost use Rattle.listing_words.specs.program_types_View.{str, desc, proto, field_ref, method_ref};
+ghost use Rattle.dex_base.specs.Fault.{memory};
+ghost use Rattle.program_types.specs.View.{str, desc, proto, field_ref, method_ref};
 
-use base_bytes::Seed;
 use bumpalo::Bump;
 use bumpalo::collections::into_bump_slice;
+use dex_base::{Fault, Seed};
 use indexmap::IndexSet;
-use listing_words::{Desc, Fault, FieldRef, MethodRef, Proto, Str};
+use program_types::{Desc, FieldRef, MethodRef, Proto, Str};
 use std::alloc::Global;
 
 /// The texts of names that stand in the arena, each once.

@@ -22,7 +22,7 @@ fn mark_byte(mark: Mark) -> Option<u8>
 }
 
 /// The number of at most `most` after the mark.
-pub fn read_number(mark: Mark, text: &[u8], most: u64) -> Option<u64>
+pub(crate) fn read_number(mark: Mark, text: &[u8], most: u64) -> Option<u64>
     ensures found { IfSome result (λ n. SpellsNumber mark most (plain_word text.now) n) }
     ensures none { IfNone result ((n : ℕ) → SpellsNumber mark most (plain_word text.now) n → ⊥) }
 {
@@ -83,7 +83,7 @@ fn read_minus(digits: &[u8], most: u64) -> Option<i64>
 }
 
 /// The number from minus one more than `most` up to `most`.
-pub fn read_signed(text: &[u8], most: u64) -> Option<i64>
+pub(crate) fn read_signed(text: &[u8], most: u64) -> Option<i64>
     requires { most < 2 ^ 63 }
     ensures found { IfSome result (λ z. SpellsInteger most (plain_word text.now) z) }
     ensures none { IfNone result ((z : ℤ) → SpellsInteger most (plain_word text.now) z → ⊥) }

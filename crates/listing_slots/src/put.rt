@@ -2,7 +2,7 @@
 
 ghost use Rattle.std.specs.Prelude.{◌≡◌, ◌++◌, ◌∷◌, OnOk};
 ghost use Rattle.std.specs.Fmt.{decimal, signed_decimal};
-ghost use Rattle.listing_words.specs.program_types_View.{proto, field_ref, method_ref};
+ghost use Rattle.program_types.specs.View.{proto, field_ref, method_ref};
 ghost use Rattle.listing_words.specs.Texts.{text_word};
 ghost use Rattle.listing_words.specs.Written.{hex_digits, flags_text, elements_text, name_text, proto_units, field_units, method_units};
 ghost use Rattle.listing_slots.specs.Keys.{key_text};
@@ -10,7 +10,7 @@ ghost use Rattle.listing_slots.specs.Keys.{key_text};
 use crate::key::{Key, key_text};
 use itoa::Buffer;
 use listing_words as words;
-use listing_words::{FieldRef, MethodRef, Proto};
+use program_types::{FieldRef, MethodRef, Proto};
 use std::alloc::AllocError;
 
 /// Appends a number in decimal, without a space before it.

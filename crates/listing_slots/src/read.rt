@@ -1,7 +1,7 @@
 //! What the words of a line say.
 
 ghost use Rattle.std.specs.Prelude.{◌≡◌, true, ◌∷◌, [], map, length, IfOk, IfSome, IfNone, IsOkUnless};
-ghost use Rattle.base_bytes.specs.Fault.{memory};
+ghost use Rattle.dex_base.specs.Fault.{memory};
 ghost use Rattle.listing_words.specs.Words.{plain_word, text_in_quotes};
 ghost use Rattle.listing_words.specs.View.{word};
 ghost use Rattle.listing_slots.specs.Slots.{SpellsSlot, SpellsSlots, MisspellsSlots, SpellsUnitsIn, is_name_slot, is_number_slot, is_signed_slot, fault_of};
@@ -15,10 +15,11 @@ use crate::numbers::{read_number, read_signed};
 use crate::slot::{Mark, Slot};
 use crate::spelled::Spelled;
 use bumpalo::Bump;
+use dex_base::{Fault, fault, is_descriptor, is_member_name};
 use listing_words::{
-    Desc, Fault, Name, Str, Word, fault, is_descriptor, is_member_name, read_bits, read_elements,
-    read_field, read_method, read_name, read_proto,
+    Word, read_bits, read_elements, read_field, read_method, read_name, read_proto,
 };
+use program_types::{Desc, Name, Str};
 
 /// What a word without quotes says in a number's slot.
 fn read_plain(slot: Slot, text: &[u8]) -> Option<Datum<'static>>

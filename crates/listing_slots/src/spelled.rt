@@ -1,7 +1,7 @@
 //! Names that words have spelled: a listing spells most of its names many times.
 
 ghost use Rattle.std.specs.Prelude.{◌≡◌, ◌↔◌, ◌∷◌, [], true, IfOk, IfSome, IfNone, IsTrue, IsOkUnless};
-ghost use Rattle.base_bytes.specs.Fault.{memory};
+ghost use Rattle.dex_base.specs.Fault.{memory};
 ghost use Rattle.listing_words.specs.Words.{plain_word};
 ghost use Rattle.listing_slots.specs.Slots.{SpellsSlot, is_name_slot};
 ghost use Rattle.listing_slots.specs.Data.{Datum as Said};
@@ -13,10 +13,10 @@ use crate::key::is_same;
 use crate::name_parts::NameParts;
 use crate::read::read_encoded;
 use crate::slot::Slot;
-use base_bytes::{Seed, u32_at};
 use bumpalo::Bump;
-use listing_words::{Fault, Name};
+use dex_base::{Fault, Seed, u32_at};
 use program_rules::is_valid_name;
+use program_types::Name;
 use std::alloc::Global;
 use std::marker::Model;
 

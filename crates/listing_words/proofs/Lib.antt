@@ -9,7 +9,3 @@ pub mod BitLaws
 pub mod WrittenLaws
 pub mod PlainLaws
 pub mod RunLaws
--- What stands below, for the crates above.
-pub use Rattle.program_types.proofs.NameLaws as dex_base_NameLaws
-pub use Rattle.program_types.proofs.Comparisons
-pub use Rattle.program_types.proofs.Letters

@@ -4,8 +4,8 @@ use Rattle.std.proofs.lemmas.List.{take-append-drop}
 use Rattle.std.proofs.Math.Seq.{take-append_seam}
 use Rattle.std.proofs.lemmas.Bool.{ne_eqb, cases_eq}
 use Rattle.std.specs.List.{flat_map, AllByRecursion}
-use Rattle.program_types.specs.Descriptor.{IsDescriptor, IsMemberName, NoFront}
-use Rattle.program_types.proofs.NameUnits.{IsPlain, descriptor_prefix_free, member_units_plain, descriptor_not_close}
+use Rattle.dex_base.specs.Descriptor.{IsDescriptor, IsMemberName, NoFront}
+use Rattle.dex_base.proofs.NameUnits.{IsPlain, descriptor_prefix_free, member_units_plain, descriptor_not_close}
 use Rattle.program_types.specs.Content.{Proto, FieldRef, MethodRef}
 use Rattle.listing_words.specs.Taking.{NoneAt, EachTaken}
 use Rattle.listing_words.specs.Names.{HasNameUnit, TakesNameUnit, SpellsUnits, TakesDescriptor, IsMemberText, IsProtoText, IsFieldText, IsMethodText, up_to, from}

@@ -12,7 +12,7 @@ use Rattle.listing_words.specs.Names.{TakesNameUnit, SpellsUnits}
 use Rattle.listing_words.specs.Words.{IsGraphic, IsWritable, plain_word}
 use Rattle.listing_words.specs.Written.{hex_digits, hex_width, flags_text, elements_text, name_unit, name_text}
 use Rattle.listing_words.proofs.TextLaws.{hex_glyph, takes_hex}
-use Rattle.program_types.proofs.ListFacts.{all_append}
+use Rattle.dex_base.proofs.ListFacts.{all_append}
 
 -- ---- hexadecimal digits
 

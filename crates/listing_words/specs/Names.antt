@@ -2,7 +2,7 @@
 -- Page: docs/LISTING.md, "What a word can be"; "Dalvik Executable format", "String syntax".
 use Rattle.std.specs.Prelude.{◌≡◌, ◌≢◌, ℕ, ◌+◌, ◌≤◌, ◌==◌, if◌then◌else◌, ◌⊎◌, List, [], ◌∷◌, ◌++◌, length, slice_index}
 use Rattle.std.specs.List.{flat_map, AllByRecursion}
-use Rattle.program_types.specs.Descriptor.{IsDescriptor, IsMemberName}
+use Rattle.dex_base.specs.Descriptor.{IsDescriptor, IsMemberName}
 use Rattle.program_types.specs.Content.{Proto, FieldRef, MethodRef}
 use Rattle.listing_words.specs.Taking.{EachTaken}
 use Rattle.listing_words.specs.Texts.{HasHex, TakesHex}

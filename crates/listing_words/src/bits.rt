@@ -1,13 +1,13 @@
 //! The bits of a number and the bytes of an array, in hexadecimal digits of either case.
 
 ghost use Rattle.std.specs.Prelude.{ℕ, ◌<◌, ◌≤◌, List, IfOk, IfSome, IfNone, IsOkUnless};
-ghost use Rattle.program_types.specs.Fault.{memory};
+ghost use Rattle.dex_base.specs.Fault.{memory};
 ghost use Rattle.listing_words.specs.Numbers.{SpellsBits, SpellsElements};
 
 use crate::numbers::{digit, read_digits};
 use bumpalo::Bump;
 use bumpalo::collections::into_bump_slice;
-use program_types::Fault;
+use dex_base::Fault;
 
 /// The number that exactly `count` hexadecimal digits write.
 pub fn read_bits(count: usize, word: &[u8]) -> Option<u64>

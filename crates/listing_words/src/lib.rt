@@ -37,8 +37,3 @@ pub use print::put_text;
 pub use print_hex::{put_elements, put_flags, put_hex};
 pub use print_names::{put_field, put_method, put_name, put_proto};
 pub use words::{Word, after_spaces, read_words};
-
-// What stands below, for the crates above.
-pub use program_types::{
-    Desc, Fault, FieldRef, MethodRef, Name, Proto, Str, fault, is_descriptor, is_member_name,
-};

@@ -1,7 +1,7 @@
 //! Names in words, and their parts: a word is decoded first, and then split.
 
 ghost use Rattle.std.specs.Prelude.{◌≡◌, ℕ, ◌+◌, ◌<◌, ◌⊎◌, ◌∷◌, List, length, map, IfOk, IfSome, IfNone, IsOkUnless};
-ghost use Rattle.program_types.specs.Fault.{memory};
+ghost use Rattle.dex_base.specs.Fault.{memory};
 ghost use Rattle.program_types.specs.View.{desc, proto, field_ref, method_ref};
 ghost use Rattle.program_types.specs.Content.{Proto as SaidProto, FieldRef as SaidField, MethodRef as SaidMethod};
 ghost use Rattle.listing_words.specs.Taking.{NoneAt, EachTaken};
@@ -11,10 +11,8 @@ use crate::cut::split_before;
 use crate::texts::hex_unit;
 use bumpalo::Bump;
 use bumpalo::collections::into_bump_slice;
-use program_types::{
-    Desc, Fault, FieldRef, MethodRef, Proto, Str, descriptor_length, is_descriptor, is_member_name,
-    widen,
-};
+use dex_base::{Fault, descriptor_length, is_descriptor, is_member_name, widen};
+use program_types::{Desc, FieldRef, MethodRef, Proto, Str};
 
 // The units between the parts of a name.
 

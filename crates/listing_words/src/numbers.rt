@@ -5,7 +5,7 @@ ghost use Rattle.std.specs.Str.Parse.{IsNumeral, digits_value};
 ghost use Rattle.std.specs.Char.{digit_value};
 ghost use Rattle.listing_words.specs.Numbers.{SpellsNatural};
 
-use program_types::Fault;
+use dex_base::Fault;
 
 /// The value of a digit or a letter in any base up to 36, and 36 for any other byte.
 pub(crate) fn digit(c: u8) -> u64

@@ -3,12 +3,12 @@
 ghost use Rattle.std.specs.Prelude.{◌≡◌, ℕ, ◌<◌, ◌≤◌, ◌+◌, ◌*◌, length, slice_index, IfOk, IfSome, IfNone, SomeIff, IsOkUnless};
 ghost use Rattle.listing_words.specs.Taking.{NoneAt, EachTaken};
 ghost use Rattle.listing_words.specs.Texts.{HasHex, HasQuotedUnit, TakesUnit, TakesUnits, hex};
-ghost use Rattle.program_types.specs.Fault.{memory};
+ghost use Rattle.dex_base.specs.Fault.{memory};
 
 use crate::plain::{BACKSLASH, QUOTE};
 use bumpalo::Bump;
 use bumpalo::collections::into_bump_slice;
-use program_types::Fault;
+use dex_base::Fault;
 
 /// The value of a hexadecimal digit.
 #[tactic(auto, unfolding(crate::specs::Texts::hex))]

@@ -6,12 +6,12 @@ ghost use Rattle.listing_words.specs.Taking.{NoneAt};
 ghost use Rattle.listing_words.specs.Words.{after_spaces, up_to_space, IsGraphic, TakesWord, HasWords};
 ghost use Rattle.listing_words.specs.View.{word};
 ghost use Rattle.listing_words.specs.Words.{Word as Spoken};
-ghost use Rattle.program_types.specs.Fault.{memory};
+ghost use Rattle.dex_base.specs.Fault.{memory};
 
 use crate::runs::{Kind, run};
 use crate::texts::read_units;
 use bumpalo::Bump;
-use program_types::Fault;
+use dex_base::Fault;
 
 /// The bytes that can stand in a word: `!` to `~`.
 const GRAPHIC: Kind = Kind {

@@ -3,9 +3,9 @@
 ghost use Rattle.std.specs.Prelude.{◌≡◌, ◌↔◌, ◌<◌, ◌≤◌, ◌+◌, ◌%◌, length, map, IsTrue, Some, FitsSigned};
 ghost use Rattle.std.specs.List.{AllByRecursion};
 ghost use Rattle.std.specs.Int.{w8, w16, w32, w64};
-ghost use Rattle.program_types.specs.dex_insn_Written.{AreRegisters};
-ghost use Rattle.program_types.specs.RawInsns.{IsElementWidth};
-ghost use Rattle.program_types.specs.Opcodes.{format_of, index_kind_of};
+ghost use Rattle.dex_insn.specs.Written.{AreRegisters};
+ghost use Rattle.dex_insn.specs.RawInsns.{IsElementWidth};
+ghost use Rattle.dex_insn.specs.Opcodes.{format_of, index_kind_of};
 ghost use Rattle.program_types.specs.Formed.{insn_at};
 ghost use Rattle.program_types.specs.Operands.{IsOfIndexKind, AreRisingKeys};
 ghost use Rattle.program_types.specs.View.{insn, code};
@@ -13,7 +13,9 @@ ghost use Rattle.program_types.specs.View as view;
 ghost use Rattle.program_code_rules.specs.CodeRules.{FitsFields, OperandsHold};
 ghost use Rattle.program_code_rules.specs.Parts.{KeyIsBelow};
 
-use program_types::{Code, Format, IndexKind, Insn, Name, are_bytes, format_of, index_kind_of};
+use dex_base::are_bytes;
+use dex_insn::{Format, IndexKind, format_of, index_kind_of};
+use program_types::{Code, Insn, Name};
 
 /// Whether a field of an instruction holds its number: it does, by the number's type, which the first line of each brings into the proof.
 fn fits_u8(a: u8) -> bool

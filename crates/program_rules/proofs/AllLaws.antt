@@ -1,7 +1,7 @@
 -- What holds of all elements of lists.
 use Rattle.std.proofs.Common.{ℕ, ◌<◌, List, [], ◌∷◌, map, length, get_or, drop, arith, zero, suc}
 use Rattle.std.specs.List.{AllByRecursion, flat_map}
-use Rattle.base_bytes.proofs.ListFacts.{all_append, all_back, all_front}
+use Rattle.dex_base.proofs.ListFacts.{all_append, all_back, all_front}
 
 -- what holds of all from a place on holds there
 pub all-here : {A B : Type 0} (P : B → Type 0) (f : A → B) (xs : List A) (i : ℕ) (d : A) → i < length xs → AllByRecursion P (map f (drop i xs)) → P (f (get_or xs i d))

@@ -10,5 +10,3 @@ pub mod OrderLaws
 mod PartRanges
 mod ValueFacts
 pub mod WalkLaws
--- What stands below, for the crates above.
-pub use Rattle.program_code_rules.proofs.OperandLaws

@@ -5,8 +5,8 @@ use Rattle.std.specs.List.{AllByRecursion, flat_map}
 use Rattle.std.specs.declared.cmp.Ordering.{Ordering}
 use Rattle.std.specs.declared.cmp.Ordering.TheVariants.{Less}
 use Rattle.std.proofs.lemmas.List.{get_or-map, length-map}
-use Rattle.program_types.specs.Descriptor.{IsClass, IsDescriptor}
-use Rattle.program_types.proofs.DescriptorLaws.{class_is_descriptor}
+use Rattle.dex_base.specs.Descriptor.{IsClass, IsDescriptor}
+use Rattle.dex_base.proofs.DescriptorLaws.{class_is_descriptor}
 use Rattle.program_types.specs.Content.{Descriptor, Units, Name, OfText, OfDesc, Value, Values, Named, Enum, Array, no_values, more_values, Code, Member, Method, Class}
 use Rattle.program_types.specs.Key.{Key, key_cmp}
 use Rattle.program_types.specs.Mentions.{if_any, names_of_value, names_of_values, names_of_code, field_of_class, names_of_method, NamesHold, AllNamesHold}
@@ -14,7 +14,7 @@ use Rattle.program_rules.specs.Valid.{IsValidName}
 use Rattle.program_rules.specs.Rules.{IsBelowNext, NamesAreValid}
 use Rattle.program_rules.specs.Parts.{FieldIsValid, MethodIsValid}
 use Rattle.program_rules.proofs.AllLaws.{all-lists, all-joined, all-made}
-use Rattle.base_bytes.proofs.ListFacts.{all_front, all_back, all_append, all_map, all_weaker}
+use Rattle.dex_base.proofs.ListFacts.{all_front, all_back, all_append, all_map, all_weaker}
 
 -- ---- keys
 

@@ -5,14 +5,14 @@ use Rattle.std.specs.List.{AllByRecursion, slice_get}
 use Rattle.std.specs.Prelude.{option_map, ◌↔◌}
 use Rattle.std.proofs.lemmas.List.{length-map}
 use Rattle.std.proofs.lemmas.Option.{slice_get-map, slice_get-get_or, slice_get_within}
-use Rattle.base_bytes.specs.declared.fault.Fault.{Fault}
+use Rattle.dex_base.specs.declared.fault.Fault.{Fault}
 use Rattle.program_types.specs.Content as content
 use Rattle.program_types.specs.View.{class, desc}
 use Rattle.program_types.specs.declared.class.Class.{Class}
 use Rattle.program_rules.specs.Ranges.{ClassInRange}
 use Rattle.program_rules.specs.Rules.{ClassHolds, ClassBreaks, RuleBreaks}
 use Rattle.program_rules.specs.WellFormed.{WellFormed}
-use Rattle.base_bytes.proofs.ListFacts.{all_there, some_inj}
+use Rattle.dex_base.proofs.ListFacts.{all_there, some_inj}
 
 -- class j
 pub class-at : (xs : List Class) (j : ℕ) (d : Class) → j < length xs → slice_get (map class xs) j ≡ Some (class (get_or xs j d))

@@ -6,7 +6,7 @@ use Rattle.program_types.specs.Content.{Units, OfText, OfDesc, Value, Values, Na
 use Rattle.program_types.specs.Mentions.{if_any, names_of_value, names_of_values, names_of_insn, names_of_try, names_of_code, field_of_class, names_of_method, NamesHold, AllNamesHold}
 use Rattle.program_rules.specs.Ranges.{ProtoInRange, NameInRange, ValueInRange, MemberInRange, CodeInRange, DefinedInRange, ClassInRange}
 use Rattle.program_rules.proofs.AllLaws.{all-joined}
-use Rattle.base_bytes.proofs.ListFacts.{all_append, all_map, all_weaker}
+use Rattle.dex_base.proofs.ListFacts.{all_append, all_map, all_weaker}
 
 -- What each part of a class is known to be.
 pub record FieldFits (m : Member) : Type 0 where

@@ -1,14 +1,14 @@
 -- The names in a body.
 use Rattle.std.proofs.Common.{map}
 use Rattle.std.specs.List.{AllByRecursion, flat_map}
-use Rattle.program_types.specs.Descriptor.{IsDescriptor}
+use Rattle.dex_base.specs.Descriptor.{IsDescriptor}
 use Rattle.program_types.specs.Content.{OfDesc, Catch, Try}
 use Rattle.program_types.specs.View.{insn, try, code}
 use Rattle.program_types.specs.declared.code.Code.{Code}
 use Rattle.program_types.specs.Mentions.{names_of_insn, names_of_try, names_of_code}
 use Rattle.program_rules.proofs.AllLaws.{all-lists, all-joined, all-made}
 use Rattle.program_rules.specs.Valid.{IsValidName, InsnsAreNamed}
-use Rattle.base_bytes.proofs.ListFacts.{all_front, all_back, all_append, all_map, all_weaker}
+use Rattle.dex_base.proofs.ListFacts.{all_front, all_back, all_append, all_map, all_weaker}
 
 -- what is asked of the names in a body's tries
 abbrev CatchesAreValid : Try → Type 0

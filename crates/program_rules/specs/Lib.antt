@@ -5,5 +5,3 @@ pub mod Parts
 pub mod Nested
 pub mod Ranges
 pub mod WellFormed
--- What stands below, for the crates above.
-pub use Rattle.program_code_rules.specs.CodeRules

@@ -1,7 +1,7 @@
 -- What the private functions say of one member.
 use Rattle.std.specs.Prelude.{IfSome}
 use Rattle.std.specs.List.{AllByRecursion}
-use Rattle.program_types.specs.Descriptor.{IsMemberName}
+use Rattle.dex_base.specs.Descriptor.{IsMemberName}
 use Rattle.program_types.specs.Content.{Member, Method}
 use Rattle.program_types.specs.Mentions.{names_of_code}
 use Rattle.program_rules.specs.Valid.{IsValueType, IsValidProto, IsValidName}

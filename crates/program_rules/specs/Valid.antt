@@ -2,7 +2,7 @@
 -- Page: "Dalvik Executable format", "String syntax" (TypeDescriptor, MemberName), "field_id_item", "method_id_item", "proto_id_item".
 use Rattle.std.specs.Prelude.{◌≢◌, ◌⊎◌, ⊤}
 use Rattle.std.specs.List.{AllByRecursion}
-use Rattle.program_types.specs.Descriptor.{IsDescriptor, IsClass, IsArray, IsMemberName}
+use Rattle.dex_base.specs.Descriptor.{IsDescriptor, IsClass, IsArray, IsMemberName}
 use Rattle.program_types.specs.Content.{Descriptor, Proto, FieldRef, MethodRef, Name, OfText, OfDesc, OfField, OfMethod, Insn, Code}
 use Rattle.program_types.specs.Kinds.{void}
 use Rattle.program_types.specs.Mentions.{names_of_insn}

@@ -2,13 +2,14 @@
 
 ghost use Rattle.std.specs.Prelude.{◌↔◌, map, IsTrue};
 ghost use Rattle.std.specs.List.{AllByRecursion};
-ghost use Rattle.program_types.specs.Descriptor.{IsDescriptor};
+ghost use Rattle.dex_base.specs.Descriptor.{IsDescriptor};
 ghost use Rattle.program_types.specs.View.{insn, catch, try, code};
 ghost use Rattle.program_types.specs.Mentions.{names_of_code};
 ghost use Rattle.program_rules.specs.Valid.{IsValidName, InsnIsNamed, InsnsAreNamed};
 
 use crate::names::is_valid_name;
-use program_types::{Catch, Code, Insn, Try, is_descriptor, name_of};
+use dex_base::is_descriptor;
+use program_types::{Catch, Code, Insn, Try, name_of};
 
 /// Whether a file can have the name in the instruction, if there is one.
 fn insn_is_valid(one: &Insn<'_>) -> bool

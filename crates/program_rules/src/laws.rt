@@ -1,7 +1,7 @@
 //! Laws of the rules, each the contract of a function that does nothing.
 
 ghost use Rattle.std.specs.Prelude.{◌≡◌};
-ghost use Rattle.base_bytes.specs.declared.fault.Fault.{Fault};
+ghost use Rattle.dex_base.specs.declared.fault.Fault.{Fault};
 ghost use Rattle.program_types.specs.Content.{Program};
 ghost use Rattle.program_types.specs.View.{class};
 ghost use Rattle.program_rules.specs.Ranges.{ClassInRange};

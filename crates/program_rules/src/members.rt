@@ -2,7 +2,7 @@
 
 ghost use Rattle.std.specs.Prelude.{◌≡◌, ◌↔◌, ◌<◌, ◌+◌, length, map, IsTrue, IfSome};
 ghost use Rattle.std.specs.List.{AllByRecursion};
-ghost use Rattle.program_types.specs.Descriptor.{IsClass};
+ghost use Rattle.dex_base.specs.Descriptor.{IsClass};
 ghost use Rattle.program_types.specs.View.{member, method, class, code};
 ghost use Rattle.program_types.specs.Key.{key_cmp};
 ghost use Rattle.program_rules.specs.Valid.{InsnsAreNamed};
@@ -12,9 +12,8 @@ ghost use Rattle.program_rules.specs.Parts.{FieldIsValid, MethodIsValid};
 use crate::bodies::code_is_valid;
 use crate::names::{are_classes, is_valid_proto, is_value_type};
 use crate::values::values_are_valid;
-use program_types::{
-    Class, Member, Method, desc_cmp, is_class_type, is_member_name, proto_cmp, str_cmp,
-};
+use dex_base::is_member_name;
+use program_types::{Class, Member, Method, desc_cmp, is_class_type, proto_cmp, str_cmp};
 use std::cmp::Ordering;
 
 /// Whether a file can have the field, if its class is one.

@@ -2,14 +2,14 @@
 
 ghost use Rattle.std.specs.Prelude.{◌↔◌, map, IsTrue};
 ghost use Rattle.std.specs.List.{AllByRecursion};
-ghost use Rattle.program_types.specs.Descriptor.{IsClass};
+ghost use Rattle.dex_base.specs.Descriptor.{IsClass};
 ghost use Rattle.program_types.specs.View.{desc, proto, field_ref, method_ref};
 ghost use Rattle.program_types.specs.View as view;
 ghost use Rattle.program_rules.specs.Valid.{IsValueType, IsValidProto, IsValidField, IsValidMethod, IsValidName};
 
+use dex_base::{is_descriptor, is_member_name};
 use program_types::{
-    Desc, FieldRef, MethodRef, Name, Proto, is_class_or_array, is_class_type, is_descriptor,
-    is_member_name, is_void,
+    Desc, FieldRef, MethodRef, Name, Proto, is_class_or_array, is_class_type, is_void,
 };
 
 /// Whether fields and parameters can have the type.

@@ -2,16 +2,16 @@
 
 ghost use Rattle.std.specs.Prelude.{◌≡◌, ◌↔◌, ◌≤◌, length, map, Some, IfOk, IfSome, IsTrue, IsOkUnless};
 ghost use Rattle.std.specs.List.{AllByRecursion, slice_get};
-ghost use Rattle.base_bytes.specs.Fault.{memory};
+ghost use Rattle.dex_base.specs.Fault.{memory};
 ghost use Rattle.program_types.specs.Content.{Program};
 ghost use Rattle.program_types.specs.View.{class, desc};
 ghost use Rattle.program_rules.specs.Rules.{NoneFrom, AreDistinct, OrderHolds};
 ghost use Rattle.program_rules.specs.Numbers.{AreNumbers, types};
 
 use crate::order::are_distinct;
-use base_bytes::Seed;
+use dex_base::{Fault, Seed};
 use indexmap::IndexMap;
-use program_types::{Class, Desc, Fault};
+use program_types::{Class, Desc};
 use std::alloc::Global;
 
 /// How many types are compared pair by pair, without memory.

@@ -2,7 +2,7 @@
 
 ghost use Rattle.std.specs.Prelude.{◌≡◌, ◌≢◌, ◌↔◌, length, map, IsTrue, IfOk, OnOk, IfErr, IsOkUnless};
 ghost use Rattle.std.specs.List.{AllByRecursion};
-ghost use Rattle.base_bytes.specs.Fault.{memory};
+ghost use Rattle.dex_base.specs.Fault.{memory};
 ghost use Rattle.program_code_rules.specs.CodeRules.{OperandsHold, PayloadsHold, TargetsHold, TriesHold};
 ghost use Rattle.program_types.specs.Content as content;
 ghost use Rattle.program_types.specs.Formed.{RegistersHold};
@@ -19,9 +19,9 @@ use crate::members::{members_rise, names_are_valid};
 use crate::numbers::{Numbers, numbers_of, order_holds_in};
 use crate::order::order_holds;
 use crate::values::values_fit;
-use base_bytes::Seed;
+use dex_base::{Fault, Seed, fault};
 use program_code_rules::CodeRule;
-use program_types::{Class, Desc, Fault, Program, fault};
+use program_types::{Class, Desc, Program};
 use std::alloc::Global;
 
 /// Whether the code of class `place` keeps all rules, if it is known whether its payloads are used as they have to be.

@@ -2,7 +2,7 @@
 use Rattle.std.proofs.Common.{◌≡◌, ◌≢◌, ◌∙◌, inl, inr, ap, sym, refl, ℕ, zero, suc, ◌<◌, ◌≤◌, List, [], ◌∷◌, ◌++◌, length, map, get_or, arith, length-append}
 use Rattle.std.proofs.lemmas.List.{length-map}
 use Rattle.std.specs.Prelude.{replicate, slice_index}
-use Rattle.dex_insn.specs.Descriptor.{IsPrimitive, IsElement, IsDescriptor}
+use Rattle.dex_base.specs.Descriptor.{IsPrimitive, IsElement, IsDescriptor}
 use Rattle.program_types.specs.Shorty.{StandsFor, letter_of}
 use Rattle.program_types.specs.View.{desc}
 use Rattle.program_types.specs.declared.names.Desc.{Desc}

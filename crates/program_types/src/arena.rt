@@ -1,13 +1,13 @@
 //! Names put into an arena, where they live as long as it does.
 
 ghost use Rattle.std.specs.Prelude.{◌≡◌, ◌<◌, IfOk, IsOkUnless, All, [], length, map, slice_index_or};
-ghost use Rattle.dex_insn.specs.Fault.{memory};
+ghost use Rattle.dex_base.specs.Fault.{memory};
 ghost use Rattle.program_types.specs.View.{str, desc, proto};
 
 use crate::names::{Desc, Proto, Str};
 use bumpalo::Bump;
 use bumpalo::collections::into_bump_slice;
-use dex_insn::Fault;
+use dex_base::Fault;
 
 /// A string of these units, copied into the arena. Fails only when out of memory.
 pub fn alloc_str<'a>(arena: &'a Bump, units: &[u16]) -> Result<Str<'a>, Fault>

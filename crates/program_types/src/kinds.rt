@@ -1,11 +1,11 @@
 //! What a type is asked to be where it is used ("Dalvik Executable format", "String syntax").
 ghost use Rattle.std.specs.Prelude.{◌≡◌, ◌↔◌, ◌⊎◌, IsTrue};
-ghost use Rattle.dex_insn.specs.Descriptor.{IsClass, IsArray};
+ghost use Rattle.dex_base.specs.Descriptor.{IsClass, IsArray};
 ghost use Rattle.program_types.specs.View.{desc};
 ghost use Rattle.program_types.specs.Kinds.{void};
 
 use crate::names::Desc;
-use dex_insn::{is_array, is_class};
+use dex_base::{is_array, is_class};
 
 /// Whether a type is void, `V`, which no value has.
 pub fn is_void(ty: Desc<'_>) -> bool

@@ -59,9 +59,3 @@ pub use parts::{are_alike, is_switch, leads_of, name_of, payload_of, targets_of}
 pub use payload::Payload;
 pub use shorty::{letter, shorty_laws, shorty_of};
 pub use value::Value;
-
-// What stands below, for the crates above.
-pub use dex_insn::{
-    Fault, Format, IndexKind, Seed, are_bytes, descriptor_length, fault, format_of, index_kind_of,
-    is_descriptor, is_member_name, widen,
-};

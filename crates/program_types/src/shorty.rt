@@ -1,15 +1,15 @@
 //! The short form of a prototype ("Dalvik Executable format", "String syntax": ShortyDescriptor).
 
 ghost use Rattle.std.specs.Prelude.{◌≡◌, ◌↔◌, ℕ, List, All, IfOk, IsOkUnless, map};
-ghost use Rattle.dex_insn.specs.Descriptor.{IsDescriptor};
-ghost use Rattle.dex_insn.specs.Fault.{memory};
+ghost use Rattle.dex_base.specs.Descriptor.{IsDescriptor};
+ghost use Rattle.dex_base.specs.Fault.{memory};
 ghost use Rattle.program_types.specs.Shorty.{StandsFor, letter_of, shorty};
 ghost use Rattle.program_types.specs.View.{str, desc};
 
 use crate::arena::alloc_str;
 use crate::names::{Desc, Str};
 use bumpalo::Bump;
-use dex_insn::Fault;
+use dex_base::Fault;
 use std::alloc::Global;
 
 /// The letter of every class and array type.

@@ -13,8 +13,3 @@ pub mod OwnLemmas
 pub mod NumberLemmas
 pub mod NumberedNamesLemmas
 pub mod NotedLemmas
--- What stands below, for the crates above.
-pub use Rattle.program_types.proofs.Deciding
-pub use Rattle.program_types.proofs.ListFacts
-pub use Rattle.program_types.proofs.NamesDecided
-pub use Rattle.program_types.proofs.TextsDecided

@@ -19,7 +19,7 @@ use Rattle.std.proofs.lemmas.Bool.{cases_order}
 use Rattle.tables_names.specs.Rank.{Rising, is_member, rank_of, add_all, IsAt}
 use Rattle.tables_names.specs.Numbers.{with_last, NumbersSet, NumbersTable, RanksNames}
 use Rattle.tables_names.proofs.NumberLemmas.{member_of_set, rank_there}
-use Rattle.program_types.proofs.ListFacts.{get_last, slice_left}
+use Rattle.dex_base.proofs.ListFacts.{get_last, slice_left}
 use Rattle.tables_names.proofs.PlaceLemmas.{member_at}
 use Rattle.tables_names.proofs.RisingLemmas.{less_of, same_rising, rank-at, not_member}
 use Rattle.tables_names.proofs.UnionLemmas.{rising-add_all, is_member-add_all, rising-none}

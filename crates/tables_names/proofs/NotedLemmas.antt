@@ -14,7 +14,7 @@ use Rattle.tables_names.proofs.FiveLemmas.{IsPart-trans, all_added, parts_in_fie
 use Rattle.tables_names.proofs.NeededLemmas.{members_more, members_split, names_append, with_names-grows}
 use Rattle.tables_names.proofs.NumberLemmas.{AllGrow-refl, AllGrow-trans, rank_there}
 use Rattle.tables_names.proofs.SubsetLemmas as sub
-use Rattle.program_types.proofs.ListFacts.{zip_more, zip_weaker}
+use Rattle.dex_base.proofs.ListFacts.{zip_more, zip_weaker}
 
 number_stays : (old new : Five) → AllGrow old new → (name : Name) (n : Number) → NumberIs old name n → NumberIs new name n
 number_stays old new g (OfText t) (Text n) at = g.strings.each n (text_key t) at

@@ -14,8 +14,8 @@ use Rattle.tables_names.specs.declared.parts.MethodParts.{MethodParts}
 use Rattle.tables_names.proofs.RisingLemmas.{insert_key-member}
 use Rattle.tables_names.proofs.UnionLemmas.{rising-add_all, is_member-add_all, rising-none}
 use Rattle.tables_names.proofs.FiveLemmas.{closed-strings, closed-types, closed-protos, closed-fields, closed-methods}
-use Rattle.program_types.proofs.ListFacts.{slice_left}
-use Rattle.program_types.proofs.ListFacts.{zip_more, zip_weaker}
+use Rattle.dex_base.proofs.ListFacts.{slice_left}
+use Rattle.dex_base.proofs.ListFacts.{zip_more, zip_weaker}
 
 -- ---- lists
 

@@ -17,7 +17,7 @@ use Rattle.tables_names.proofs.NumberLemmas.{zip_get}
 use Rattle.tables_names.proofs.PlaceLemmas.{member_at, member_index}
 use Rattle.tables_names.proofs.SortingLemmas.{field_cmp, field_ranks_cmp, method_cmp, method_ranks_cmp}
 use Rattle.std.proofs.lemmas.Bool.{false_from_ne_true}
-use Rattle.program_types.proofs.ListFacts.{zip_length}
+use Rattle.dex_base.proofs.ListFacts.{zip_length}
 use Rattle.std.proofs.lemmas.List.{map-id}
 
 -- ---- rows that compare as the names beside them do

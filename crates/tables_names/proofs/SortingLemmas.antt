@@ -26,7 +26,7 @@ use Rattle.tables_names.proofs.IndexLemmas.{units_by_index}
 use Rattle.tables_names.proofs.RowLemmas.{keys_compare_as_indices}
 use Rattle.tables_names.proofs.PlaceLemmas.{member_at, member_index, one_key}
 use Rattle.tables_names.proofs.NumberLemmas.{zip_from, zip_get, member_of_set}
-use Rattle.program_types.proofs.ListFacts.{zip_length}
+use Rattle.dex_base.proofs.ListFacts.{zip_length}
 
 -- what the names answer is what their ranks do
 same_leads : (ranks names : Ordering) → ranks ≡ names → RanksDecide ranks names

@@ -4,7 +4,7 @@
 use Rattle.std.specs.Prelude.{◌≡◌, ℕ, List, [], ◌∷◌, map, fold, true, ⊤, All}
 use Rattle.program_types.specs.Content.{Descriptor, Method, Proto, Name, OfText, OfDesc, OfField, OfMethod}
 use Rattle.program_types.specs.Key.{Key, text_key, proto_key, field_ref_key, method_ref_key}
-use Rattle.program_types.specs.Descriptor.{IsDescriptor}
+use Rattle.dex_base.specs.Descriptor.{IsDescriptor}
 use Rattle.program_types.specs.Shorty.{letter_of}
 use Rattle.tables_names.specs.Rank.{Rising, add_all, is_member, IsSubset, IsAt}
 

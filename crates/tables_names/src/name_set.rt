@@ -7,7 +7,7 @@ ghost use Rattle.tables_names.specs.Numbers.{with_last, RanksNames};
 
 use crate::row::Row;
 use crate::sorting::names_of;
-use program_types::Seed;
+use dex_base::Seed;
 use std::alloc::{AllocError, Global};
 use std::collections::HashMap;
 use std::collections::hash_map::Entry;

@@ -2,8 +2,8 @@
 //! type_id_item, proto_id_item, field_id_item and method_id_item).
 ghost use Rattle.std.specs.Prelude.{◌≡◌, ◌∷◌, [], OnOk, OnErr, IfOk, IsOkUnless, All, map};
 ghost use Rattle.std.specs.List.{AllByRecursion};
-ghost use Rattle.program_types.specs.Fault.{memory};
-ghost use Rattle.program_types.specs.Descriptor.{IsDescriptor};
+ghost use Rattle.dex_base.specs.Fault.{memory};
+ghost use Rattle.dex_base.specs.Descriptor.{IsDescriptor};
 ghost use Rattle.program_types.specs.Content.{OfText, OfDesc, OfField, OfMethod};
 ghost use Rattle.program_types.specs.Mentions.{field_of_class};
 ghost use Rattle.program_types.specs.View.{str, desc, proto, field_ref, method_ref, member, method};
@@ -15,7 +15,8 @@ use crate::noted::Noted;
 use crate::numbered::NumberedNames;
 use crate::ranks::Ranks;
 use bumpalo::Bump;
-use program_types::{Desc, Fault, FieldRef, Member, Method, MethodRef, Name, Proto, Seed, Str};
+use dex_base::{Fault, Seed};
+use program_types::{Desc, FieldRef, Member, Method, MethodRef, Name, Proto, Str};
 use std::alloc::Global;
 use std::marker::Model;
 

@@ -3,10 +3,10 @@
 //! format": encoded_field and encoded_method).
 ghost use Rattle.std.specs.Prelude.{◌≡◌, ◌∷◌, ◌++◌, List, [], OnOk, OnErr, IfOk, IsOkUnless, All, map};
 ghost use Rattle.std.specs.List.{AllByRecursion, AllZip};
-ghost use Rattle.program_types.specs.Fault.{memory};
+ghost use Rattle.dex_base.specs.Fault.{memory};
 ghost use Rattle.program_types.specs.Content as content;
 ghost use Rattle.program_types.specs.Content.{OfDesc, OfField, OfMethod};
-ghost use Rattle.program_types.specs.Descriptor.{IsDescriptor};
+ghost use Rattle.dex_base.specs.Descriptor.{IsDescriptor};
 ghost use Rattle.program_types.specs.Mentions.{field_of_class};
 ghost use Rattle.program_types.specs.View as view;
 ghost use Rattle.tables_names.specs.Closure.{AddsPart, HasShorty, method_of_class, with_name, with_names};
@@ -19,7 +19,8 @@ use crate::numbered::NumberedNames;
 use crate::ranks::Ranks;
 use crate::sorting::at;
 use bumpalo::Bump;
-use program_types::{Class, Desc, Fault, FieldRef, Member, Method, MethodRef, Name};
+use dex_base::Fault;
+use program_types::{Class, Desc, FieldRef, Member, Method, MethodRef, Name};
 use std::alloc::{AllocError, Global};
 use std::marker::Model;
 

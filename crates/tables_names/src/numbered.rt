@@ -4,8 +4,8 @@
 //! write its rows.
 ghost use Rattle.std.specs.Prelude.{◌≡◌, ◌∷◌, OnOk, OnErr, IfOk, IsOkUnless, All, map};
 ghost use Rattle.std.specs.List.{AllByRecursion, AllZip};
-ghost use Rattle.program_types.specs.Fault.{memory};
-ghost use Rattle.program_types.specs.Descriptor.{IsDescriptor};
+ghost use Rattle.dex_base.specs.Fault.{memory};
+ghost use Rattle.dex_base.specs.Descriptor.{IsDescriptor};
 ghost use Rattle.program_types.specs.Content.{OfText, OfDesc, OfField, OfMethod};
 ghost use Rattle.program_types.specs.Mentions.{field_of_class};
 ghost use Rattle.program_types.specs.View.{str, desc, proto, field_ref, method_ref, member, method};
@@ -22,9 +22,8 @@ use crate::parts::{FieldParts, MethodParts, ProtoParts, TypeParts};
 use crate::ranks::Ranks;
 use crate::sorting::{Members, Parts, sorted_by, sorted_strings};
 use bumpalo::Bump;
-use program_types::{
-    Desc, Fault, FieldRef, Member, Method, MethodRef, Name, Proto, Seed, Str, shorty_of,
-};
+use dex_base::{Fault, Seed};
+use program_types::{Desc, FieldRef, Member, Method, MethodRef, Name, Proto, Str, shorty_of};
 use std::alloc::{AllocError, Global};
 use std::marker::Model;
 

@@ -17,7 +17,8 @@ use crate::noted::RankOf;
 use crate::parts::{FieldParts, MethodParts, ProtoParts, TypeParts};
 use crate::shorty::index_of_shorty;
 use crate::sorting::{Members, Parts};
-use program_types::{Desc, FieldRef, MethodRef, Name, Proto, Seed, Str};
+use dex_base::Seed;
+use program_types::{Desc, FieldRef, MethodRef, Name, Proto, Str};
 use std::marker::Model;
 
 /// The needed names of each of the five kinds, each with its rank: how many of its kind are less. It stands for the

@@ -5,7 +5,7 @@ use Rattle.std.proofs.lemmas.Option.{none-some}
 use Rattle.std.specs.Map.{lookup}
 use Rattle.indexmap.specs.IndexMap.{IndexMap, get, IsEmpty, Updates}
 use Rattle.tables_rows.specs.Cached.{AreCached}
-use Rattle.dex_container.proofs.ListFacts.{some_inj}
+use Rattle.dex_base.proofs.ListFacts.{some_inj}
 
 -- nothing is cached yet
 pub cached_none : {V S : Type 0} (Stands : ℕ → V → Type 0) (m : IndexMap ℕ V S) → IsEmpty m → AreCached Stands m

@@ -1,10 +1,10 @@
 -- A row that holds breaks no rule, and a name has one meaning.
 use Rattle.std.proofs.Common.{◌≡◌, ◌≢◌, ℕ, ◌<◌, ◌⊎◌, inl, inr, List, [], length, drop, ap, ◌∙◌, subst, arith, length-take, length-append, ◌∷◌}
 use Rattle.std.proofs.lemmas.Bool.{cases_lt}
-use Rattle.dex_container.specs.declared_Fault.{Fault}
-use Rattle.dex_container.specs.Fault.{memory}
-use Rattle.dex_container.specs.Descriptor.{IsDescriptor, IsClass, IsArray, IsMemberName}
-use Rattle.dex_container.specs.Mutf8.{SpellsText}
+use Rattle.dex_base.specs.declared.fault.Fault.{Fault}
+use Rattle.dex_base.specs.Fault.{memory}
+use Rattle.dex_base.specs.Descriptor.{IsDescriptor, IsClass, IsArray, IsMemberName}
+use Rattle.dex_base.specs.Mutf8.{SpellsText}
 use Rattle.dex_container.specs.Frame.{IsFramed}
 use Rattle.dex_container.specs.Layout.{size_of}
 use Rattle.program_types.specs.Content.{Units, Proto, FieldRef, MethodRef}

@@ -3,18 +3,18 @@ use Rattle.std.proofs.Common.{Bool, true, false, ◌≡◌, ℕ, zero, suc, ◌+
 use Rattle.std.proofs.lemmas.List.{take_at, drop_at}
 use Rattle.std.proofs.Math.Seq.{take-add}
 use Rattle.std.specs.List.{AllByRecursion}
-use Rattle.dex_container.specs.Fields.{AreBytes, u16_at, u32_at, u16_bytes, u32_bytes}
-use Rattle.dex_container.specs.Words.{halves_bytes}
-use Rattle.dex_container.specs.Grammar.{Begins, NoneBegins, IsPrefixUnique}
-use Rattle.dex_container.proofs.FieldBounds.{u32_at-bytes, length-u32_bytes, u32_at-front, u32_at-fits}
+use Rattle.dex_base.specs.Fields.{AreBytes, u16_at, u32_at, u16_bytes, u32_bytes}
+use Rattle.dex_base.specs.Words.{halves_bytes}
+use Rattle.dex_base.specs.Grammar.{Begins, NoneBegins, IsPrefixUnique}
+use Rattle.dex_base.proofs.FieldBounds.{u32_at-bytes, length-u32_bytes, u32_at-front, u32_at-fits}
 use Rattle.tables_rows.specs.Halves.{halves}
 use Rattle.dex_container.specs.Frame.{IsFramed}
 use Rattle.std.specs.Prelude.{MatchBool, ◌==◌}
 use Rattle.tables_rows.specs.Stands.{SpellsIndexes}
 use Rattle.dex_container.specs.Where.{slice, At, AtOrNone, IsInSection}
 use Rattle.dex_container.proofs.Standing.{at_place, At-one}
-use Rattle.dex_container.proofs.ListFacts.{take_bytes}
-use Rattle.dex_container.proofs.FieldBounds.{drop-AreBytes}
+use Rattle.dex_base.proofs.ListFacts.{take_bytes}
+use Rattle.dex_base.proofs.FieldBounds.{drop-AreBytes}
 
 -- ---- numbers and their bytes
 

@@ -6,5 +6,9 @@ pub mod ClearRows
 pub mod NameLaws
 pub mod Marks
 pub mod CachedLaws
--- What stands below, for the crates above.
-pub use Rattle.dex_container.proofs.PlacesDecided
+pub mod FileLemmas
+pub mod RowsDecided
+pub mod NoFault
+pub mod RowsBreak
+pub mod OneFault
+pub mod KeptRules

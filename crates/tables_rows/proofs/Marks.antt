@@ -5,7 +5,7 @@ use Rattle.std.specs.List.{slice_get}
 use Rattle.std.proofs.lemmas.Bool.{cases_lt}
 use Rattle.std.proofs.lemmas.List.{get_or_append_left, get_or_push, length-map}
 use Rattle.std.proofs.lemmas.Option.{slice_get-map, slice_get-get_or, slice_get_within}
-use Rattle.dex_container.specs.Descriptor.{IsMemberName}
+use Rattle.dex_base.specs.Descriptor.{IsMemberName}
 use Rattle.program_types.specs.View.{str}
 use Rattle.program_types.specs.declared.names.Str.{Str}
 use Rattle.tables_rows.specs.Reading.{AreNameMarks}

@@ -3,8 +3,8 @@ use Rattle.std.proofs.Common.{◌≡◌, ℕ, ◌+◌, ◌-◌, take, drop, ◌<
 use Rattle.std.proofs.lemmas.List.{length-map, length_push}
 use Rattle.std.proofs.lemmas.Option.{slice_get-get_or, slice_get-map, slice_get_within}
 use Rattle.std.proofs.lemmas.Bool.{cases_lt}
-use Rattle.dex_container.specs.Mutf8.{SpellsText}
-use Rattle.dex_container.proofs.TextLaws.{text_unique}
+use Rattle.dex_base.specs.Mutf8.{SpellsText}
+use Rattle.dex_base.proofs.TextLaws.{text_unique}
 use Rattle.dex_container.specs.Frame.{IsFramed}
 use Rattle.dex_container.specs.Layout.{size_of}
 use Rattle.tables_rows.specs.Names.{AreRows}
@@ -14,13 +14,13 @@ use Rattle.tables_rows.specs.RowFields.{string_place}
 use Rattle.tables_rows.specs.Sorted.{RowRises, IsBelow, StringIsBelow, RowsHold}
 use Rattle.tables_rows.specs.Stands.{StringStands}
 use Rattle.tables_rows.specs.TableFaults.{BreaksAt, IsFirstRow}
-use Rattle.dex_container.specs.declared_Fault.{Fault}
+use Rattle.dex_base.specs.declared.fault.Fault.{Fault}
 use Rattle.dex_container.proofs.Standing.{At-one, stands_at, stands_not, mod_one}
 use Rattle.dex_container.specs.declared.section.Section.{Section}
-use Rattle.dex_container.specs.Grammar.{Begins, NoneBegins}
+use Rattle.dex_base.specs.Grammar.{Begins, NoneBegins}
 use Rattle.program_types.specs.View.{str}
 use Rattle.program_types.specs.declared.names.Str.{Str}
-use Rattle.dex_container.proofs.ListFacts.{slice_split}
+use Rattle.dex_base.proofs.ListFacts.{slice_split}
 
 module _ {V : Type 0} (S : List ℕ → ℕ → V → Type 0) (H : List ℕ → ℕ → Type 0) (b : List ℕ) where
   pub first_more : (n : ℕ) (names : List V) (v : V) → AreFirst S H b n names → S b n v → H b n → AreFirst S H b (n + 1) (names ++ v ∷ [])

@@ -1,7 +1,7 @@
 -- What the private functions of reading say.
 use Rattle.std.specs.Prelude.{◌≡◌, ◌↔◌, ℕ, ◌+◌, List, length, Some, Bool, false, IsTrue, get_or}
 use Rattle.std.specs.List.{slice_get}
-use Rattle.dex_container.specs.Descriptor.{IsMemberName}
+use Rattle.dex_base.specs.Descriptor.{IsMemberName}
 use Rattle.tables_rows.specs.Sorted.{IsBelow, RowsHold}
 
 -- These are the names of the first rows, and the rows hold.

@@ -1,7 +1,7 @@
 -- The fields of a row of each table, as they stand in the file (Dalvik Executable format, "string_id_item" to
 -- "method_id_item"). Past the file's end a byte counts as 0.
 use Rattle.std.specs.Prelude.{ℕ, ◌+◌, ◌*◌, List, [], ◌∷◌}
-use Rattle.dex_container.specs.Fields.{u16_at, u32_at}
+use Rattle.dex_base.specs.Fields.{u16_at, u32_at}
 use Rattle.dex_container.specs.Layout.{row_bytes, offset_of}
 use Rattle.dex_container.specs.Section as section
 use Rattle.tables_rows.specs.declared.row_fields.MemberTable.{MemberTable}

@@ -1,10 +1,10 @@
 -- Which name a row of a table denotes (Dalvik Executable format, "string_id_item" to "method_id_item", "type_list").
 use Rattle.std.specs.Prelude.{◌≡◌, ◌≢◌, ℕ, ◌^◌, ◌<◌, ◌⊎◌, List, length, ◌++◌}
 use Rattle.std.specs.List.{AllZip, AllByRecursion}
-use Rattle.dex_container.specs.Fields.{u32_bytes}
-use Rattle.dex_container.specs.Words.{halves_bytes}
-use Rattle.dex_container.specs.Mutf8.{SpellsText}
-use Rattle.dex_container.specs.Descriptor.{IsDescriptor, IsClass, IsArray, IsMemberName}
+use Rattle.dex_base.specs.Fields.{u32_bytes}
+use Rattle.dex_base.specs.Words.{halves_bytes}
+use Rattle.dex_base.specs.Mutf8.{SpellsText}
+use Rattle.dex_base.specs.Descriptor.{IsDescriptor, IsClass, IsArray, IsMemberName}
 use Rattle.dex_container.specs.Layout.{size_of}
 use Rattle.program_types.specs.Content.{Units, Proto, FieldRef, MethodRef, Name, OfText, OfDesc, OfField, OfMethod}
 use Rattle.program_types.specs.Kinds.{void}

@@ -3,8 +3,8 @@
 -- rows before hold.
 use Rattle.std.specs.Prelude.{◌≡◌, ◌≢◌, ℕ, ◌<◌, ◌≤◌, ◌⊎◌, List}
 use Rattle.std.specs.List.{AllByRecursion}
-use Rattle.dex_container.specs.declared_Fault.{Fault}
-use Rattle.dex_container.specs.Descriptor.{IsDescriptor, IsClass, IsArray, IsMemberName}
+use Rattle.dex_base.specs.declared.fault.Fault.{Fault}
+use Rattle.dex_base.specs.Descriptor.{IsDescriptor, IsClass, IsArray, IsMemberName}
 use Rattle.dex_container.specs.Layout.{size_of}
 use Rattle.dex_container.specs.Frame.{IsFramed}
 use Rattle.program_types.specs.Content.{Units, Proto, FieldRef, MethodRef}

@@ -1,6 +1,6 @@
 //! The table field_ids: each row has a class, a type and a name ("field_id_item").
 ghost use Rattle.std.specs.Prelude.{◌≢◌, ◌<◌, IfOk, IfErr, map};
-ghost use Rattle.dex_container.specs.Fault.{memory};
+ghost use Rattle.dex_base.specs.Fault.{memory};
 ghost use Rattle.dex_container.specs.Layout.{size_of};
 ghost use Rattle.dex_container.specs.Section as section;
 ghost use Rattle.program_types.specs.View.{str, desc, field_ref};
@@ -17,7 +17,8 @@ use crate::names::is_marked;
 use crate::row_fields::{MemberTable, member_class, member_kind, member_name, member_row};
 use bumpalo::Bump;
 use bumpalo::collections::into_bump_slice;
-use dex_container::{Fault, Sections, fault, kind};
+use dex_base::{Fault, fault};
+use dex_container::{Sections, kind};
 use program_types::{Desc, FieldRef, Str, is_void};
 
 const TABLE: MemberTable = MemberTable::Fields;

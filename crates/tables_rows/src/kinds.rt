@@ -2,7 +2,7 @@
 //! through again, however many rows name it.
 //! Page: "Dalvik Executable format", "String syntax": TypeDescriptor.
 ghost use Rattle.std.specs.Prelude.{◌≡◌, ◌↔◌, ◌⊎◌, IsTrue, slice_index};
-ghost use Rattle.dex_container.specs.Descriptor.{IsDescriptor, IsClass, IsArray};
+ghost use Rattle.dex_base.specs.Descriptor.{IsDescriptor, IsClass, IsArray};
 ghost use Rattle.program_types.specs.View.{desc};
 
 use program_types::Desc;

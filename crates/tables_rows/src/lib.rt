@@ -1,4 +1,4 @@
-//! The five tables of names, string_ids to method_ids, read from a file.
+//! The five tables of names, string_ids to method_ids, read from a file, and what holds of the tables of every file.
 //!
 //! ```
 //! let tables = Tables::read(alloc, &arena, &open(bytes)?)?;
@@ -24,8 +24,9 @@ mod tables;
 mod type_ids;
 mod type_list;
 
-// What holds of the tables of a file.
+// What holds of the rows, and of the tables of every file.
 mod file_laws;
+mod row_laws;
 
 pub use file_laws::{
     lists_of_a_file_are_of_its_rows, names_of_a_file_are_its_rows, type_list_is_one,
@@ -33,6 +34,13 @@ pub use file_laws::{
 pub use row_fields::{
     MemberTable, member_class, member_kind, member_name, proto_parameters, proto_return,
     proto_shorty, type_string,
+};
+pub use row_laws::{
+    clear_rows_hold, files_are_no_shorter, files_hold_needed, names_are_closed,
+    names_compare_as_rows, names_rise, needed_has_rows, one_table_fault, row_denotes_one_name,
+    row_of_a_name_is_one, rows_break_one_rule, rows_that_hold_are_clear,
+    rows_that_hold_keep_the_rules, tables_are_decided, tables_have_names,
+    tables_hold_without_fault, unions_hold_both,
 };
 pub use tables::Tables;
 pub use type_list::indexes_or_none;

@@ -1,11 +1,11 @@
 //! Which strings are member names: looked through once a string, however many rows name it.
 //! Page: "Dalvik Executable format", "String syntax": MemberName.
 ghost use Rattle.std.specs.Prelude.{◌≡◌, IfOk, IsOkUnless, get_or, map, false};
-ghost use Rattle.dex_container.specs.Fault.{memory};
+ghost use Rattle.dex_base.specs.Fault.{memory};
 ghost use Rattle.program_types.specs.View.{str};
 ghost use Rattle.tables_rows.specs.Reading.{AreNameMarks};
 
-use dex_container::{Fault, is_member_name};
+use dex_base::{Fault, is_member_name};
 use program_types::Str;
 use std::alloc::Global;
 

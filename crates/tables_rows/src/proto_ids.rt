@@ -2,7 +2,7 @@
 ghost use Rattle.std.specs.Prelude.{◌≡◌, ◌≢◌, ◌↔◌, ◌<◌, ◌*◌, ◌∷◌, IfOk, IfErr, IfSome, IfNone, IsOkUnless, IsTrue, OnOk, length, map};
 ghost use Rattle.std.specs.Cmp.Lexicographic.{slice_cmp};
 ghost use Rattle.std.specs.Ordering.{nat_cmp};
-ghost use Rattle.dex_container.specs.Fault.{memory};
+ghost use Rattle.dex_base.specs.Fault.{memory};
 ghost use Rattle.dex_container.specs.Frame.{IsFramed};
 ghost use Rattle.dex_container.specs.Layout.{size_of};
 ghost use Rattle.program_types.specs.View.{str, desc, proto};
@@ -22,7 +22,8 @@ use crate::row_fields::{proto_parameters, proto_return, proto_row, proto_shorty}
 use crate::type_list::{cmp_indexes, indexes_or_none, types_at};
 use bumpalo::Bump;
 use bumpalo::collections::into_bump_slice;
-use dex_container::{Fault, Section, Sections, fault, kind, section_of};
+use dex_base::{Fault, fault};
+use dex_container::{Section, Sections, kind, section_of};
 use indexmap::IndexMap;
 use program_types::{Desc, Proto, Str, is_void, letter};
 use std::alloc::Global;

@@ -4,7 +4,8 @@ ghost use Rattle.dex_container.specs.Layout.{size_of};
 ghost use Rattle.dex_container.specs.Section as section;
 ghost use Rattle.tables_rows.specs.RowFields.{row_place, string_place, type_string, proto_shorty, proto_return, proto_parameters, member_class, member_kind, member_name, number_of};
 
-use dex_container::{Sections, kind, u16_at, u32_at};
+use dex_base::{u16_at, u32_at};
+use dex_container::{Sections, kind};
 
 /// The two tables whose rows have a class, a name, and a type or proto.
 #[derive(Clone, Copy)]

@@ -1,6 +1,6 @@
 //! The table string_ids: each row is the offset of a string_data_item ("string_id_item", "string_data_item").
 ghost use Rattle.std.specs.Prelude.{◌≢◌, ◌↔◌, ◌<◌, IfOk, IfErr, IsTrue, map};
-ghost use Rattle.dex_container.specs.Fault.{memory};
+ghost use Rattle.dex_base.specs.Fault.{memory};
 ghost use Rattle.dex_container.specs.Layout.{size_of};
 ghost use Rattle.dex_container.specs.Frame.{IsFramed};
 ghost use Rattle.program_types.specs.View.{str};
@@ -15,9 +15,8 @@ ghost use Rattle.tables_rows.specs.TableFaults.{StringBreaks, BreaksAt, IsFirstR
 use crate::row_fields::{string_place, string_row};
 use bumpalo::Bump;
 use bumpalo::collections::into_bump_slice;
-use dex_container::{
-    Fault, Section, Sections, bytes_from, cmp_units, fault, kind, read_mutf8, section_of,
-};
+use dex_base::{Fault, cmp_units, fault, read_mutf8};
+use dex_container::{Section, Sections, bytes_from, kind, section_of};
 use program_types::Str;
 use std::alloc::Global;
 use std::cmp::Ordering;

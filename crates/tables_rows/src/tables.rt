@@ -2,7 +2,7 @@
 ghost use Rattle.std.specs.Prelude.{◌≡◌, ◌≢◌, IfOk, IfErr, IfSome, IfNone, IsOkUnless, map, option_map, slice_get};
 ghost use Rattle.program_types.specs.View as view;
 ghost use Rattle.program_types.specs.Content as content;
-ghost use Rattle.dex_container.specs.Fault.{memory};
+ghost use Rattle.dex_base.specs.Fault.{memory};
 ghost use Rattle.program_types.specs.Kinds.{IsOfKind};
 ghost use Rattle.tables_rows.specs.Names.{AreNamesOf, NameIsAt, TypeIsAt};
 ghost use Rattle.tables_rows.specs.Sorted.{TablesHold};
@@ -17,8 +17,10 @@ use crate::string_ids::read_strings;
 use crate::type_ids::read_types;
 use crate::type_list::types_at;
 use bumpalo::Bump;
-use dex_container::{Fault, Sections, kind, section_of};
-use program_types::{Desc, FieldRef, IndexKind, MethodRef, Name, Proto, Str};
+use dex_base::Fault;
+use dex_container::{Sections, kind, section_of};
+use dex_insn::IndexKind;
+use program_types::{Desc, FieldRef, MethodRef, Name, Proto, Str};
 use std::alloc::Global;
 use std::marker::Model;
 

@@ -1,6 +1,6 @@
 //! The table type_ids: each row is the index of a string, a descriptor ("type_id_item").
 ghost use Rattle.std.specs.Prelude.{◌≢◌, ◌↔◌, ◌<◌, IfOk, IfErr, IsTrue, map};
-ghost use Rattle.dex_container.specs.Fault.{memory};
+ghost use Rattle.dex_base.specs.Fault.{memory};
 ghost use Rattle.dex_container.specs.Layout.{size_of};
 ghost use Rattle.dex_container.specs.Section as section;
 ghost use Rattle.program_types.specs.View.{str, desc};
@@ -13,7 +13,8 @@ use crate::look_up::string_at;
 use crate::row_fields::{type_row, type_string};
 use bumpalo::Bump;
 use bumpalo::collections::into_bump_slice;
-use dex_container::{Fault, Sections, fault, is_descriptor, kind};
+use dex_base::{Fault, fault, is_descriptor};
+use dex_container::{Sections, kind};
 use program_types::{Desc, Str};
 
 /// The types of all rows, each above the row before by its string's index. A type holds its string's slice.

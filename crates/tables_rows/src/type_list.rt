@@ -2,8 +2,8 @@
 ghost use Rattle.std.specs.Prelude.{◌≡◌, ◌*◌, ◌+◌, ◌<◌, ℕ, List, IfOk, IfSome, IfNone, IsOkUnless, length, map};
 ghost use Rattle.std.specs.Cmp.Lexicographic.{slice_cmp};
 ghost use Rattle.std.specs.Ordering.{nat_cmp};
-ghost use Rattle.dex_container.specs.Fault.{memory};
-ghost use Rattle.dex_container.specs.Grammar.{Begins, NoneBegins};
+ghost use Rattle.dex_base.specs.Fault.{memory};
+ghost use Rattle.dex_base.specs.Grammar.{Begins, NoneBegins};
 ghost use Rattle.dex_container.specs.Frame.{IsFramed};
 ghost use Rattle.program_types.specs.View.{desc};
 ghost use Rattle.tables_rows.specs.Halves.{halves};
@@ -14,7 +14,8 @@ ghost use Rattle.tables_rows.specs.Stands.{ListAt, SpellsIndexes};
 use crate::look_up::type_in;
 use bumpalo::Bump;
 use bumpalo::collections::into_bump_slice;
-use dex_container::{Fault, Section, Sections, bytes_from, kind, u16_at, u32_at};
+use dex_base::{Fault, u16_at, u32_at};
+use dex_container::{Section, Sections, bytes_from, kind};
 use program_types::Desc;
 use std::cmp::Ordering;
 

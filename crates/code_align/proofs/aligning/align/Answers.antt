@@ -10,7 +10,7 @@ use Rattle.code_align.proofs.PadLaws.{length-pads, aligned-length, same-moved, p
 use Rattle.code_align.proofs.AlignedFormed.{aligned-formed}
 use Rattle.code_align.proofs.MoveLaws.{operand-more, try-below, insns-same, tries-same}
 use Rattle.code_align.proofs.aligning.align.Goals as goal
-use Rattle.base_bytes.proofs.ListFacts.{passed}
+use Rattle.dex_base.proofs.ListFacts.{passed}
 
 pub numbers_of-requires : goal.numbers_of-requires
 numbers_of-requires c =

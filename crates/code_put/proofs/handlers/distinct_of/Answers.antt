@@ -9,7 +9,7 @@ use Rattle.code_put.specs.Packs.{PacksHandler}
 use Rattle.code_put.specs.Writing.{IsDistinct}
 use Rattle.code_put.proofs.ItemPieces.{seen-at}
 use Rattle.code_put.proofs.TryParts.{few-catches, places-inside, types-named, last-inside, some-handled}
-use Rattle.base_bytes.proofs.ShortestLaws.{AllBytes}
+use Rattle.dex_base.proofs.ShortestLaws.{AllBytes}
 use Rattle.code_put.proofs.HandlerPacks.{alone}
 use Rattle.code_put.proofs.NumberLaws.{none-held}
 use Rattle.code_put.proofs.HandlerOnce.{handler-once, ranks-injective, packs-unique}

@@ -1,7 +1,7 @@
 use Rattle.std.proofs.Common.{◌≡◌, ◌<◌, ◌∙◌, ℕ, List, length, get_or, arith, ap, subst, refl}
 use Rattle.std.proofs.lemmas.List.{length-map}
 use Rattle.std.proofs.lemmas.Grind.{get_or_default_zero}
-use Rattle.base_bytes.proofs.ShortestLaws.{AllBytes}
+use Rattle.dex_base.proofs.ShortestLaws.{AllBytes}
 use Rattle.tables_names.specs.Closure.{NameRanks}
 use Rattle.code_put.proofs.ListedLaws.{seen}
 use Rattle.code_put.proofs.LaidLaws.{SomeOffsets, laid, listed-few, number-inside, offset-more, length-places}

@@ -1,5 +1,5 @@
 use Rattle.std.proofs.Common.{◌≡◌, ◌++◌, ◌∙◌, ℕ, List, length, [], ◌∷◌, refl, arith, ap, length-append}
-use Rattle.base_bytes.specs.Leb128.{Spells, Shortest}
+use Rattle.dex_base.specs.Leb128.{Spells, Shortest}
 use Rattle.code_put.specs.Writing.{places_from}
 use Rattle.code_put.proofs.HandlerPacks.{alone}
 use Rattle.code_put.proofs.ListedLaws.{seen, key-at, bytes-turn, places-turn, bytes-few, listed}

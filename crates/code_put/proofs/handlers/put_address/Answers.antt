@@ -1,7 +1,7 @@
 use Rattle.std.specs.Prelude.{◌≡◌, Some}
 use Rattle.std.proofs.lemmas.Result.{on_ok_weaker}
-use Rattle.base_bytes.specs.Leb128.{Spells, Shortest}
-use Rattle.code_insns.specs.Places.{position}
+use Rattle.dex_base.specs.Leb128.{Spells, Shortest}
+use Rattle.code_read.specs.Places.{position}
 use Rattle.code_put.proofs.HandlerPacks.{position-own, via-appends}
 use Rattle.code_put.proofs.handlers.put_address.Goals as goal
 

@@ -1,6 +1,6 @@
 use Rattle.std.proofs.Common.{◌<◌, List, map, take, length, sym, subst, arith}
 use Rattle.std.proofs.lemmas.List.{length-map, take_all}
-use Rattle.base_bytes.specs.Grammar.{Appends, Each}
+use Rattle.dex_base.specs.Grammar.{Appends, Each}
 use Rattle.program_types.specs.Content.{Catch, OfDesc}
 use Rattle.program_types.specs.View.{catch}
 use Rattle.tables_names.specs.Closure.{NameRanks}
@@ -8,7 +8,7 @@ use Rattle.code_put.specs.Fits.{HasIndexBelow}
 use Rattle.code_put.specs.Packs.{PacksCatch}
 use Rattle.code_put.proofs.ListLaws.{all-view, take-view}
 use Rattle.code_put.proofs.handlers.put_catches.Goals as goal
-use Rattle.base_bytes.proofs.GrammarLaws.{Each-appends_none, Each-appends_more}
+use Rattle.dex_base.proofs.GrammarLaws.{Each-appends_none, Each-appends_more}
 
 pub put_catch-requires-clause-inside : goal.put_catch-requires-clause-inside
 put_catch-requires-clause-inside c = all-view (λ (x : Catch). x.at < length c.args.starts.now) catch c.args.catches.now c.loop-one.one-index _ c.requires.inside c.loop-one-test.true

@@ -1,5 +1,5 @@
 use Rattle.std.proofs.Common.{map, take}
-use Rattle.base_bytes.specs.Grammar.{Appends, Each}
+use Rattle.dex_base.specs.Grammar.{Appends, Each}
 use Rattle.program_types.specs.View.{catch}
 use Rattle.tables_names.specs.Closure.{NameRanks}
 use Rattle.code_put.specs.Packs.{PacksCatch}

@@ -2,8 +2,8 @@ use Rattle.std.proofs.Common.{◌<◌, ◌≢◌, ℕ, ℤ, [], map, length, sym
 use Rattle.std.specs.Prelude.{neg_ℤ}
 use Rattle.std.proofs.lemmas.Result.{on_ok_weaker}
 use Rattle.std.proofs.lemmas.List.{length-map}
-use Rattle.base_bytes.specs.Grammar.{Appends}
-use Rattle.base_bytes.specs.Leb128.{SpellsSigned, Shortest}
+use Rattle.dex_base.specs.Grammar.{Appends}
+use Rattle.dex_base.specs.Leb128.{SpellsSigned, Shortest}
 use Rattle.program_types.specs.View.{catch, try}
 use Rattle.tables_names.specs.Closure.{NameRanks}
 use Rattle.code_read.specs.Tries.{handler_of}

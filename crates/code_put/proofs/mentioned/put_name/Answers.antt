@@ -1,7 +1,7 @@
 use Rattle.program_types.specs.View.{name}
 use Rattle.tables_names.specs.Closure.{NameRanks}
 use Rattle.code_put.proofs.mentioned.put_name.Goals as goal
-use Rattle.base_bytes.proofs.ListFacts.{zip_more}
+use Rattle.dex_base.proofs.ListFacts.{zip_more}
 
 pub unreachable-requires : goal.unreachable-requires
 unreachable-requires c = let h = c.requires in c.in_default.ensures.none h.0 h.1 h.2

@@ -4,7 +4,7 @@ use Rattle.std.specs.Int.{w32}
 use mir.Val.{SFits}
 use Rattle.std.proofs.lemmas.Int.{to_z-of_z}
 use Rattle.std.proofs.lemmas.List.{take_more, length-append, map-append, take_all}
-use Rattle.code_insns.specs.Linked.{lead}
+use Rattle.code_read.specs.Linked.{lead}
 use Rattle.code_put.specs.Fits.{distance_of}
 use Rattle.code_put.proofs.ListLaws.{all-at}
 use Rattle.code_put.proofs.payloads.distances.Goals as goal

@@ -1,5 +1,5 @@
 use Rattle.std.proofs.Common.{◌≡◌, map, take, length}
-use Rattle.code_insns.specs.Linked.{lead}
+use Rattle.code_read.specs.Linked.{lead}
 use Rattle.code_put.proofs.payloads.distances.Given as goal
 
 abbrev pub invariant-loop-to : goal.invariant-loop-to

@@ -2,9 +2,9 @@ use Rattle.std.proofs.Common.{◌≡◌, ℕ, ℤ, List, length, get_or, ◌++�
 use mir.Val.{SFits}
 use Rattle.std.specs.Int.{cast_unsigned, w32}
 use Rattle.std.proofs.lemmas.Int.{to_z-of_z}
-use Rattle.base_bytes.specs.Fields.{u32_bytes}
-use Rattle.base_bytes.proofs.FieldBounds.{length-u32_bytes}
-use Rattle.code_insns.specs.Symbols.{ints}
+use Rattle.dex_base.specs.Fields.{u32_bytes}
+use Rattle.dex_base.proofs.FieldBounds.{length-u32_bytes}
+use Rattle.code_read.specs.Symbols.{ints}
 use Rattle.code_put.proofs.IntLaws.{ints-none, ints-turn}
 use Rattle.code_put.proofs.payloads.int_bytes.Goals as goal
 use Rattle.std.proofs.lemmas.List.{drop_all}

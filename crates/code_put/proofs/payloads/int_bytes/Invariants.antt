@@ -1,5 +1,5 @@
 use Rattle.std.proofs.Common.{◌≡◌, ◌++◌, ◌*◌, drop, length}
-use Rattle.code_insns.specs.Symbols.{ints}
+use Rattle.code_read.specs.Symbols.{ints}
 use Rattle.code_put.proofs.payloads.int_bytes.Given as goal
 
 abbrev pub invariant-loop-number : goal.invariant-loop-number

@@ -6,7 +6,7 @@ use Rattle.program_types.specs.Sizes.{addresses_of, length_of}
 use Rattle.tables_names.specs.Closure.{NameRanks}
 use Rattle.code_put.specs.Fits.{OffsetsFit, IsEven}
 use Rattle.code_put.specs.Packs.{PacksHandlersOf, PutInsns}
-use Rattle.code_insns.specs.Branches.{AreOrigins}
+use Rattle.program_code_rules.specs.Branches.{AreOrigins}
 use Rattle.code_put.proofs.FormLaws.{good, names-fit, caught-ranked}
 use Rattle.code_put.proofs.ListLaws.{all-from}
 use Rattle.code_put.proofs.PackLaws.{packed}

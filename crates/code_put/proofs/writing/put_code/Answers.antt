@@ -1,6 +1,6 @@
 use Rattle.std.proofs.Common.{map}
 use Rattle.std.specs.List.{flat_map}
-use Rattle.base_bytes.proofs.ListFacts.{all_front}
+use Rattle.dex_base.proofs.ListFacts.{all_front}
 use Rattle.program_types.specs.Mentions.{names_of_insn, names_of_try}
 use Rattle.program_types.specs.View as view
 use Rattle.tables_names.specs.Closure.{NameRanks}

@@ -1,9 +1,9 @@
-use Rattle.base_bytes.proofs.OptionLaws.{IfNone-always}
+use Rattle.dex_base.proofs.OptionLaws.{IfNone-always}
 use Rattle.std.proofs.Common.{◌≡◌, Some}
-use Rattle.base_bytes.specs.Leb128.{Spells}
-use Rattle.base_bytes.proofs.Numbers.{spells_unique}
-use Rattle.code_insns.specs.Places.{position}
-use Rattle.base_bytes.proofs.ViaLaws.{via-nothing}
+use Rattle.dex_base.specs.Leb128.{Spells}
+use Rattle.dex_base.proofs.Numbers.{spells_unique}
+use Rattle.code_read.specs.Places.{position}
+use Rattle.dex_base.proofs.ViaLaws.{via-nothing}
 use Rattle.code_read.proofs.handlers.read_address.Goals as goal
 
 pub returns-in_err-n-clause-none : goal.returns-in_err-n-clause-none

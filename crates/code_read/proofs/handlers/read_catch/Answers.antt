@@ -1,15 +1,15 @@
-use Rattle.base_bytes.proofs.OptionLaws.{IfNone-always}
+use Rattle.dex_base.proofs.OptionLaws.{IfNone-always}
 use Rattle.program_types.specs.View.{desc}
-use Rattle.code_insns.specs.Names.{NameIsAt}
-use Rattle.base_bytes.proofs.GrammarLaws.{Then-none_first}
-use Rattle.base_bytes.proofs.Numbers.{spells_unique}
-use Rattle.base_bytes.proofs.Signed.{signed_unique}
+use Rattle.tables_rows.specs.Names.{NameIsAt}
+use Rattle.dex_base.proofs.GrammarLaws.{Then-none_first}
+use Rattle.dex_base.proofs.Numbers.{spells_unique}
+use Rattle.dex_base.proofs.Signed.{signed_unique}
 use Rattle.code_read.specs.Handlers.{SpellsCatchType, SpellsAddress}
-use Rattle.base_bytes.specs.Leb128.{Spells, SpellsSigned}
+use Rattle.dex_base.specs.Leb128.{Spells, SpellsSigned}
 use Rattle.code_read.proofs.StandLaws.{NameIsAt-functional}
 use Rattle.code_read.proofs.HandlerLaws.{type-unique}
 use Rattle.code_read.proofs.HandlerReading.{catch-takes, catch-none}
-use Rattle.base_bytes.proofs.ViaLaws.{second-none}
+use Rattle.dex_base.proofs.ViaLaws.{second-none}
 use Rattle.code_read.proofs.handlers.read_catch.Goals as goal
 
 pub returns-in_err-ty-clause-none : goal.returns-in_err-ty-clause-none

@@ -1,7 +1,7 @@
 use Rattle.std.proofs.Common.{◌≡◌, length, map}
-use Rattle.base_bytes.specs.Grammar.{Takes, Each}
+use Rattle.dex_base.specs.Grammar.{Takes, Each}
 use Rattle.program_types.specs.View.{catch}
-use Rattle.code_insns.specs.Names.{NameIsAt}
+use Rattle.tables_rows.specs.Names.{NameIsAt}
 use Rattle.code_read.specs.Handlers.{SpellsCatch}
 use Rattle.code_read.proofs.handlers.read_catches.Given as goal
 

@@ -3,13 +3,13 @@ use Rattle.std.proofs.lemmas.Int.{ints, to_z-of_z}
 use mir.Val.{SFits}
 use mir.Syntax.{w32}
 use Rattle.program_types.specs.View.{catch}
-use Rattle.code_insns.specs.Names.{NameIsAt}
-use Rattle.base_bytes.specs.Grammar.{Takes, NoneBegins, Many}
+use Rattle.tables_rows.specs.Names.{NameIsAt}
+use Rattle.dex_base.specs.Grammar.{Takes, NoneBegins, Many}
 use Rattle.code_read.specs.Handlers.{SpellsCatch, catches_of}
 use Rattle.code_read.proofs.StandLaws.{NameIsAt-functional}
 use Rattle.code_read.proofs.HandlerReading.{handler-none-number, handler-none-catches, handler-none-all, handler-takes, all-none, all-some, has-all, lacks-all}
 use Rattle.code_read.proofs.handlers.read_handler.Goals as goal
-use Rattle.base_bytes.proofs.ListFacts.{passed}
+use Rattle.dex_base.proofs.ListFacts.{passed}
 
 pub returns-in_default-clause-err : goal.returns-in_default-clause-err
 returns-in_default-clause-err c = λ other. handler-none-number (NameIsAt c.args.tables.now) c.args.starts.now c.args.bytes.now c.in_default.ensures.none

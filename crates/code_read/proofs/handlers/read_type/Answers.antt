@@ -1,9 +1,9 @@
-use Rattle.base_bytes.proofs.OptionLaws.{IfNone-always}
-use Rattle.base_bytes.specs.Leb128.{Spells}
-use Rattle.base_bytes.proofs.Numbers.{spells_unique}
+use Rattle.dex_base.proofs.OptionLaws.{IfNone-always}
+use Rattle.dex_base.specs.Leb128.{Spells}
+use Rattle.dex_base.proofs.Numbers.{spells_unique}
 use Rattle.program_types.specs.Content.{OfDesc}
-use Rattle.code_insns.specs.Names.{NameIsAt}
-use Rattle.base_bytes.proofs.ViaLaws.{via-nothing}
+use Rattle.tables_rows.specs.Names.{NameIsAt}
+use Rattle.dex_base.proofs.ViaLaws.{via-nothing}
 use Rattle.code_read.proofs.handlers.read_type.Goals as goal
 
 pub returns-in_err-ty-clause-none : goal.returns-in_err-ty-clause-none

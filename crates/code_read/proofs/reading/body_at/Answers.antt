@@ -1,6 +1,6 @@
 use Rattle.std.proofs.Common.{◌≡◌, ◌∙◌, ◌%◌, arith, sym}
 use Rattle.std.proofs.lemmas.Result.{IfErr-weaker, IfOk-weaker}
-use Rattle.code_insns.specs.Names.{NameIsAt}
+use Rattle.tables_rows.specs.Names.{NameIsAt}
 use Rattle.dex_container.specs.Where.{IsSectionOf}
 use Rattle.code_read.proofs.StandLaws.{NameIsAt-functional, outside_none, code_stands, code_only, broken_none, broken}
 use Rattle.code_read.proofs.reading.body_at.Goals as goal

@@ -3,7 +3,7 @@ use Rattle.std.specs.Prelude.{IfNone, IfSome}
 use Rattle.std.proofs.lemmas.Result.{IfOk-weaker}
 use Rattle.program_types.specs.Content.{Code}
 use Rattle.program_types.specs.Formed.{RegistersHold}
-use Rattle.code_insns.specs.Names.{NameIsAt}
+use Rattle.tables_rows.specs.Names.{NameIsAt}
 use Rattle.code_read.specs.Code.{BodyStands}
 use Rattle.code_read.specs.Faults.{RegistersBreak}
 use Rattle.code_read.proofs.reading.read_body.Goals as goal

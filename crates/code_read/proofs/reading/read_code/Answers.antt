@@ -1,14 +1,14 @@
 use Rattle.std.proofs.Common.{inl, inr, subst, Option}
 use Rattle.std.specs.Prelude.{IfNone, IfSome}
-use Rattle.base_bytes.specs.declared.fault.Fault.{Fault}
+use Rattle.dex_base.specs.declared.fault.Fault.{Fault}
 use Rattle.code_read.specs.Faults.{RegistersBreak}
 use Rattle.program_types.specs.Formed.{RegistersHold}
 use Rattle.program_types.specs.View.{code}
-use Rattle.code_insns.specs.Names.{NameIsAt}
+use Rattle.tables_rows.specs.Names.{NameIsAt}
 use Rattle.code_read.proofs.CodeLaws.{registers_clear}
 use Rattle.code_read.proofs.StandLaws.{code_body, body_code}
 use Rattle.code_read.proofs.reading.read_code.Goals as goal
-use Rattle.base_bytes.proofs.ListFacts.{passed}
+use Rattle.dex_base.proofs.ListFacts.{passed}
 
 pub returns-in-None-clause-ok : goal.returns-in-None-clause-ok
 returns-in-None-clause-ok c =

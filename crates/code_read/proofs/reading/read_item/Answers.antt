@@ -1,14 +1,14 @@
 use Rattle.std.proofs.Common.{◌≡◌, ◌∙◌, ◌+◌, ◌*◌, subst, ap, ℕ, List, length, map, arith, length-drop}
 use Rattle.program_types.specs.View.{try}
-use Rattle.code_insns.specs.Names.{NameIsAt}
+use Rattle.tables_rows.specs.Names.{NameIsAt}
 use Rattle.code_read.specs.Item.{insns_size, list_begin}
-use Rattle.code_read.specs.Reading.{ReadTries}
+use Rattle.code_read.specs.ItemReading.{ReadTries}
 use Rattle.code_read.specs.Faults.{TriesBreak}
 use Rattle.code_read.proofs.ItemLaws.{item-read, code_with}
 use Rattle.code_read.proofs.PastLaws.{named_of, past_of}
 use Rattle.code_read.proofs.FaultLaws.{insns-break, tries-break, units-even}
 use Rattle.code_read.proofs.reading.read_item.Goals as goal
-use Rattle.base_bytes.proofs.ListFacts.{passed}
+use Rattle.dex_base.proofs.ListFacts.{passed}
 
 pub insns_of-requires-clause-even : goal.insns_of-requires-clause-even
 insns_of-requires-clause-even c =

@@ -1,13 +1,13 @@
 use Rattle.std.proofs.Common.{◌≡◌, ◌-◌, length, map, refl, arith, subst, ℕ}
-use Rattle.base_bytes.specs.Leb128.{Spells}
-use Rattle.base_bytes.proofs.TakesLaws.{Takes-length}
-use Rattle.code_insns.specs.Names.{NameIsAt}
+use Rattle.dex_base.specs.Leb128.{Spells}
+use Rattle.dex_base.proofs.TakesLaws.{Takes-length}
+use Rattle.tables_rows.specs.Names.{NameIsAt}
 use Rattle.code_read.specs.Handlers.{SpellsHandler}
 use Rattle.code_read.specs.HandlerViews.{handler}
 use Rattle.code_read.proofs.StandLaws.{NameIsAt-functional}
 use Rattle.code_read.proofs.ListReading.{ReadSome, some-none, some-more, some-all, list-none, offsets-rise}
 use Rattle.code_read.proofs.tries.read_list.Goals as goal
-use Rattle.base_bytes.proofs.ListFacts.{passed}
+use Rattle.dex_base.proofs.ListFacts.{passed}
 
 pub loop-turn-init : goal.loop-turn-init
 loop-turn-init c =

@@ -1,13 +1,13 @@
 use Rattle.std.proofs.Common.{◌≡◌, ◌∙◌, ap, map, ◌+◌, ◌*◌, ℕ}
 use Rattle.std.proofs.lemmas.Result.{IfOk-weaker}
 use Rattle.program_types.specs.View.{try}
-use Rattle.code_insns.specs.Names.{NameIsAt}
+use Rattle.tables_rows.specs.Names.{NameIsAt}
 use Rattle.code_read.specs.HandlerViews.{handler}
 use Rattle.code_read.specs.Faults.{list_fault}
 use Rattle.code_read.proofs.StandLaws.{NameIsAt-functional}
 use Rattle.code_read.proofs.TryLaws.{some-tries, no-list, no-handler, err-both}
 use Rattle.code_read.proofs.tries.read_tries.Goals as goal
-use Rattle.base_bytes.proofs.ListFacts.{passed}
+use Rattle.dex_base.proofs.ListFacts.{passed}
 
 pub returns-clause-ok : goal.returns-clause-ok
 returns-clause-ok c =

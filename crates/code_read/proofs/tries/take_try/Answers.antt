@@ -1,7 +1,7 @@
 use Rattle.std.proofs.Common.{◌≡◌, Some, arith}
 use Rattle.code_read.specs.Item.{try_handler}
-use Rattle.code_insns.specs.Places.{position}
-use Rattle.code_insns.proofs.PlaceLaws.{position-there}
+use Rattle.code_read.specs.Places.{position}
+use Rattle.code_read.proofs.PlaceLaws.{position-there}
 use Rattle.code_read.proofs.TryLaws.{held-at}
 use Rattle.code_read.proofs.tries.take_try.Goals as goal
 

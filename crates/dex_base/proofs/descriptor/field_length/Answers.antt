@@ -1,5 +1,5 @@
 use Rattle.std.proofs.Common.{arith}
-use Rattle.base_bytes.proofs.OptionLaws.{IfNone-always}
+use Rattle.dex_base.proofs.OptionLaws.{IfNone-always}
 use Rattle.dex_base.proofs.DescriptorLaws.{field_found, field_none, field_none_deep}
 use Rattle.dex_base.proofs.descriptor.field_length.Goals as goal
 

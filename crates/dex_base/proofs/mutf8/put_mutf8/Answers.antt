@@ -3,7 +3,7 @@ use Rattle.std.proofs.lemmas.List.{take_more, take_all}
 use Rattle.dex_base.specs.Mutf8.{SpellsUnit}
 use Rattle.dex_base.proofs.UnitLaws.{unit_appends}
 use Rattle.dex_base.proofs.TextLaws.{unit_length, mutf8_length-more}
-use Rattle.base_bytes.proofs.GrammarLaws.{Each-appends_more}
+use Rattle.dex_base.proofs.GrammarLaws.{Each-appends_more}
 use Rattle.dex_base.proofs.mutf8.put_mutf8.Goals as goal
 
 pub loop-unit-preserved : goal.loop-unit-preserved

@@ -1,5 +1,5 @@
 use Rattle.std.proofs.Common.{◌+◌, ◌-◌, ◌*◌, ◌≤◌, take, length, vec_len, vec_capacity}
-use Rattle.base_bytes.specs.Grammar.{Appends, Each}
+use Rattle.dex_base.specs.Grammar.{Appends, Each}
 use Rattle.dex_base.specs.Mutf8.{SpellsUnit, mutf8_length}
 use Rattle.dex_base.proofs.mutf8.put_mutf8.Given as goal
 

@@ -2,7 +2,7 @@ use Rattle.std.proofs.Common.{arith}
 use Rattle.std.proofs.lemmas.List.{take_rest, length_push}
 use Rattle.dex_base.specs.Mutf8.{SpellsUnit}
 use Rattle.dex_base.proofs.UnitLaws.{unit_unique}
-use Rattle.base_bytes.proofs.GrammarLaws.{Each-more, Many-none}
+use Rattle.dex_base.proofs.GrammarLaws.{Each-more, Many-none}
 use Rattle.dex_base.proofs.mutf8.read_each.Goals as goal
 
 pub returns-in_default-clause-none : goal.returns-in_default-clause-none

@@ -1,5 +1,5 @@
 use Rattle.std.proofs.Common.{◌≡◌, length}
-use Rattle.base_bytes.specs.Grammar.{Begins, Each}
+use Rattle.dex_base.specs.Grammar.{Begins, Each}
 use Rattle.dex_base.specs.Mutf8.{SpellsUnit}
 use Rattle.dex_base.proofs.mutf8.read_each.Given as goal
 

@@ -1,11 +1,11 @@
 use Rattle.std.proofs.Common.{inl, inr, arith}
 use Rattle.std.proofs.lemmas.List.{take_rest}
-use Rattle.base_bytes.specs.Grammar.{Counted}
-use Rattle.base_bytes.specs.Leb128.{Spells}
+use Rattle.dex_base.specs.Grammar.{Counted}
+use Rattle.dex_base.specs.Leb128.{Spells}
 use Rattle.dex_base.specs.Mutf8.{SpellsUnit}
-use Rattle.base_bytes.proofs.Numbers.{spells_unique}
+use Rattle.dex_base.proofs.Numbers.{spells_unique}
 use Rattle.dex_base.proofs.UnitLaws.{unit_unique}
-use Rattle.base_bytes.proofs.GrammarLaws.{Counted-unique, Counted-found, Counted-none_many, Ended-found, Ended-none, Ended-none_zero}
+use Rattle.dex_base.proofs.GrammarLaws.{Counted-unique, Counted-found, Counted-none_many, Ended-found, Ended-none, Ended-none_zero}
 use Rattle.dex_base.proofs.mutf8.read_mutf8.Goals as goal
 
 pub returns-in_default-2-clause-none : goal.returns-in_default-2-clause-none

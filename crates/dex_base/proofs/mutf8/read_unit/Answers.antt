@@ -1,5 +1,5 @@
 use Rattle.std.proofs.lemmas.Option.{IfSome_then}
-use Rattle.base_bytes.proofs.OptionLaws.{IfNone-weaker}
+use Rattle.dex_base.proofs.OptionLaws.{IfNone-weaker}
 use Rattle.dex_base.proofs.UnitLaws.{unit_found, unit_none}
 use Rattle.dex_base.proofs.mutf8.read_unit.Goals as goal
 

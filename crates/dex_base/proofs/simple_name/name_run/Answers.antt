@@ -1,7 +1,7 @@
 use Rattle.std.proofs.Common.{[], ◌∷◌, ◌++◌}
 use Rattle.std.proofs.lemmas.List.{take_rest}
 use Rattle.dex_base.specs.Names.{SpellsPoint}
-use Rattle.base_bytes.proofs.GrammarLaws.{Each-more}
+use Rattle.dex_base.proofs.GrammarLaws.{Each-more}
 use Rattle.dex_base.proofs.simple_name.name_run.Goals as goal
 
 pub loop-length-preserved : goal.loop-length-preserved

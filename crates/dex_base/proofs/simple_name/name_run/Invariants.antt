@@ -1,5 +1,5 @@
 use Rattle.std.proofs.Common.{ℕ, ◌-◌, List, length}
-use Rattle.base_bytes.specs.Grammar.{Begins, Each}
+use Rattle.dex_base.specs.Grammar.{Begins, Each}
 use Rattle.dex_base.specs.Names.{SpellsPoint}
 use Rattle.dex_base.proofs.simple_name.name_run.Given as goal
 

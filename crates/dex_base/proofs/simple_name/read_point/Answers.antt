@@ -1,5 +1,5 @@
 use Rattle.std.proofs.lemmas.Option.{IfSome_then}
-use Rattle.base_bytes.proofs.OptionLaws.{IfNone-weaker}
+use Rattle.dex_base.proofs.OptionLaws.{IfNone-weaker}
 use Rattle.dex_base.proofs.NameLaws.{point_found, point_some, point_none}
 use Rattle.dex_base.proofs.simple_name.read_point.Goals as goal
 

@@ -1,4 +1,4 @@
-use Rattle.base_bytes.proofs.OptionLaws.{IfNone-weaker}
+use Rattle.dex_base.proofs.OptionLaws.{IfNone-weaker}
 use Rattle.listing_words.specs.Names.{IsFieldText}
 use Rattle.dex_names.proofs.SpelledLaws.{no_form}
 use Rattle.dex_names.proofs.spelled.field.Goals as goal

@@ -1,8 +1,8 @@
 use Rattle.std.proofs.Common.{rules, ◌∷◌, ◌++◌, ap, ◌∙◌, arith, []}
 use Rattle.std.proofs.lemmas.List.{length-append}
 use Rattle.std.proofs.lemmas.Result.{IfErr-weaker}
-use Rattle.base_bytes.proofs.ListFacts.{passed}
-use Rattle.base_bytes.proofs.TakesLaws.{Takes-each_push}
+use Rattle.dex_base.proofs.ListFacts.{passed}
+use Rattle.dex_base.proofs.TakesLaws.{Takes-each_push}
 use Rattle.program_types.specs.Content.{Array, values}
 use Rattle.tables_rows.specs.Names.{NameIsAt}
 use Rattle.dex_value.specs.Standing.{Shallow}

@@ -1,5 +1,5 @@
 use Rattle.std.proofs.Common.{◌≡◌, ◌+◌, ◌*◌, List, length}
-use Rattle.base_bytes.specs.Grammar.{Takes, Each}
+use Rattle.dex_base.specs.Grammar.{Takes, Each}
 use Rattle.program_types.specs.Content.{Value}
 use Rattle.tables_rows.specs.Names.{NameIsAt}
 use Rattle.dex_value.specs.Standing.{Shallow}

@@ -1,6 +1,6 @@
 use Rattle.std.proofs.Common.{arith, ap, ◌∙◌, inl, inr, drop}
-use Rattle.base_bytes.specs.Leb128.{Spells}
-use Rattle.base_bytes.proofs.TakesLaws.{Takes-from_begins}
+use Rattle.dex_base.specs.Leb128.{Spells}
+use Rattle.dex_base.proofs.TakesLaws.{Takes-from_begins}
 use Rattle.tables_rows.specs.Names.{NameIsAt}
 use Rattle.dex_value.proofs.Taking.{takes_static, takes_count, takes_deep}
 use Rattle.dex_value.proofs.reading.read_rest.Goals as goal

@@ -1,8 +1,8 @@
 use Rattle.std.proofs.Common.{◌≡◌, ◌≤◌, length, map, sym, subst, arith, get_or}
 use Rattle.std.proofs.lemmas.Result.{on_ok_weaker}
 use Rattle.std.proofs.lemmas.List.{length-map}
-use Rattle.base_bytes.specs.Grammar.{Appends}
-use Rattle.base_bytes.specs.Leb128.{Shortest}
+use Rattle.dex_base.specs.Grammar.{Appends}
+use Rattle.dex_base.specs.Leb128.{Shortest}
 use Rattle.program_types.specs.Content.{values}
 use Rattle.program_types.specs.View.{value}
 use Rattle.program_types.specs.declared.value.Value as made

@@ -1,7 +1,7 @@
 use Rattle.std.proofs.Common.{ℕ, subst}
 use Rattle.std.proofs.lemmas.Result.{on_ok_weaker}
-use Rattle.base_bytes.specs.Grammar.{Appends}
-use Rattle.base_bytes.specs.Leb128.{Shortest}
+use Rattle.dex_base.specs.Grammar.{Appends}
+use Rattle.dex_base.specs.Leb128.{Shortest}
 use Rattle.program_types.specs.View as view
 use Rattle.dex_value.specs.Writing.{UnsignedAs}
 use Rattle.dex_value.proofs.Appending.{index_appends}

@@ -5,7 +5,7 @@ use Rattle.program_types.specs.Formed.{IsFormed}
 use Rattle.program_types.specs.View.{class}
 use Rattle.program_rules.specs.Rules.{CodesHold}
 use Rattle.file_align.proofs.aligning.aligned_classes.Goals as goal
-use Rattle.base_bytes.proofs.ListFacts.{all_at, passed}
+use Rattle.dex_base.proofs.ListFacts.{all_at, passed}
 
 pub aligned_class-requires : goal.aligned_class-requires
 aligned_class-requires c = record { formed = all_at (CodesHold IsFormed) class c.args.all.now c.loop-one.one-index _ c.loop-one-test.true c.requires.formed }

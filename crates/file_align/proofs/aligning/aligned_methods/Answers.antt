@@ -6,7 +6,7 @@ use Rattle.program_types.specs.Content.{Method}
 use Rattle.program_types.specs.Formed.{IsFormed}
 use Rattle.program_types.specs.View.{method}
 use Rattle.file_align.proofs.aligning.aligned_methods.Goals as goal
-use Rattle.base_bytes.proofs.ListFacts.{all_at, passed}
+use Rattle.dex_base.proofs.ListFacts.{all_at, passed}
 
 abbrev Formed : Method → Type 0
 Formed m = IfSome m.code IsFormed

@@ -1,17 +1,17 @@
 use Rattle.std.proofs.Common.{◌≡◌, length, ap, ◌∙◌, arith}
 use Rattle.file_layout.specs.Plan.{tables_end}
 use Rattle.file_layout.specs.Tiles.{Refers}
-use Rattle.file_sections.specs.file_limits_Wide.{body_values}
+use Rattle.file_limits.specs.Wide.{body_values}
 use Rattle.program_types.specs.View as view
-use Rattle.file_sections.specs.Codes.{is_bodiless}
-use Rattle.file_sections.proofs.file_parts_SitedLaws.{room_of_sited}
+use Rattle.file_assemble.specs.Codes.{is_bodiless}
+use Rattle.file_assemble.proofs.SitedLaws.{room_of_sited}
 use Rattle.file_assemble.specs.Assembled.{Places, rows_of}
-use Rattle.file_assemble.proofs.DataLaws.{laid, next}
+use Rattle.file_assemble.proofs.DataParts.{laid, next}
 use Rattle.file_assemble.proofs.FitsLaws.{after, few_of, room_of}
 use Rattle.file_assemble.proofs.OnceLaws.{datas_shared}
 use Rattle.file_assemble.proofs.ReadyLaws.{class_can}
 use Rattle.file_assemble.proofs.assembling.put_data.Goals as goal
-use Rattle.base_bytes.proofs.ListFacts.{zip_length}
+use Rattle.dex_base.proofs.ListFacts.{zip_length}
 
 pub overflow_cast-tables : goal.overflow_cast-tables
 overflow_cast-tables c =

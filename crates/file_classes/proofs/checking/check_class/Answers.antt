@@ -1,7 +1,7 @@
 use Rattle.file_classes.specs.ClassFaults.{BodyHolds, BodyFails}
 use Rattle.file_classes.proofs.MethodLaws.{directs_break, virtuals_break, all_hold, class_kept}
 use Rattle.file_classes.proofs.checking.check_class.Goals as goal
-use Rattle.base_bytes.proofs.ListFacts.{passed}
+use Rattle.dex_base.proofs.ListFacts.{passed}
 
 pub returns-in_err-directs-clause-err : goal.returns-in_err-directs-clause-err
 returns-in_err-directs-clause-err c =

@@ -3,7 +3,7 @@ use Rattle.file_classes.specs.ClassFaults.{BodyHolds, BodyFails, CodeHolds, Regi
 use Rattle.file_classes.specs.Reading.{CodesHoldUpTo, CodesUpTo}
 use Rattle.file_classes.proofs.MethodLaws.{no_bare, bares_more, bares_break, up_turn}
 use Rattle.file_classes.proofs.checking.check_methods.Goals as goal
-use Rattle.base_bytes.proofs.ListFacts.{passed}
+use Rattle.dex_base.proofs.ListFacts.{passed}
 
 pub loop-bare-preserved : goal.loop-bare-preserved
 loop-bare-preserved c =

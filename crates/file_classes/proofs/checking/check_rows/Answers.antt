@@ -1,13 +1,13 @@
 use Rattle.std.proofs.Common.{ℕ, ◌≡◌, below_more, arith, inl, inr, subst, Option}
 use Rattle.std.specs.Prelude.{IfSome, IfNone}
-use Rattle.base_bytes.specs.declared.fault.Fault.{Fault}
+use Rattle.dex_base.specs.declared.fault.Fault.{Fault}
 use Rattle.dex_container.specs.Layout.{size_of}
 use Rattle.tables_rows.specs.Sorted.{RowsHold}
 use Rattle.file_classes.specs.ClassFaults.{BodiesBreak, BodiesHold, RowRegistersBreak, RowRegistersHold, IsFirstClass}
 use Rattle.file_classes.proofs.StaticsLaws.{first_class}
 use Rattle.file_classes.proofs.MethodLaws.{rows_none, rows_turn}
 use Rattle.file_classes.proofs.checking.check_rows.Goals as goal
-use Rattle.base_bytes.proofs.ListFacts.{passed}
+use Rattle.dex_base.proofs.ListFacts.{passed}
 
 pub loop-i-init : goal.loop-i-init
 loop-i-init c = record { hold = λ i lt. absurd (omega (arith, lt)); past = rows_none c.args.sections.now; cached = c.requires.cached }

@@ -2,7 +2,7 @@ use Rattle.std.proofs.Common.{below_more, arith}
 use Rattle.file_classes.specs.ClassFaults.{ValuesBreak, ValuesHold}
 use Rattle.file_classes.proofs.StaticsLaws.{first_class}
 use Rattle.file_classes.proofs.checking_statics.check_statics.Goals as goal
-use Rattle.base_bytes.proofs.ListFacts.{passed}
+use Rattle.dex_base.proofs.ListFacts.{passed}
 use Rattle.tables_rows.proofs.CachedLaws.{cached_none}
 
 pub loop-i-init : goal.loop-i-init

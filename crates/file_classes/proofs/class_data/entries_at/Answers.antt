@@ -4,7 +4,7 @@ use Rattle.file_classes.specs.Reading.{entries}
 use Rattle.file_classes.proofs.TakingLaws.{entries_outside, entries_found, entries_not}
 use Rattle.file_classes.proofs.class_data.entries_at.Goals as goal
 use Rattle.std.proofs.lemmas.Option.{IfSome_then}
-use Rattle.base_bytes.proofs.OptionLaws.{IfNone-weaker}
+use Rattle.dex_base.proofs.OptionLaws.{IfNone-weaker}
 
 pub returns-in_default-clause-none : goal.returns-in_default-clause-none
 returns-in_default-clause-none c = λ e. entries_outside c.args.sections.now c.args.off c.if-off-eq0.false e c.in_default.ensures.none

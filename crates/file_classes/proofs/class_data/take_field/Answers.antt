@@ -1,10 +1,10 @@
-use Rattle.base_bytes.proofs.OptionLaws.{IfNone-always}
-use Rattle.base_bytes.specs.Leb128.{Spells}
-use Rattle.base_bytes.proofs.Numbers.{spells_unique}
-use Rattle.base_bytes.proofs.TakesLaws.{Takes-then}
+use Rattle.dex_base.proofs.OptionLaws.{IfNone-always}
+use Rattle.dex_base.specs.Leb128.{Spells}
+use Rattle.dex_base.proofs.Numbers.{spells_unique}
+use Rattle.dex_base.proofs.TakesLaws.{Takes-then}
 use Rattle.file_classes.proofs.class_data.take_field.Goals as goal
 use Rattle.std.proofs.Common.{ℕ}
-use Rattle.base_bytes.proofs.ViaLaws.{second-none}
+use Rattle.dex_base.proofs.ViaLaws.{second-none}
 
 pub returns-in_err-flags-clause-none : goal.returns-in_err-flags-clause-none
 returns-in_err-flags-clause-none c =

@@ -1,6 +1,6 @@
 use Rattle.std.proofs.Common.{map, arith}
 use Rattle.std.proofs.lemmas.List.{map-append}
-use Rattle.base_bytes.specs.Leb128.{Spells}
+use Rattle.dex_base.specs.Leb128.{Spells}
 use Rattle.file_classes.specs.ClassData.{SpellsFieldEntry}
 use Rattle.file_classes.specs.Reading.{field_entry}
 use Rattle.file_classes.proofs.EntryLaws.{field_unique}

@@ -1,5 +1,5 @@
 use Rattle.std.proofs.Common.{map}
-use Rattle.base_bytes.specs.Leb128.{Spells}
+use Rattle.dex_base.specs.Leb128.{Spells}
 use Rattle.file_classes.specs.ClassData.{SpellsFieldEntry}
 use Rattle.file_classes.specs.Reading.{field_entry}
 use Rattle.file_classes.proofs.TakingLaws.{Taken}

@@ -4,7 +4,7 @@ use Rattle.tables_rows.proofs.RowReading.{first_row, first_more}
 use Rattle.file_classes.specs.ClassFaults.{ClassRowBreaks, ClassRowHolds}
 use Rattle.file_classes.specs.Reading.{IsHead}
 use Rattle.file_classes.proofs.heads.push_heads.Goals as goal
-use Rattle.base_bytes.proofs.ListFacts.{passed}
+use Rattle.dex_base.proofs.ListFacts.{passed}
 
 pub returns-in_err-head-clause-err : goal.returns-in_err-head-clause-err
 returns-in_err-head-clause-err c =

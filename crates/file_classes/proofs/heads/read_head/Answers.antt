@@ -4,7 +4,7 @@ use Rattle.file_classes.specs.Reading.{entries}
 use Rattle.file_classes.proofs.MemberLaws.{head_stands, head_holds, member_breaks}
 use Rattle.file_classes.proofs.PlaceLaws.{types_have_rows}
 use Rattle.file_classes.proofs.heads.read_head.Goals as goal
-use Rattle.base_bytes.proofs.ListFacts.{passed}
+use Rattle.dex_base.proofs.ListFacts.{passed}
 
 pub returns-clause-ok : goal.returns-clause-ok
 returns-clause-ok c =

@@ -2,7 +2,7 @@ use Rattle.std.proofs.Common.{map, sym, true≢false}
 use Rattle.dex_base.specs.Descriptor.{IsClass}
 use Rattle.program_types.specs.View.{desc}
 use Rattle.file_classes.proofs.interfaces.are_classes.Goals as goal
-use Rattle.base_bytes.proofs.ListFacts.{all_get, map_at}
+use Rattle.dex_base.proofs.ListFacts.{all_get, map_at}
 
 pub returns-then-not-is_class : goal.returns-then-not-is_class
 returns-then-not-is_class c = (

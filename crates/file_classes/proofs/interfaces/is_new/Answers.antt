@@ -2,7 +2,7 @@ use Rattle.std.proofs.Common.{map, refl, sym, true≢false, ◌<◌, length, ari
 use Rattle.program_types.specs.View.{desc}
 use Rattle.file_classes.proofs.HeadLaws.{not_among_more, among}
 use Rattle.file_classes.proofs.interfaces.is_new.Goals as goal
-use Rattle.base_bytes.proofs.ListFacts.{map_at}
+use Rattle.dex_base.proofs.ListFacts.{map_at}
 
 pub returns-then-desc_eq : goal.returns-then-desc_eq
 returns-then-desc_eq c =

@@ -11,7 +11,7 @@ use Rattle.file_classes.proofs.EntryLaws.{runs_more}
 use Rattle.file_classes.proofs.EntryFaults.{bares_before}
 use Rattle.file_classes.proofs.members.read_bares.Goals as goal
 use Rattle.file_classes.proofs.members.read_bares.Goals.{else-entry-eq0-via-then-entry-eq0+else-len-gt0, else-entry-eq0-via-else-entry-eq0}
-use Rattle.base_bytes.proofs.ListFacts.{passed}
+use Rattle.dex_base.proofs.ListFacts.{passed}
 
 pub loop-entry-preserved : goal.loop-entry-preserved
 loop-entry-preserved c =

@@ -3,7 +3,7 @@ use Rattle.program_types.specs.View.{desc}
 use Rattle.file_classes.specs.Reading.{entries}
 use Rattle.file_classes.proofs.EntryFaults.{fields_hold, bares_hold}
 use Rattle.file_classes.proofs.members.read_members.Goals as goal
-use Rattle.base_bytes.proofs.ListFacts.{passed}
+use Rattle.dex_base.proofs.ListFacts.{passed}
 
 pub returns-in_err-statics-clause-err : goal.returns-in_err-statics-clause-err
 returns-in_err-statics-clause-err c =

@@ -1,6 +1,6 @@
 use Rattle.std.proofs.Common.{ℕ, ◌≡◌, rules, arith, inl, inr, map, subst, Option}
 use Rattle.std.specs.Prelude.{IfSome, IfNone}
-use Rattle.base_bytes.specs.declared.fault.Fault.{Fault}
+use Rattle.dex_base.specs.declared.fault.Fault.{Fault}
 use Rattle.dex_container.specs.Layout.{size_of}
 use Rattle.tables_rows.specs.Sorted.{RowsHold}
 use Rattle.std.proofs.lemmas.List.{map-append}
@@ -12,7 +12,7 @@ use Rattle.file_classes.proofs.StaticsLaws.{first_class}
 use Rattle.file_classes.proofs.MethodLaws.{bodies_hold, rows_none, rows_turn, all_spelled}
 use Rattle.file_classes.proofs.methods.read_classes.Goals as goal
 use Rattle.tables_rows.proofs.CachedLaws.{cached_none}
-use Rattle.base_bytes.proofs.ListFacts.{passed}
+use Rattle.dex_base.proofs.ListFacts.{passed}
 
 pub returns-in_err-found-clause-err : goal.returns-in_err-found-clause-err
 returns-in_err-found-clause-err c =

@@ -5,7 +5,7 @@ use Rattle.file_classes.specs.ClassFaults.{CodeHolds, RegistersFail}
 use Rattle.file_classes.specs.Reading.{CodesUpTo}
 use Rattle.file_classes.proofs.MethodLaws.{no_bare, done_at, breaks_at, up_turn}
 use Rattle.file_classes.proofs.methods.read_methods.Goals as goal
-use Rattle.base_bytes.proofs.ListFacts.{passed}
+use Rattle.dex_base.proofs.ListFacts.{passed}
 
 pub loop-bare-preserved : goal.loop-bare-preserved
 loop-bare-preserved c = record {

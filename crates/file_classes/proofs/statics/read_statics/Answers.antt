@@ -6,7 +6,7 @@ use Rattle.file_classes.specs.Reading.{AreStatics}
 use Rattle.file_classes.proofs.StaticsLaws.{first_class}
 use Rattle.file_classes.proofs.statics.read_statics.Goals as goal
 use Rattle.tables_rows.proofs.CachedLaws.{cached_none}
-use Rattle.base_bytes.proofs.ListFacts.{passed}
+use Rattle.dex_base.proofs.ListFacts.{passed}
 
 pub returns-in_err-statics-clause-err : goal.returns-in_err-statics-clause-err
 returns-in_err-statics-clause-err c =

@@ -1,5 +1,5 @@
 use Rattle.std.proofs.Common.{◌≡◌, ℕ, List, ◌+◌, ◌++◌, ◌<◌, ◌^◌, ◌≤◌, subst, get_or, length, map, drop, ap, sym, ◌∙◌, arith, refl, length-append, append_assoc}
-use Rattle.base_bytes.specs.Words.{words_bytes}
+use Rattle.dex_base.specs.Words.{words_bytes}
 use Rattle.file_layout.specs.declared.map_list.Entry.{Entry}
 use Rattle.file_layout.specs.Tiles.{zeros, gap}
 use Rattle.file_layout.specs.Plan.{header_words, tables_end, spans_of}

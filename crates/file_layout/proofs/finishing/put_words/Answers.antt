@@ -1,5 +1,5 @@
 use Rattle.std.proofs.Common.{arith, refl}
-use Rattle.base_bytes.specs.Words.{words_bytes}
+use Rattle.dex_base.specs.Words.{words_bytes}
 use Rattle.file_layout.proofs.FinishLaws.{put_step, put_end}
 use Rattle.file_layout.proofs.finishing.put_words.Goals as goal
 

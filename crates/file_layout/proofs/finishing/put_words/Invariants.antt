@@ -1,5 +1,5 @@
 use Rattle.std.proofs.Common.{◌≡◌, ◌*◌, ◌++◌, take, drop}
-use Rattle.base_bytes.specs.Words.{words_bytes}
+use Rattle.dex_base.specs.Words.{words_bytes}
 use Rattle.file_layout.proofs.finishing.put_words.Given as goal
 
 abbrev pub invariant-loop-i : goal.invariant-loop-i

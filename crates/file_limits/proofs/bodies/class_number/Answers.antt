@@ -5,7 +5,7 @@ use Rattle.file_limits.specs.Limits.{BodyIsReady, codes_in, codes_of}
 use Rattle.file_limits.specs.Lowest.{IsLowestBroken}
 use Rattle.file_limits.proofs.BodyLaws.{both_least}
 use Rattle.file_limits.proofs.bodies.class_number.Goals as goal
-use Rattle.base_bytes.proofs.ListFacts.{all_front, all_back}
+use Rattle.dex_base.proofs.ListFacts.{all_front, all_back}
 
 pub methods_number-requires-clause-ready : goal.methods_number-requires-clause-ready
 methods_number-requires-clause-ready c = all_front (BodyIsReady c.args.ranks.now) (codes_in (map view.method c.args.class.now.directs.now)) (codes_in (map view.method c.args.class.now.virtuals.now)) c.requires.ready

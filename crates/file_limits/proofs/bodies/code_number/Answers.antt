@@ -1,6 +1,6 @@
 use Rattle.std.proofs.Common.{◌≡◌, ◌≢◌, ap, arith}
-use Rattle.base_bytes.specs.Fault.{memory}
-use Rattle.base_bytes.specs.declared.fault.Fault.{Fault}
+use Rattle.dex_base.specs.Fault.{memory}
+use Rattle.dex_base.specs.declared.fault.Fault.{Fault}
 use Rattle.tables_names.specs.Closure.{NameRanks}
 use Rattle.program_types.specs.View as view
 use Rattle.file_limits.proofs.BodyLaws.{one_fits, one_breaks}

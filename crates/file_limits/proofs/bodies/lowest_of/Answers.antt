@@ -2,7 +2,7 @@ use Rattle.tables_names.specs.Closure.{NameRanks}
 use Rattle.file_limits.proofs.BodyLaws.{no_class}
 use Rattle.file_limits.proofs.RankLaws.{classes_more}
 use Rattle.file_limits.proofs.bodies.lowest_of.Goals as goal
-use Rattle.base_bytes.proofs.ListFacts.{map_at}
+use Rattle.dex_base.proofs.ListFacts.{map_at}
 use Rattle.program_types.specs.View as view
 
 pub loop-i-init : goal.loop-i-init

@@ -1,6 +1,6 @@
 use Rattle.std.proofs.Common.{◌≡◌, ◌++◌, [], ap, ◌∙◌, map}
-use Rattle.base_bytes.proofs.ListFacts.{passed}
-use Rattle.base_bytes.specs.Fault.{memory}
+use Rattle.dex_base.proofs.ListFacts.{passed}
+use Rattle.dex_base.specs.Fault.{memory}
 use Rattle.std.proofs.lemmas.Result.{IfOk-weaker}
 use Rattle.tables_names.specs.Closure.{HasShorty, with_names}
 use Rattle.tables_names.specs.Needed.{needed}

@@ -6,7 +6,7 @@ use Rattle.program_types.specs.View as view
 use Rattle.file_needed.specs.Bodies.{named_in_body}
 use Rattle.tables_names.proofs.NotedLemmas.{notes_both}
 use Rattle.file_needed.proofs.classes.note_class.Goals as goal
-use Rattle.base_bytes.proofs.ListFacts.{all_front, all_back}
+use Rattle.dex_base.proofs.ListFacts.{all_front, all_back}
 
 pub note_bodies-requires : goal.note_bodies-requires
 note_bodies-requires c = all_front HasShorty (flat_map named_in_body (map view.method c.args.class.now.directs.now)) (flat_map named_in_body (map view.method c.args.class.now.virtuals.now)) c.requires

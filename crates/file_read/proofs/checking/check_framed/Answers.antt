@@ -2,7 +2,7 @@ use Rattle.tables_rows.proofs.ClearRows.{only_memory}
 use Rattle.file_read.proofs.PassLaws.{no_class_fault, no_value_fault, no_last_fault, last_refused, program_meant, table_refused}
 use Rattle.file_read.specs.Groups.{Classes, Values}
 use Rattle.file_read.proofs.checking.check_framed.Goals as goal
-use Rattle.base_bytes.proofs.ListFacts.{passed}
+use Rattle.dex_base.proofs.ListFacts.{passed}
 
 pub returns-in_err-tables-clause-refused : goal.returns-in_err-tables-clause-refused
 returns-in_err-tables-clause-refused c =

@@ -6,7 +6,7 @@ use Rattle.file_read.specs.Refused.{IsRefused}
 use Rattle.file_read.proofs.PassLaws.{no_class_fault, no_value_fault, no_last_fault, last_refused, table_refused, means_these, program_one}
 use Rattle.file_read.proofs.RangeLaws.{well_formed}
 use Rattle.file_read.proofs.reading.read.Goals as goal
-use Rattle.base_bytes.proofs.ListFacts.{passed}
+use Rattle.dex_base.proofs.ListFacts.{passed}
 
 pub returns-in_err-sections-clause-refused : goal.returns-in_err-sections-clause-refused
 returns-in_err-sections-clause-refused c = passed _ _ _ c.from_residual.ensures.1 (λ ne. (Frame, c.in_err-sections.ensures.fault))

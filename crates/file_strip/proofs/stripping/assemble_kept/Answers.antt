@@ -6,7 +6,7 @@ use Rattle.file_assemble.proofs.AssembledLaws.{array_count, assembled, data_coun
 use Rattle.tables_names.specs.Needed.{needed}
 use Rattle.file_strip.proofs.ReadyLaws.{room}
 use Rattle.file_strip.proofs.stripping.assemble_kept.Goals as goal
-use Rattle.base_bytes.proofs.ListFacts.{passed}
+use Rattle.dex_base.proofs.ListFacts.{passed}
 
 pub counts_of-counts-requires : goal.counts_of-counts-requires
 counts_of-counts-requires c = record { kept = (c.requires.ready.0, c.requires.ready.1.keeps) }

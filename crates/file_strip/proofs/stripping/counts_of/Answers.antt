@@ -1,5 +1,5 @@
 use Rattle.std.proofs.Common.{refl}
-use Rattle.file_kept.proofs.SizeLaws.{strings_count, types_count, protos_count, fields_count, methods_count}
+use Rattle.file_strip.proofs.SizeLaws.{strings_count, types_count, protos_count, fields_count, methods_count}
 use Rattle.file_strip.proofs.stripping.counts_of.Goals as goal
 
 pub returns : goal.returns

@@ -1,5 +1,5 @@
 use Rattle.std.proofs.Common.{arith, inl, refl}
-use Rattle.file_assemble.proofs.SumLaws.{limit_of}
+use Rattle.file_limits.proofs.SumLaws.{limit_of}
 use Rattle.file_strip.proofs.stripping.is_too_big.Goals as goal
 
 pub returns : goal.returns

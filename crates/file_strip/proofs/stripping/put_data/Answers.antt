@@ -1,16 +1,16 @@
 use Rattle.std.proofs.Common.{◌≡◌, length, ap, ◌∙◌, arith}
 use Rattle.file_layout.specs.Plan.{tables_end}
 use Rattle.file_layout.specs.Tiles.{Refers}
-use Rattle.file_assemble.specs.file_limits_Wide.{body_values}
-use Rattle.file_kept.specs.Codes.{is_bodiless}
-use Rattle.file_kept.proofs.SitedLaws.{room_of_sited}
+use Rattle.file_limits.specs.Wide.{body_values}
+use Rattle.file_assemble.specs.Codes.{is_bodiless}
+use Rattle.file_assemble.proofs.SitedLaws.{room_of_sited}
 use Rattle.file_assemble.specs.Assembled.{Places, rows_of}
-use Rattle.file_assemble.proofs.DataLaws.{laid}
+use Rattle.file_assemble.proofs.DataParts.{laid}
 use Rattle.file_assemble.proofs.OnceLaws.{datas_shared}
 use Rattle.tables_names.specs.Needed.{needed}
 use Rattle.file_strip.proofs.ReadyLaws.{and_laid, first, room}
 use Rattle.file_strip.proofs.stripping.put_data.Goals as goal
-use Rattle.base_bytes.proofs.ListFacts.{zip_length, passed}
+use Rattle.dex_base.proofs.ListFacts.{zip_length, passed}
 
 pub overflow_cast-tables : goal.overflow_cast-tables
 overflow_cast-tables c =

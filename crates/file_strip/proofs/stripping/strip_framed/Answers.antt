@@ -1,12 +1,12 @@
 use Rattle.std.proofs.Common.{ℕ, List, subst, sym}
-use Rattle.base_bytes.specs.Fields.{AreBytes}
-use Rattle.base_bytes.specs.declared.fault.Fault.{Fault}
-use Rattle.file_assemble.specs.Limits.{IsLowestLimit}
-use Rattle.file_assemble.specs.file_limits_Wide.{wide}
-use Rattle.file_assemble.proofs.LimitLaws.{small_of}
+use Rattle.dex_base.specs.Fields.{AreBytes}
+use Rattle.dex_base.specs.declared.fault.Fault.{Fault}
+use Rattle.file_limits.specs.Limits.{IsLowestLimit}
+use Rattle.file_limits.specs.Wide.{wide}
+use Rattle.file_limits.proofs.LimitLaws.{small_of}
 use Rattle.file_strip.proofs.ReadyLaws.{fits_of, keeps_of, ready_of, too_big, too_far}
 use Rattle.file_strip.proofs.stripping.strip_framed.Goals as goal
-use Rattle.base_bytes.proofs.ListFacts.{passed}
+use Rattle.dex_base.proofs.ListFacts.{passed}
 
 pub is_too_big-requires : goal.is_too_big-requires
 is_too_big-requires c =

@@ -1,10 +1,10 @@
 use Rattle.std.proofs.Common.{◌+◌, ℕ, List, refl, inl, sym, subst, arith}
 use Rattle.program_types.specs.Content.{Name}
 use Rattle.tables_rows.specs.Stands.{TypesAt}
-use Rattle.file_assemble.specs.Sum.{IsSum}
-use Rattle.file_assemble.specs.file_limits_Wide.{wide_list}
-use Rattle.file_assemble.specs.ClassData.{EntriesAt}
-use Rattle.file_assemble.specs.Reading.{entries}
+use Rattle.file_limits.specs.Sum.{IsSum}
+use Rattle.file_limits.specs.Wide.{wide_list}
+use Rattle.file_classes.specs.ClassData.{EntriesAt}
+use Rattle.file_classes.specs.Reading.{entries}
 use Rattle.file_strip.specs.Survey.{FindsNames, SpellsMembers, names_of_head, names_of_members, wide_members}
 use Rattle.file_strip.specs.declared.survey.Found.{Found}
 use Rattle.file_strip.proofs.ClassSteps.{class_names, spells_members}

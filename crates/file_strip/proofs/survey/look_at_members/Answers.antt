@@ -3,12 +3,12 @@ use Rattle.std.specs.List.{flat_map}
 use Rattle.std.proofs.lemmas.List.{length-map}
 use Rattle.program_types.specs.Mentions.{field_of_class, names_of_method, names_of_value}
 use Rattle.file_layout.specs.Sections.{wide_all}
-use Rattle.file_assemble.specs.Sum.{IsSum}
-use Rattle.file_assemble.specs.file_limits_Wide.{bodies_in, wide_body}
-use Rattle.file_assemble.proofs.SumLaws.{wide_all_append}
-use Rattle.file_assemble.specs.dex_value_Wide.{wide_values}
+use Rattle.file_limits.specs.Sum.{IsSum}
+use Rattle.file_limits.specs.Wide.{bodies_in, wide_body}
+use Rattle.file_limits.proofs.SumLaws.{wide_all_append}
+use Rattle.dex_value.specs.Wide.{wide_values}
 use Rattle.program_types.specs.Content.{values}
-use Rattle.file_assemble.specs.Reading.{field_entry, method_entry}
+use Rattle.file_classes.specs.Reading.{field_entry, method_entry}
 use Rattle.file_strip.specs.declared.survey.Found.{Found}
 use Rattle.file_strip.proofs.FoundLaws.{finds_marked, finds_more, has_found_after, has_marks}
 use Rattle.file_strip.proofs.survey.look_at_members.Goals as goal

@@ -2,8 +2,8 @@ use Rattle.std.proofs.Common.{◌∷◌, ◌++◌, [], map, refl, sym, subst}
 use Rattle.program_types.specs.Content.{OfDesc, OfText}
 use Rattle.program_types.specs.Mentions.{if_any}
 use Rattle.tables_rows.specs.Stands.{StringStands, TypeStands, TypesAt}
-use Rattle.file_kept.proofs.MarkLemmas.{adds_more, has_marks_after}
-use Rattle.file_assemble.specs.ClassRows.{IndexOrNone}
+use Rattle.file_renumber.proofs.MarkLemmas.{adds_more, has_marks_after}
+use Rattle.file_classes.specs.ClassRows.{IndexOrNone}
 use Rattle.file_strip.proofs.survey.mark_head.Goals as goal
 
 pub mark-requires-clause-row : goal.mark-requires-clause-row

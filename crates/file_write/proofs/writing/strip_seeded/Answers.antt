@@ -6,7 +6,7 @@ use Rattle.file_read.specs.Refused.{IsRefused}
 use Rattle.tables_rows.proofs.ClearRows.{only_memory}
 use Rattle.file_write.proofs.FileLaws.{file_of, late_limit, none_broken, stripped}
 use Rattle.file_write.proofs.writing.strip_seeded.Goals as goal
-use Rattle.base_bytes.proofs.ListFacts.{passed}
+use Rattle.dex_base.proofs.ListFacts.{passed}
 
 pub returns-clause-ok : goal.returns-clause-ok
 returns-clause-ok c =

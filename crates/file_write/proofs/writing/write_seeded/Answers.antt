@@ -2,7 +2,7 @@ use Rattle.program_types.specs.View as view
 use Rattle.tables_rows.proofs.ClearRows.{only_memory}
 use Rattle.file_write.proofs.FileLaws.{file_of, none_broken, vain}
 use Rattle.file_write.proofs.writing.write_seeded.Goals as goal
-use Rattle.base_bytes.proofs.ListFacts.{passed}
+use Rattle.dex_base.proofs.ListFacts.{passed}
 
 pub returns-clause-file : goal.returns-clause-file
 returns-clause-file c = file_of c.in_ok-assemble.field-0.items (view.program c.args.program.now) c.requires.formed c.in_ok-assemble.ensures.fits c.in_ok-assemble.ensures.assembled

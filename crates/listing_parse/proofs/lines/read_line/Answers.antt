@@ -1,5 +1,5 @@
 use Rattle.std.proofs.lemmas.Result.{on_ok_weaker}
-use Rattle.listing_parse.specs.View.{reading}
+use Rattle.listing_parse.specs.ReadingView.{reading}
 use Rattle.listing_parse.proofs.NamedLaws.{counted_named}
 use Rattle.listing_parse.proofs.lines.read_line.Goals as goal
 

@@ -3,11 +3,11 @@ use Rattle.std.proofs.lemmas.List.{length_push}
 use Rattle.listing_labels.specs.Lines.{lines}
 use Rattle.listing_parse.specs.Named.{StateIsNamed}
 use Rattle.listing_parse.specs.Text.{Reading, begin, Reads}
-use Rattle.listing_parse.specs.View.{reading}
+use Rattle.listing_parse.specs.ReadingView.{reading}
 use Rattle.listing_parse.proofs.NamedLaws.{first_named}
 use Rattle.listing_parse.proofs.ReadingLaws.{Reads-push, lines_push, bad_line, lines_in, base_of, all_read, read_whole}
 use Rattle.listing_parse.proofs.listing.read_lines.Goals as goal
-use Rattle.base_bytes.proofs.ListFacts.{passed}
+use Rattle.dex_base.proofs.ListFacts.{passed}
 
 pub loop-line-preserved : goal.loop-line-preserved
 loop-line-preserved c = let i = c.loop-line.invariant in let n = length_push i.0 c.in-Some.line.now in (

@@ -2,10 +2,10 @@ use Rattle.std.proofs.Common.{◌∙◌, sym, subst}
 use Rattle.std.specs.List.{AllByRecursion}
 use Rattle.program_rules.specs.Rules.{CodesHold}
 use Rattle.program_rules.specs.Valid.{InsnsAreNamed}
-use Rattle.listing_draft.specs.View.{state}
+use Rattle.listing_parse.specs.View.{state}
 use Rattle.listing_parse.proofs.ReadingLaws.{lines_of, whole_text, unfinished_text, unruly_text}
 use Rattle.listing_parse.proofs.listing.read_program.Goals as goal
-use Rattle.base_bytes.proofs.ListFacts.{passed}
+use Rattle.dex_base.proofs.ListFacts.{passed}
 
 pub returns-in_err-check_end-clause-err : goal.returns-in_err-check_end-clause-err
 returns-in_err-check_end-clause-err c =

@@ -1,7 +1,7 @@
 use Rattle.std.proofs.Common.{◌↔◌, map, drop}
 use Rattle.std.specs.List.{AllByRecursion}
 use Rattle.program_types.specs.View.{catch}
-use Rattle.program_types.specs.Descriptor.{IsDescriptor}
+use Rattle.dex_base.specs.Descriptor.{IsDescriptor}
 use Rattle.program_rules.proofs.bodies.catches_are_valid.Given as goal
 
 abbrev pub invariant-loop-each : goal.invariant-loop-each

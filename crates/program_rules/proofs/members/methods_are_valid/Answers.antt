@@ -1,6 +1,6 @@
 use Rattle.std.proofs.Common.{arith}
 use Rattle.std.specs.Prelude.{IfSome}
-use Rattle.base_bytes.proofs.ListFacts.{all_at}
+use Rattle.dex_base.proofs.ListFacts.{all_at}
 use Rattle.program_types.specs.View.{method}
 use Rattle.program_rules.specs.Valid.{InsnsAreNamed}
 use Rattle.program_rules.proofs.members.methods_are_valid.Goals as goal

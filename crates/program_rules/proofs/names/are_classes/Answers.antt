@@ -1,5 +1,5 @@
 use Rattle.std.proofs.Common.{rules}
-use Rattle.program_types.specs.Descriptor.{IsClass}
+use Rattle.dex_base.specs.Descriptor.{IsClass}
 use Rattle.program_types.specs.View.{desc}
 use Rattle.program_rules.proofs.AllLaws.{all-here}
 use Rattle.program_rules.proofs.names.are_classes.Goals as goal

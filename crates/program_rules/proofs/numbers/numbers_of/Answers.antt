@@ -4,7 +4,7 @@ use Rattle.program_types.specs.View.{desc}
 use Rattle.program_rules.proofs.NumberLaws.{last-more, as-found, again-now, again-kept, again-known}
 use Rattle.program_rules.proofs.numbers.numbers_of.Goals.{then-is_none+then-is_some, else-is_none, else-is_none-via-then-is_none+else-is_some, else-is_none-via-else-is_none}
 use Rattle.program_rules.proofs.numbers.numbers_of.Goals as goal
-use Rattle.base_bytes.proofs.ListFacts.{map_at}
+use Rattle.dex_base.proofs.ListFacts.{map_at}
 
 pub loop-k-preserved : goal.loop-k-preserved
 loop-k-preserved c =

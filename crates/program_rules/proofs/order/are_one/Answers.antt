@@ -1,6 +1,6 @@
 use Rattle.std.proofs.Common.{◌∙◌, ap, sym, Some}
 use Rattle.program_rules.proofs.order.are_one.Goals as goal
-use Rattle.base_bytes.proofs.ListFacts.{some_inj, map_at}
+use Rattle.dex_base.proofs.ListFacts.{some_inj, map_at}
 use Rattle.program_types.specs.View.{desc}
 
 pub returns : goal.returns

@@ -1,7 +1,7 @@
 use Rattle.std.proofs.Common.{◌∙◌, ap, sym, Some}
 use Rattle.program_rules.proofs.OrderLaws.{type-at}
 use Rattle.program_rules.proofs.order.is_of_type.Goals as goal
-use Rattle.base_bytes.proofs.ListFacts.{some_inj}
+use Rattle.dex_base.proofs.ListFacts.{some_inj}
 
 pub returns : goal.returns
 returns c =

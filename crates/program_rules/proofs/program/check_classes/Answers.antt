@@ -5,7 +5,7 @@ use Rattle.program_rules.proofs.OrderLaws.{class-at, first-broken, one-more, all
 use Rattle.program_rules.specs.Rules.{CodesHold}
 use Rattle.program_rules.specs.Valid.{InsnsAreNamed}
 use Rattle.program_rules.proofs.program.check_classes.Goals as goal
-use Rattle.base_bytes.proofs.ListFacts.{passed, all_at}
+use Rattle.dex_base.proofs.ListFacts.{passed, all_at}
 
 pub returns-in_err-check_class-clause-err : goal.returns-in_err-check_class-clause-err
 returns-in_err-check_class-clause-err c =

@@ -2,7 +2,7 @@ use Rattle.std.proofs.Common.{map}
 use Rattle.program_types.specs.View.{class}
 use Rattle.program_rules.proofs.OrderLaws.{first-broken, one-more, all-kept}
 use Rattle.program_rules.proofs.program.well_formed.Goals as goal
-use Rattle.base_bytes.proofs.ListFacts.{passed}
+use Rattle.dex_base.proofs.ListFacts.{passed}
 
 pub returns-in_err-check_class-clause-err : goal.returns-in_err-check_class-clause-err
 returns-in_err-check_class-clause-err c =

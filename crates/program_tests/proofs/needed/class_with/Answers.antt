@@ -1,6 +1,6 @@
 use Rattle.std.proofs.Common.{List, [], ◌∷◌, ◌++◌, map}
 use Rattle.std.specs.List.{AllByRecursion}
-use Rattle.base_bytes.proofs.ListFacts.{all_append}
+use Rattle.dex_base.proofs.ListFacts.{all_append}
 use Rattle.program_types.specs.Content.{Descriptor, Member}
 use Rattle.program_types.specs.Mentions.{field_of_class}
 use Rattle.program_types.specs.View as view

@@ -2,7 +2,7 @@ use Rattle.tables_names.proofs.SortingLemmas.{text_ranks, ret_ranks}
 use Rattle.tables_names.specs.Numbers.{TypeAt, ProtoAt}
 use Rattle.tables_names.proofs.NumberLemmas.{text_leads, ret_leads}
 use Rattle.tables_names.proofs.numbered.ranked_parts.Goals as goal
-use Rattle.program_types.proofs.ListFacts.{zip_weaker}
+use Rattle.dex_base.proofs.ListFacts.{zip_weaker}
 
 pub sorted_by-requires-clause-leads : goal.sorted_by-requires-clause-leads
 sorted_by-requires-clause-leads c = λ j k p q a b. text_ranks c.in_ok-strings.strings.names c.rises.ensures j k p q a b

@@ -2,7 +2,7 @@ use Rattle.std.proofs.Common.{arith, ◌≡◌, ◌<◌, ◌+◌, length, min, s
 use Rattle.std.proofs.lemmas.Bool.{cases_lt}
 use Rattle.program_types.specs.Shorty.{shorty}
 use Rattle.program_types.specs.View.{str, proto}
-use Rattle.program_types.proofs.OrderLaws.{cmp_equal, cmp_unequal, cmp_end}
+use Rattle.dex_base.proofs.OrderLaws.{cmp_equal, cmp_unequal, cmp_end}
 use Rattle.tables_names.proofs.shorty.cmp_shorty.Goals as goal
 use Rattle.program_types.proofs.Letters.{length-letters}
 

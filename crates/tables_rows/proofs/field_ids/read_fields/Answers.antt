@@ -7,7 +7,7 @@ use Rattle.tables_rows.specs.Stands.{FieldStands}
 use Rattle.tables_rows.specs.TableFaults.{FieldBreaks}
 use Rattle.tables_rows.proofs.RowReading.{first_row, first_more, first_rows}
 use Rattle.tables_rows.proofs.field_ids.read_fields.Goals as goal
-use Rattle.dex_container.proofs.ListFacts.{passed}
+use Rattle.dex_base.proofs.ListFacts.{passed}
 
 pub returns-in_err-field-clause-err : goal.returns-in_err-field-clause-err
 returns-in_err-field-clause-err c =

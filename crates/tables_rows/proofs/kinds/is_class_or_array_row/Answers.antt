@@ -1,5 +1,5 @@
 use Rattle.std.proofs.Common.{rules, inl}
-use Rattle.dex_container.proofs.DescriptorLaws.{class_by_head}
+use Rattle.dex_base.proofs.DescriptorLaws.{class_by_head}
 use Rattle.tables_rows.proofs.kinds.is_class_or_array_row.Goals as goal
 
 pub returns-then-head-from : goal.returns-then-head-from

@@ -1,5 +1,5 @@
 use Rattle.std.proofs.Common.{rules}
-use Rattle.dex_container.proofs.DescriptorLaws.{class_by_head}
+use Rattle.dex_base.proofs.DescriptorLaws.{class_by_head}
 use Rattle.tables_rows.proofs.kinds.is_class_row.Goals as goal
 
 pub returns : goal.returns

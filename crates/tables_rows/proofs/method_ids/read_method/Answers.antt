@@ -1,5 +1,5 @@
 use Rattle.std.proofs.Common.{refl, sym, ◌∙◌, ◌⊎◌, true≢false, inl, inr}
-use Rattle.dex_container.specs.Descriptor.{IsArray, IsClass, IsMemberName}
+use Rattle.dex_base.specs.Descriptor.{IsArray, IsClass, IsMemberName}
 use Rattle.program_types.specs.View.{str, desc}
 use Rattle.tables_rows.specs.TableFaults.{BreaksAt, MethodBreaks, MethodKind}
 use Rattle.tables_rows.proofs.method_ids.read_method.Goals as goal

@@ -7,7 +7,7 @@ use Rattle.tables_rows.specs.Stands.{MethodStands}
 use Rattle.tables_rows.specs.TableFaults.{MethodBreaks}
 use Rattle.tables_rows.proofs.RowReading.{first_row, first_more, first_rows}
 use Rattle.tables_rows.proofs.method_ids.read_methods.Goals as goal
-use Rattle.dex_container.proofs.ListFacts.{passed}
+use Rattle.dex_base.proofs.ListFacts.{passed}
 
 pub returns-in_err-method-clause-err : goal.returns-in_err-method-clause-err
 returns-in_err-method-clause-err c =

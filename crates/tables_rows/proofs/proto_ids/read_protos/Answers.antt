@@ -8,7 +8,7 @@ use Rattle.tables_rows.specs.Stands.{ProtoStands}
 use Rattle.tables_rows.specs.TableFaults.{ProtoBreaks}
 use Rattle.tables_rows.proofs.RowReading.{first_row, first_more, first_rows}
 use Rattle.tables_rows.proofs.proto_ids.read_protos.Goals as goal
-use Rattle.dex_container.proofs.ListFacts.{passed}
+use Rattle.dex_base.proofs.ListFacts.{passed}
 
 pub returns-in_err-proto-clause-err : goal.returns-in_err-proto-clause-err
 returns-in_err-proto-clause-err c =

@@ -7,7 +7,7 @@ use Rattle.tables_rows.specs.Stands.{StringStands}
 use Rattle.tables_rows.specs.TableFaults.{StringBreaks}
 use Rattle.tables_rows.proofs.RowReading.{first_row, first_more, first_rows}
 use Rattle.tables_rows.proofs.string_ids.read_strings.Goals as goal
-use Rattle.dex_container.proofs.ListFacts.{passed}
+use Rattle.dex_base.proofs.ListFacts.{passed}
 
 pub returns-in_err-string-clause-err : goal.returns-in_err-string-clause-err
 returns-in_err-string-clause-err c =

@@ -2,7 +2,7 @@ use Rattle.tables_rows.specs.Sorted.{StringHolds, TypeHolds, ProtoHolds, FieldHo
 use Rattle.tables_rows.specs.TableFaults.{StringBreaks, TypeBreaks, ProtoBreaks, FieldBreaks, MethodBreaks}
 use Rattle.tables_rows.proofs.ClearRows.{only_memory, no_first, string_clear, type_clear, proto_clear, field_clear, method_clear}
 use Rattle.tables_rows.proofs.tables.read_tables.Goals as goal
-use Rattle.dex_container.proofs.ListFacts.{passed}
+use Rattle.dex_base.proofs.ListFacts.{passed}
 
 pub returns-in_err-strings-clause-only : goal.returns-in_err-strings-clause-only
 returns-in_err-strings-clause-only c =

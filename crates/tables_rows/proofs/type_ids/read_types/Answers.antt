@@ -7,7 +7,7 @@ use Rattle.tables_rows.specs.Stands.{TypeStands}
 use Rattle.tables_rows.specs.TableFaults.{TypeBreaks}
 use Rattle.tables_rows.proofs.RowReading.{first_row, first_more, first_rows}
 use Rattle.tables_rows.proofs.type_ids.read_types.Goals as goal
-use Rattle.dex_container.proofs.ListFacts.{passed}
+use Rattle.dex_base.proofs.ListFacts.{passed}
 
 pub returns-in_err-ty-clause-err : goal.returns-in_err-ty-clause-err
 returns-in_err-ty-clause-err c =

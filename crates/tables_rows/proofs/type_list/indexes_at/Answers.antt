@@ -1,10 +1,10 @@
-use Rattle.dex_container.specs.Grammar.{NoneBegins}
+use Rattle.dex_base.specs.Grammar.{NoneBegins}
 use Rattle.tables_rows.specs.Stands.{SpellsIndexes}
 use Rattle.dex_container.proofs.Standing.{stands_at, stands_not}
 use Rattle.tables_rows.proofs.HalvesLaws.{list_placed}
 use Rattle.tables_rows.proofs.type_list.indexes_at.Goals as goal
 use Rattle.std.proofs.lemmas.Option.{IfSome_then}
-use Rattle.dex_container.proofs.OptionLaws.{IfNone-weaker}
+use Rattle.dex_base.proofs.OptionLaws.{IfNone-weaker}
 
 pub returns-in_default-clause-none : goal.returns-in_default-clause-none
 returns-in_default-clause-none c = λ indexes at. c.in_default.ensures.none (list_placed _ 0x1001 4 c.args.off indexes at)

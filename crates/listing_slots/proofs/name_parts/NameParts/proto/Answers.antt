@@ -1,5 +1,5 @@
 use Rattle.std.proofs.Common.{map, ap, ◌∙◌}
-use Rattle.listing_words.specs.program_types_View.{desc}
+use Rattle.program_types.specs.View.{desc}
 use Rattle.listing_slots.proofs.PartLaws.{proto_found, proto_last}
 use Rattle.listing_slots.proofs.name_parts.NameParts.proto.Goals as goal
 

@@ -1,5 +1,5 @@
 use Rattle.std.proofs.Common.{◌≡◌, map, take}
-use Rattle.listing_words.specs.program_types_View.{desc}
+use Rattle.program_types.specs.View.{desc}
 use Rattle.listing_slots.proofs.name_parts.Texts.types.Given as goal
 
 abbrev pub invariant-loop-ty : goal.invariant-loop-ty

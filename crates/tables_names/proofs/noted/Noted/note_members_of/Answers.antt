@@ -1,6 +1,6 @@
 use Rattle.std.proofs.Common.{◌≡◌, ◌++◌, List, [], map, refl, sym, ◌∙◌, append-nil, append_assoc}
 use Rattle.std.proofs.lemmas.Result.{on_err_weaker, on_ok_weaker}
-use Rattle.program_types.proofs.ListFacts.{all_back, all_front}
+use Rattle.dex_base.proofs.ListFacts.{all_back, all_front}
 use Rattle.program_types.specs.Content.{Class, Name}
 use Rattle.program_types.specs.Mentions.{field_of_class}
 use Rattle.program_types.specs.View as view

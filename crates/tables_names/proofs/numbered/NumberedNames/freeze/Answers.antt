@@ -3,7 +3,7 @@ use Rattle.tables_names.specs.Numbers.{Order, sets, FieldAt, MethodAt}
 use Rattle.tables_names.proofs.NumberLemmas.{field_leads, method_leads}
 use Rattle.tables_names.proofs.NumberedNamesLemmas.{order_of}
 use Rattle.tables_names.proofs.numbered.NumberedNames.freeze.Goals as goal
-use Rattle.program_types.proofs.ListFacts.{zip_weaker}
+use Rattle.dex_base.proofs.ListFacts.{zip_weaker}
 
 pub ranked_parts-requires : goal.ranked_parts-requires
 ranked_parts-requires c = record { types = c.self.invariant.parts.types; protos = c.self.invariant.parts.protos }

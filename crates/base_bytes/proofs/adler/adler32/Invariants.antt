@@ -1,9 +1,0 @@
-use Rattle.std.proofs.Common.{length}
-use Rattle.base_bytes.proofs.AdlerSums.{IsCompleted}
-use Rattle.base_bytes.proofs.adler.adler32.Given as goal
-
-abbrev pub invariant-loop-rest : goal.invariant-loop-rest
-invariant-loop-rest l = IsCompleted l.bytes l.rest l.a l.b
-
-abbrev pub decreases-loop-rest : goal.decreases-loop-rest
-decreases-loop-rest l = length l.rest

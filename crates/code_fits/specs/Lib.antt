@@ -1,4 +1,0 @@
-pub mod Laws
--- What stands below, for the crates above.
-pub use Rattle.code_put.specs.Fits
-pub use Rattle.code_put.specs.Packs

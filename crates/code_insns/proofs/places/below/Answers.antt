@@ -1,5 +1,0 @@
-use Rattle.code_insns.proofs.PlaceLaws.{count-is}
-use Rattle.code_insns.proofs.places.below.Goals as goal
-
-pub returns-clause-counted : goal.returns-clause-counted
-returns-clause-counted c = count-is c.args.starts.now c.args.x c.split.result c.split.ensures.within c.split.ensures.before c.split.ensures.after

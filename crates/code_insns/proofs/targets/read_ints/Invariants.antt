@@ -1,6 +1,0 @@
-use Rattle.std.proofs.Common.{◌≡◌, ◌-◌, ◌++◌}
-use Rattle.code_insns.specs.Symbols.{ints, ints_from}
-use Rattle.code_insns.proofs.targets.read_ints.Given as goal
-
-abbrev pub invariant-loop-i : goal.invariant-loop-i
-invariant-loop-i l = l.all.items ++ ints_from l.bytes l.i (l.n - l.i) ≡ ints l.bytes

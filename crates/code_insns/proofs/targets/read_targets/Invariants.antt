@@ -1,7 +1,0 @@
-use Rattle.std.proofs.Common.{◌≡◌, ◌-◌, ◌++◌, map}
-use Rattle.code_insns.specs.Linked.{lead}
-use Rattle.code_insns.specs.Symbols.{ints, ints_from}
-use Rattle.code_insns.proofs.targets.read_targets.Given as goal
-
-abbrev pub invariant-loop-i : goal.invariant-loop-i
-invariant-loop-i l = l.all.items ++ map (lead l.starts l.base) (ints_from l.offsets l.i (l.n - l.i)) ≡ map (lead l.starts l.base) (ints l.offsets)

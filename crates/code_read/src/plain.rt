@@ -1,0 +1,167 @@
+//! The instructions of a code that has nothing to do with payloads, as nearly all have none: each is read and resolved at once.
+
+ghost use Rattle.std.specs.Prelude.{◌≡◌, ◌<◌, ◌≤◌, ◌%◌, length, map, IfOk, IfSome, IsOkUnless, IsTrue};
+ghost use Rattle.dex_base.specs.Fault.{memory};
+ghost use Rattle.program_types.specs.View.{insn};
+ghost use Rattle.tables_rows.specs.Names.{NameIsAt};
+ghost use Rattle.dex_insn.specs.Raw as spelled;
+ghost use Rattle.dex_insn.specs.Raw.{raw, Raw};
+ghost use Rattle.dex_insn.specs.RawInsns.{InsnStands};
+ghost use Rattle.code_read.specs.Places.{Rises};
+ghost use Rattle.code_read.specs.Plain.{is_plain, SaysAtOnce, ArePlain};
+
+use crate::symbols::link;
+use crate::walking::MOST_AT_ONCE;
+use bumpalo::Bump;
+use bumpalo::collections::into_bump_slice;
+use dex_base::Fault;
+use dex_insn::{Format, RawInsn, format_of, read_insn, size_of};
+use program_code_rules::{branch_stays, insn_is_among};
+use program_types::Insn;
+use std::alloc::Global;
+use tables_rows::Tables;
+
+/// An instruction, and how many units it has.
+#[derive(Clone, Copy)]
+struct Seen<'a> {
+    insn: Insn<'a>,
+    units: u64,
+}
+
+/// Whether an instruction neither is a payload nor refers to one.
+#[inline(always)]
+#[tactic(auto, unfolding(crate::specs::Plain::is_plain, dex_insn::specs::Raw::raw))]
+fn is_plain(one: &RawInsn<'_>) -> bool
+    ensures { result ≡ is_plain (raw one.now) }
+{
+    !matches!(
+        one,
+        RawInsn::Packed { .. }
+            | RawInsn::Sparse { .. }
+            | RawInsn::Data { .. }
+            | RawInsn::I31t { .. }
+    )
+}
+
+/// The instruction at the unit `at` of a code of so many registers, whose instructions begin at these units: number `k`. None where there is
+/// none, and where it has to do with payloads or breaks a rule.
+#[inline(always)]
+fn insn_at<'a>(
+    tables: &Tables<'a>,
+    starts: &[u32],
+    at: u32,
+    k: usize,
+    units: &[u8],
+    registers: u16,
+) -> Option<Seen<'a>>
+    requires rises { Rises starts.now }
+    requires few { length starts.now ≤ 4294967295 }
+    ensures { IfSome result (λ s. (r : Raw) × InsnStands units.now at r × SaysAtOnce (NameIsAt tables.now) starts.now registers at k r (insn s.insn) × (s.units ≡ spelled.units r)) }
+{
+    match read_insn(units, at) {
+        Ok(one) => {
+            if !is_plain(&one) {
+                return None;
+            }
+            let insn = link(tables, starts, at, &one)?;
+            if !branch_stays(&insn, starts.len(), k) || !insn_is_among(registers, &insn) {
+                return None;
+            }
+            Some(Seen {
+                insn,
+                units: size_of(&one),
+            })
+        }
+        Err(_) => None,
+    }
+}
+
+/// How many units an instruction with this opcode has. None where the opcode is unused, and where the instruction refers to a payload.
+fn units_of(op: u8) -> Option<u64>
+    ensures { IfSome result (λ n. (0 < n) × (n ≤ 5)) }
+{
+    match format_of(op) {
+        Some(Format::F10x | Format::F12x | Format::F11n | Format::F11x | Format::F10t) => Some(1),
+        Some(
+            Format::F30t | Format::F32x | Format::F31i | Format::F31c | Format::F35c | Format::F3rc,
+        ) => Some(3),
+        Some(Format::F51l) => Some(5),
+        Some(Format::F31t) | None => None,
+        Some(_) => Some(2),
+    }
+}
+
+/// The units at which instructions begin, by their opcodes alone. None where an opcode is unused or refers to a payload.
+pub(crate) fn starts_of(alloc: Global, units: &[u8]) -> Result<Option<Vec<u32>>, Fault>
+    requires even { length units.now % 2 ≡ 0 }
+    requires short { length units.now ≤ 8589934590 }
+    ensures rises { IfOk result (λ o. IfSome o (λ starts. Rises starts.items × (length starts.items ≤ 4294967295))) }
+    ensures memory { IsOkUnless result memory }
+{
+    let room = (units.len() / 4).min(MOST_AT_ONCE);
+    let mut starts = Vec::with_capacity(alloc, room)?;
+    let end = units.len() as u64 / 2;
+    let mut at: u64 = 0;
+    while at < end {
+        let Some(count) = units_of(units[2 * at as usize]) else {
+            return Ok(None);
+        };
+        starts.push(at as u32)?;
+        at += count;
+    }
+    Ok(Some(starts))
+}
+
+/// All instructions, where they begin at these units; none where they don't, and where one breaks a rule.
+pub(crate) fn insns_at<'a>(
+    arena: &'a Bump,
+    tables: &Tables<'a>,
+    starts: &[u32],
+    units: &[u8],
+    registers: u16,
+) -> Result<Option<&'a [Insn<'a>]>, Fault>
+    requires even { length units.now % 2 ≡ 0 }
+    requires short { length units.now ≤ 8589934590 }
+    requires rises { Rises starts.now × (length starts.now ≤ 4294967295) }
+    ensures ok { IfOk result (λ o. IfSome o (λ is. ArePlain (NameIsAt tables.now) units.now starts.now registers (map insn is.now))) }
+    ensures memory { IsOkUnless result memory }
+{
+    let mut found = Vec::with_capacity(arena, starts.len())?;
+    let mut at: u64 = 0;
+    for k in 0..starts.len() {
+        let start = starts[k];
+        if u64::from(start) != at {
+            return Ok(None);
+        }
+        let Some(seen) = insn_at(tables, starts, start, k, units, registers) else {
+            return Ok(None);
+        };
+        found.push(seen.insn)?;
+        at += seen.units;
+    }
+    if at != units.len() as u64 / 2 {
+        return Ok(None);
+    }
+    Ok(Some(into_bump_slice(found)))
+}
+
+/// Whether instructions that break no rule begin at these units, as `insns_at` answers them.
+pub(crate) fn are_plain(tables: &Tables<'_>, starts: &[u32], units: &[u8], registers: u16) -> bool
+    requires even { length units.now % 2 ≡ 0 }
+    requires short { length units.now ≤ 8589934590 }
+    requires rises { Rises starts.now × (length starts.now ≤ 4294967295) }
+    ensures { IsTrue result → (is : _) × ArePlain (NameIsAt tables.now) units.now starts.now registers is }
+{
+    let mut at: u64 = 0;
+    for k in 0..starts.len() {
+        let start = starts[k];
+        if u64::from(start) != at {
+            return false;
+        }
+        let Some(seen) = insn_at(tables, starts, start, k, units, registers) else {
+            return false;
+        };
+        at += seen.units;
+    }
+    at == units.len() as u64 / 2
+}

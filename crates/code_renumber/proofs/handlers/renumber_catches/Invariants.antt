@@ -1,6 +1,0 @@
-use Rattle.code_renumber.specs.Carried.{CarriedCatches}
-use Rattle.code_renumber.proofs.CatchLemmas.{WrittenCatches}
-use Rattle.code_renumber.proofs.handlers.renumber_catches.Given as goal
-
-abbrev pub invariant-loop-turn : goal.invariant-loop-turn
-invariant-loop-turn l = (x : CarriedCatches l.numbers l.count l.bytes) → WrittenCatches x.file x.names x.starts l.fn.out.items l.out.items l.left l._turn x.catches x.rest

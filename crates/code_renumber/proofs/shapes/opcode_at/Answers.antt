@@ -1,5 +1,0 @@
-use Rattle.code_renumber.proofs.ShapeLemmas.{op_is}
-use Rattle.code_renumber.proofs.shapes.opcode_at.Goals as goal
-
-pub returns : goal.returns
-returns c = op_is c.args.front.now _ c.u16_at.ensures

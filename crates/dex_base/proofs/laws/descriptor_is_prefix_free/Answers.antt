@@ -1,5 +1,0 @@
-use Rattle.dex_base.proofs.NameUnits.{descriptor_prefix_free}
-use Rattle.dex_base.proofs.laws.descriptor_is_prefix_free.Goals as goal
-
-pub returns : goal.returns
-returns c = descriptor_prefix_free

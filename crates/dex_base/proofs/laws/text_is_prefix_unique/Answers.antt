@@ -1,5 +1,0 @@
-use Rattle.dex_base.proofs.TextLaws.{text_unique}
-use Rattle.dex_base.proofs.laws.text_is_prefix_unique.Goals as goal
-
-pub returns : goal.returns
-returns c = text_unique

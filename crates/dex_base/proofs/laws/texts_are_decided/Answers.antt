@@ -1,5 +1,0 @@
-use Rattle.dex_base.proofs.TextsDecided as law
-use Rattle.dex_base.proofs.laws.texts_are_decided.Goals as goal
-
-pub returns : goal.returns
-returns c = law.decide_text

@@ -1,5 +1,0 @@
-use Rattle.dex_base.proofs.UnitLaws.{unit_unique}
-use Rattle.dex_base.proofs.laws.unit_is_prefix_unique.Goals as goal
-
-pub returns : goal.returns
-returns c = unit_unique

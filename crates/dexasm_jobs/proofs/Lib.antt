@@ -1,4 +1,0 @@
-pub mod ListedLaws
-pub mod AnswerOnce
-pub mod MadeLaws
-pub mod OutcomeOnce

@@ -1,4 +1,0 @@
-use Rattle.dexasm_jobs.proofs.answers.answer_owned_seeded.Goals as goal
-
-pub returns-in-Assemble-clause-refused : goal.returns-in-Assemble-clause-refused
-returns-in-Assemble-clause-refused c = rw c.in-Assemble.is c.assemble_owned.ensures.refused

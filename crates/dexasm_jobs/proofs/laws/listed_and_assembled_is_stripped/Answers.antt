@@ -1,5 +1,0 @@
-use Rattle.dexasm_jobs.proofs.AnswerOnce.{listed_once}
-use Rattle.dexasm_jobs.proofs.laws.listed_and_assembled_is_stripped.Goals as goal
-
-pub returns : goal.returns
-returns c = listed_once

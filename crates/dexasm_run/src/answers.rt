@@ -1,0 +1,167 @@
+//! The answer to each job.
+ghost use Rattle.std.specs.Prelude.{◌≢◌, IfOk, IfErr};
+ghost use Rattle.dex_base.specs.Fault.{memory};
+ghost use Rattle.program_types.specs.View.{program};
+ghost use Rattle.program_rules.specs.WellFormed.{WellFormed};
+ghost use Rattle.dexasm_run.specs.Answers.{Answer, Refusal, IsAssembled, IsUnassembled};
+
+use bumpalo::Bump;
+use dex_base::{Fault, Seed};
+use dexasm_job::Job;
+use file_align::align_all;
+use file_read::{check, read};
+use file_write::{strip_seeded, write_seeded};
+use listing_parse::parse_seeded;
+use listing_print::print;
+use program_types::Program;
+use std::alloc::Global;
+
+/// The whole answer to a job on these bytes, or the fault of the call that refused them.
+///
+/// Check and List refuse what `read` refuses, Strip what `read` or `write` does, Assemble what `parse`, `align_all` (with
+/// align) or `write` does; the fault is theirs, with its place: a byte of a file, a line of a listing, a class of the program,
+/// or of 80 and 81 how many are needed. 255 is out of memory, at 0.
+///
+/// ```
+/// use dex_file::write;
+/// use dex_program::Program;
+/// use dexasm_job::Job;
+/// use dexasm_run::answer;
+///
+/// let file = write(alloc, &Program { classes: &[] })?;
+/// let said = answer(alloc, Job::Check, &file)?;
+/// assert_eq!(rt; said.len(), 3); // ok and a line feed
+/// ```
+pub fn answer(alloc: Global, job: Job, given: &[u8]) -> Result<Vec<u8>, Fault>
+    ensures answered { IfOk result (λ made. Answer job given.now made.items) }
+    ensures refused { IfErr result (λ fault. fault ≢ memory → Refusal job given.now fault) }
+{
+    answer_seeded(alloc, Seed::fixed(), job, given)
+}
+
+/// The whole answer to a job on these bytes, as `answer` gives it. Hashes begin with this seed, on which no answer depends: one that
+/// is drawn for bytes of strangers, so that what they name can't be made to collide with a seed that is known.
+///
+/// ```
+/// use dex_base::Seed;
+/// use dexasm_job::Job;
+/// use dexasm_run::answer_seeded;
+///
+/// let file = answer_seeded(alloc, Seed::new(0x5eed), Job::Assemble { align: false }, b"dex 035 listing 2\n")?;
+/// assert_eq!(rt; file.len(), 140);
+/// ```
+pub fn answer_seeded(alloc: Global, seed: Seed, job: Job, given: &[u8]) -> Result<Vec<u8>, Fault>
+    ensures answered { IfOk result (λ made. Answer job given.now made.items) }
+    ensures refused { IfErr result (λ fault. fault ≢ memory → Refusal job given.now fault) }
+{
+    match job {
+        Job::Check => checked(alloc, given),
+        Job::List => list(alloc, given),
+        Job::Assemble { align } => assemble(alloc, seed, align, given),
+        Job::Strip => strip_seeded(alloc, seed, given),
+    }
+}
+
+/// The answer to a job on bytes that are given away, as `answer` gives it. A listing is let go before its file is written, so that
+/// both are never held.
+///
+/// ```
+/// use dexasm_job::Job;
+/// use dexasm_run::answer_owned;
+///
+/// let listing = Vec::from_slice(alloc, b"dex 035 listing 2\n")?;
+/// let file = answer_owned(alloc, Job::Assemble { align: false }, listing)?;
+/// assert_eq!(rt; file.len(), 140);
+/// ```
+pub fn answer_owned(alloc: Global, job: Job, given: Vec<u8>) -> Result<Vec<u8>, Fault>
+    ensures answered { IfOk result (λ made. Answer job given.items made.items) }
+    ensures refused { IfErr result (λ fault. fault ≢ memory → Refusal job given.items fault) }
+{
+    answer_owned_seeded(alloc, Seed::fixed(), job, given)
+}
+
+/// The answer to a job on bytes that are given away, as `answer_owned` gives it. Hashes begin with this seed, as those of
+/// `answer_seeded` do.
+///
+/// ```
+/// use dex_base::Seed;
+/// use dexasm_job::Job;
+/// use dexasm_run::answer_owned_seeded;
+///
+/// let listing = Vec::from_slice(alloc, b"dex 035 listing 2\n")?;
+/// let file = answer_owned_seeded(alloc, Seed::new(0x5eed), Job::Assemble { align: false }, listing)?;
+/// assert_eq!(rt; file.len(), 140);
+/// ```
+pub fn answer_owned_seeded(
+    alloc: Global,
+    seed: Seed,
+    job: Job,
+    given: Vec<u8>,
+) -> Result<Vec<u8>, Fault>
+    ensures answered { IfOk result (λ made. Answer job given.items made.items) }
+    ensures refused { IfErr result (λ fault. fault ≢ memory → Refusal job given.items fault) }
+{
+    match job {
+        Job::Assemble { align } => assemble_owned(alloc, seed, align, given),
+        _ => answer_seeded(alloc, seed, job, &given),
+    }
+}
+
+/// `ok` and a line feed, where the bytes are a file.
+fn checked(alloc: Global, given: &[u8]) -> Result<Vec<u8>, Fault>
+    ensures answered { IfOk result (λ made. Answer Job.Check given.now made.items) }
+    ensures refused { IfErr result (λ fault. fault ≢ memory → Refusal Job.Check given.now fault) }
+{
+    check(alloc, given)?;
+    Ok(Vec::from_slice(alloc, b"ok\n")?)
+}
+
+/// The listing of the file's program.
+fn list(alloc: Global, given: &[u8]) -> Result<Vec<u8>, Fault>
+    ensures answered { IfOk result (λ made. Answer Job.List given.now made.items) }
+    ensures refused { IfErr result (λ fault. fault ≢ memory → Refusal Job.List given.now fault) }
+{
+    let arena = Bump::new(alloc);
+    let program = read(alloc, &arena, given)?;
+    print(alloc, &program)
+}
+
+/// The file of the listed program, with each code aligned if that is asked.
+fn assemble(alloc: Global, seed: Seed, align: bool, given: &[u8]) -> Result<Vec<u8>, Fault>
+    ensures answered { IfOk result (λ made. Answer (Job.Assemble align) given.now made.items) }
+    ensures refused { IfErr result (λ fault. fault ≢ memory → Refusal (Job.Assemble align) given.now fault) }
+{
+    let arena = Bump::new(alloc);
+    let listed = parse_seeded(alloc, seed, &arena, given)?;
+    file_of(alloc, seed, &arena, &listed, align)
+}
+
+/// The file of the listed program, as `assemble` answers it. The listing is let go before the file is written.
+fn assemble_owned(alloc: Global, seed: Seed, align: bool, given: Vec<u8>) -> Result<Vec<u8>, Fault>
+    ensures answered { IfOk result (λ made. Answer (Job.Assemble align) given.items made.items) }
+    ensures refused { IfErr result (λ fault. fault ≢ memory → Refusal (Job.Assemble align) given.items fault) }
+{
+    let arena = Bump::new(alloc);
+    let listed = parse_seeded(alloc, seed, &arena, &given)?;
+    drop(given);
+    file_of(alloc, seed, &arena, &listed, align)
+}
+
+/// The file of a program, with each code aligned if that is asked.
+fn file_of<'a>(
+    alloc: Global,
+    seed: Seed,
+    arena: &'a Bump,
+    listed: &Program<'a>,
+    align: bool,
+) -> Result<Vec<u8>, Fault>
+    requires formed { WellFormed (program listed.now) }
+    ensures written { IfOk result (λ made. IsAssembled align (program listed.now) made.items) }
+    ensures refused { IfErr result (λ fault. fault ≢ memory → IsUnassembled align (program listed.now) fault) }
+{
+    if align {
+        let aligned = align_all(alloc, arena, listed)?;
+        return write_seeded(alloc, seed, &aligned);
+    }
+    write_seeded(alloc, seed, listed)
+}

@@ -1,0 +1,17 @@
+//! Laws of the definitions, each the contract of a function that does nothing else.
+ghost use Rattle.dexasm_run.specs.Once.{ListedAndAssembledIsStripped, OneAnswer, OneOutcome};
+
+/// A job has one answer to the bytes that it is given.
+pub fn one_answer()
+    ensures { OneAnswer }
+{}
+
+/// What is listed of a file and assembled is what is stripped of it.
+pub fn listed_and_assembled_is_stripped()
+    ensures { ListedAndAssembledIsStripped }
+{}
+
+/// A job has one outcome on the bytes that it is given, unless memory runs out: an answer, or a refusal with its number and its place.
+pub fn one_outcome()
+    ensures { OneOutcome }
+{}

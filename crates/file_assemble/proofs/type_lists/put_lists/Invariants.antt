@@ -1,0 +1,12 @@
+use Rattle.std.proofs.Common.{take, drop}
+use Rattle.program_types.specs.View as view
+use Rattle.file_layout.specs.Sections.{is_empty_list}
+use Rattle.file_assemble.specs.Lists.{SpellsRanks}
+use Rattle.file_limits.specs.Wide.{wide_list, list_values}
+use Rattle.file_layout.specs.Sharing.{Sharing}
+use Rattle.file_assemble.proofs.type_lists.put_lists.Given as goal
+
+abbrev pub invariant-loop-number : goal.invariant-loop-number
+invariant-loop-number l =
+    Sharing is_empty_list (SpellsRanks l.ranks) (SpellsRanks l.ranks) 4 wide_list l.fn.out.items l.out.items (take l.number (list_values l.ranks (view.program l.program))) (drop l.number (list_values l.ranks (view.program l.program)))
+    (list_values l.ranks (view.program l.program)) l.places.items l.items

@@ -1,6 +1,0 @@
-use Rattle.std.proofs.Common.{◌≡◌, ◌++◌, map, take}
-use Rattle.file_kept.specs.Bodies.{body_of}
-use Rattle.file_kept.proofs.codes.push_bodies.Given as goal
-
-abbrev pub invariant-loop-entry : goal.invariant-loop-entry
-invariant-loop-entry l = l.bodies.items ≡ l.fn.bodies.items ++ map (body_of l.class) (take l.entry-index l.entries)

@@ -1,9 +1,0 @@
-use Rattle.file_parts.specs.file_limits_Wide.{wide_string}
-use Rattle.program_types.specs.Content.{Program}
-use Rattle.tables_names.specs.Needed.{needed}
-use Rattle.file_kept.specs.Keeping.{Keeps}
-use Rattle.file_kept.specs.Sizes.{IsFirstSum}
-use Rattle.file_kept.proofs.sizes.strings_size.Given as goal
-
-abbrev pub invariant-loop-i : goal.invariant-loop-i
-invariant-loop-i l = (p : Program) → Keeps l.sections l.numbers p → IsFirstSum wide_string l.numbers.strings (needed p).strings l.i l.sum

@@ -1,8 +1,0 @@
-use Rattle.std.proofs.Common.{ℕ}
-use Rattle.std.proofs.lemmas.Result.{on_ok_weaker}
-use Rattle.base_bytes.proofs.GrammarLaws.{Then-appends}
-use Rattle.base_bytes.specs.Leb128.{Spells, Shortest}
-use Rattle.file_parts.proofs.class_data.put_field.Goals as goal
-
-pub returns-clause-ok : goal.returns-clause-ok
-returns-clause-ok c = on_ok_weaker c.put_uleb-2.result (λ a. Then-appends (Shortest Spells) (λ (n : ℕ). Shortest Spells) _ _ _ c.args.step c.args.flags c.in_ok-put_uleb.ensures.ok a) c.put_uleb-2.ensures.ok

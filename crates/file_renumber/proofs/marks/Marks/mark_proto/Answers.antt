@@ -1,0 +1,70 @@
+use Rattle.std.proofs.Common.{◌≡◌, ℕ, List, map, sym, ap, subst, ◌∙◌, get_or}
+use Rattle.program_types.specs.Content.{OfText, OfDesc}
+use Rattle.program_types.specs.Shorty.{shorty}
+use Rattle.tables_names.specs.Closure.{with_name, with_names}
+use Rattle.tables_rows.specs.Stands.{StringStands, TypeStands, TypesAt}
+use Rattle.file_renumber.specs.Marked.{Marked, AreMarks}
+use Rattle.file_renumber.proofs.MarkLemmas.{proto_is_there, proto_marked}
+use Rattle.file_renumber.proofs.ColumnLemmas.{set_back, within}
+use Rattle.file_renumber.proofs.marks.Marks.mark_proto.Goals as goal
+
+pub returns-then-is_marked-clause-marked : goal.returns-then-is_marked-clause-marked
+returns-then-is_marked-clause-marked c = λ p st s a.
+    proto_is_there c.args.sections.now c.args.self.now s a c.args.index p st
+    (subst (λ (xs : List ℕ). get_or xs c.args.index 0 ≡ 1) (c.deref.ensures.value ∙ ap (λ (m : Marked). m.columns.protos) c.self.view_is) (c.is_marked.ensures.0 c.if-is_marked.true))
+
+pub mark_string-requires : goal.mark_string-requires
+mark_string-requires c =
+    let b = c.args.sections.now in
+    let p = c.requires.row.0 in
+    (b, c.requires.marks, (shorty p, subst (λ (n : ℕ). StringStands b n (shorty p)) (sym c.proto_shorty.ensures) c.requires.row.1.shorty))
+
+pub mark_type-requires-clause-marks : goal.mark_type-requires-clause-marks
+mark_type-requires-clause-marks c =
+    let b = c.args.sections.now in
+    let p = c.requires.row.0 in
+    let text = subst (λ (n : ℕ). StringStands b n (shorty p)) (sym c.proto_shorty.ensures) c.requires.row.1.shorty in
+    (with_name c.requires.marks.0 (OfText (shorty p)), c.mark_string.ensures b (shorty p) text c.requires.marks.0 c.requires.marks.1)
+
+pub mark_type-requires-clause-row : goal.mark_type-requires-clause-row
+mark_type-requires-clause-row c =
+    let p = c.requires.row.0 in
+    (p.ret, subst (λ (n : ℕ). TypeStands c.args.sections.now n p.ret) (sym c.proto_return.ensures) c.requires.row.1.ret)
+
+pub mark_list-requires-clause-marks : goal.mark_list-requires-clause-marks
+mark_list-requires-clause-marks c =
+    let b = c.args.sections.now in
+    let p = c.requires.row.0 in
+    let s = c.requires.marks.0 in
+    let text = subst (λ (n : ℕ). StringStands b n (shorty p)) (sym c.proto_shorty.ensures) c.requires.row.1.shorty in
+    let ret = subst (λ (n : ℕ). TypeStands b n p.ret) (sym c.proto_return.ensures) c.requires.row.1.ret in
+    (with_name (with_name s (OfText (shorty p))) (OfDesc p.ret), c.mark_type.ensures p.ret ret (with_name s (OfText (shorty p))) (c.mark_string.ensures b (shorty p) text s c.requires.marks.1))
+
+pub mark_list-requires-clause-list : goal.mark_list-requires-clause-list
+mark_list-requires-clause-list c =
+    let p = c.requires.row.0 in
+    (p.params, subst (λ (n : ℕ). TypesAt c.args.sections.now n p.params) (sym c.proto_parameters.ensures) c.requires.row.1.params)
+
+pub mark-requires : goal.mark-requires
+mark-requires c =
+    let b = c.args.sections.now in
+    let p = c.requires.row.0 in
+    let st = c.requires.row.1 in
+    let s = c.requires.marks.0 in
+    let text = subst (λ (n : ℕ). StringStands b n (shorty p)) (sym c.proto_shorty.ensures) st.shorty in
+    let ret = subst (λ (n : ℕ). TypeStands b n p.ret) (sym c.proto_return.ensures) st.ret in
+    let params = subst (λ (n : ℕ). TypesAt b n p.params) (sym c.proto_parameters.ensures) st.params in
+    let one = c.mark_type.ensures p.ret ret (with_name s (OfText (shorty p))) (c.mark_string.ensures b (shorty p) text s c.requires.marks.1) in
+    let a = c.in_ok-mark_list.ensures.marked p.params params (with_name (with_name s (OfText (shorty p))) (OfDesc p.ret)) one in
+    within _ _ c.mark_list.new.self.columns.protos c.args.index (c.deref_mut.ensures.value ∙ ap (λ (m : Marked). m.columns.protos) c.self-2.view_is) a.protos.shape.long st.row
+
+pub returns-clause-marked : goal.returns-clause-marked
+returns-clause-marked c = λ p st s a.
+    let b = c.args.sections.now in
+    let text = subst (λ (n : ℕ). StringStands b n (shorty p)) (sym c.proto_shorty.ensures) st.shorty in
+    let ret = subst (λ (n : ℕ). TypeStands b n p.ret) (sym c.proto_return.ensures) st.ret in
+    let params = subst (λ (n : ℕ). TypesAt b n p.params) (sym c.proto_parameters.ensures) st.params in
+    let one = c.mark_type.ensures p.ret ret (with_name s (OfText (shorty p))) (c.mark_string.ensures b (shorty p) text s a) in
+    let two = c.in_ok-mark_list.ensures.marked p.params params (with_name (with_name s (OfText (shorty p))) (OfDesc p.ret)) one in
+    proto_marked b _ s c.args.index p _ (set_back c.self-2.inside.protos.len c.self-2.inside.protos.items c.mark.new.rows _ c.args.index c.self-2.inside.protos.ok.0 c.deref_mut.ensures.value c.mark.ensures) a.rise st
+    (subst (λ (m : Marked). AreMarks b m (with_names (with_name (with_name s (OfText (shorty p))) (OfDesc p.ret)) (map OfDesc p.params))) (sym c.self-2.view_is) two)

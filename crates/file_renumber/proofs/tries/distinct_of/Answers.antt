@@ -1,0 +1,38 @@
+use Rattle.std.proofs.Common.{◌≡◌, ◌∙◌, ℕ, List, ap, length, replicate, subst, sym, arith}
+use Rattle.std.proofs.lemmas.Result.{IfOk-weaker}
+use Rattle.tables_rows.specs.Stands.{NameStands}
+use Rattle.code_read.specs.Places.{Rises}
+use Rattle.file_renumber.specs.Fronts.{AreListed}
+use Rattle.file_renumber.proofs.ListLemmas.{list_of_tries}
+use Rattle.file_renumber.proofs.tries.distinct_of.Goals as goal
+
+pub list_at-requires-clause-list : goal.list_at-requires-clause-list
+list_at-requires-clause-list c =
+    let I = c.args.item.now in
+    let x = c.requires.tries in
+    (x.file, x.starts, _, _, list_of_tries (NameStands x.file) x.starts I.size I.tries I.items.now I.list.now x.tries c.requires.some x.read)
+
+pub number_each-requires-clause-rises : goal.number_each-requires-clause-rises
+number_each-requires-clause-rises c = subst Rises (sym c.deref.ensures.value) c.in_ok-list.list.rise
+
+pub number_each-requires-clause-none : goal.number_each-requires-clause-none
+number_each-requires-clause-none c =
+    let v = ap length c.deref.ensures.value in
+    let n : c.len.result ≡ length c.deref.result.now = omega (arith, v) in
+    c.deref_mut.ensures.value ∙ c.in_ok-known.ensures.ok ∙ ap (λ (m : ℕ). replicate {A = ℕ} m 0) n
+
+pub number_each-requires-clause-tries : goal.number_each-requires-clause-tries
+number_each-requires-clause-tries c =
+    let I = c.args.item.now in
+    let x = c.requires.tries in
+    let l = c.in_ok-list.ensures.ok x.file x.starts _ _ (list_of_tries (NameStands x.file) x.starts I.size I.tries I.items.now I.list.now x.tries c.requires.some x.read) in
+    record { all = x; catches = c.in_ok-list.list.catches.items; listed = subst (λ (os : List ℕ). AreListed x.read.tries.handlers os c.in_ok-list.list.catches.items) (sym c.deref.ensures.value) l }
+
+pub returns-clause-ok : goal.returns-clause-ok
+returns-clause-ok c =
+    let I = c.args.item.now in
+    IfOk-weaker c.number_each.result _ _
+    (λ d f x.
+    let l = c.in_ok-list.ensures.ok x.file x.starts _ _ (list_of_tries (NameStands x.file) x.starts I.size I.tries I.items.now I.list.now x.tries c.requires.some x.read) in
+    f (record { all = x; catches = c.in_ok-list.list.catches.items; listed = subst (λ (os : List ℕ). AreListed x.read.tries.handlers os c.in_ok-list.list.catches.items) (sym c.deref.ensures.value) l }))
+    c.number_each.ensures.ok

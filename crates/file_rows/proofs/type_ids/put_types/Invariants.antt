@@ -1,8 +1,0 @@
-use Rattle.std.proofs.Common.{map, take}
-use Rattle.base_bytes.specs.Grammar.{Appends, Each}
-use Rattle.file_parts.specs.Rows.{SpellsTypeRow}
-use Rattle.file_rows.proofs.PartLaws.{type_of}
-use Rattle.file_rows.proofs.type_ids.put_types.Given as goal
-
-abbrev pub invariant-loop-ty : goal.invariant-loop-ty
-invariant-loop-ty l = Appends (Each (SpellsTypeRow l.ranks)) l.fn.rows.items l.rows.items (map type_of (take l.ty-index l.ranks.types))

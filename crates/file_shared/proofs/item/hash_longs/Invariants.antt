@@ -1,7 +1,0 @@
-use Rattle.std.proofs.Common.{◌≡◌}
-use Rattle.std.specs.List.{fold}
-use Rattle.file_shared.specs.Hashing.{longs}
-use Rattle.file_shared.proofs.item.hash_longs.Given as goal
-
-abbrev pub invariant-loop-k : goal.invariant-loop-k
-invariant-loop-k g l = l.state ≡ fold g.H.Hasher.write l.initial.state (longs l.bytes l.k)

@@ -1,0 +1,202 @@
+//! Code items ("code_item", "encoded_method": code_off).
+ghost use Rattle.std.specs.Prelude.{◌≡◌, ◌≢◌, ℕ, ◌+◌, ◌<◌, ◌^◌, ◌++◌, List, Option, IfErr, IfOk, OnOk, IsOkUnless, length, map};
+ghost use Rattle.dex_base.specs.Fault.{memory};
+ghost use Rattle.dex_container.specs.Layout.{size_of};
+ghost use Rattle.dex_container.specs.Section as section;
+ghost use Rattle.dex_container.specs.Where.{IsSectionOf};
+ghost use Rattle.file_layout.specs.Sections.{wide_all, Laid};
+ghost use Rattle.file_layout.specs.Tiles.{AreShared};
+ghost use Rattle.file_limits.specs.Limits.{ClassBreaksLimit, IsFirstToBreak};
+ghost use Rattle.file_limits.specs.Wide.{body_values, wide_body};
+ghost use Rattle.file_assemble.specs.Codes.{PacksBody, WritesBody, is_bodiless};
+ghost use Rattle.file_layout.specs.Sharing.{UsesItem};
+ghost use Rattle.program_types.specs.Content as content;
+ghost use Rattle.program_types.specs.Content.{Program};
+ghost use Rattle.tables_names.specs.Closure.{AreRising, Five, NameRanks};
+ghost use Rattle.tables_names.specs.Needed.{needed};
+ghost use Rattle.file_renumber.specs.Marked.{Columns};
+ghost use Rattle.file_strip.specs.Bodies.{AreFirstBodies, AreNear, AreOwned, IsCarriedBody, IsCarriedSome, IsFar, IsFirstFar, WritesCarried, bodies_alone, body_of, numbered};
+ghost use Rattle.file_strip.specs.Keeping.{Keeps};
+ghost use Rattle.file_strip.specs.Moved.{AreMoved};
+
+use crate::moved::Moved;
+use dex_base::{Fault, are_bytes, fault};
+use dex_container::{Section, Sections, kind, section_of};
+use file_assemble::Placed;
+use file_classes::{MethodEntry, class_count, class_word, entries_at, word};
+use file_renumber::{Numbers, renumber_code};
+use std::alloc::Global;
+
+/// Where the body of a method stands, 0 for none, and the number of the method's class.
+#[derive(Clone, Copy)]
+struct Body {
+    class: u32,
+    code: u32,
+}
+
+/// The bytes of a body; where a handler is too far the place of the refusal is the class.
+fn renumber_body(
+    alloc: Global,
+    numbers: &Numbers,
+    sections: &Sections<'_>,
+    codes: Section,
+    body: Body,
+) -> Result<Vec<u8>, Fault>
+    requires codes { IsSectionOf sections.now 0x2001 codes }
+    requires body { (s : Five) × (v : Option content.Code) × IsCarriedSome sections.now numbers.now s body.code v }
+    ensures ok { IfOk result (λ bytes. WritesCarried sections.now numbers.now body.code bytes.items) }
+    ensures far { IfErr result (λ e. e ≢ memory → (e ≡ record { code = 89; place = body.class })
+        × ((s : Five) (v : Option content.Code) → IsCarriedSome sections.now numbers.now s body.code v → IsFar s v)) }
+{
+    match renumber_code(alloc, numbers, sections, codes, body.code) {
+        Ok(bytes) => {
+            are_bytes(&bytes);
+            Ok(bytes)
+        }
+        Err(fault) => {
+            if fault.code == fault::HANDLER_TOO_FAR {
+                return Err(Fault::at(fault::HANDLER_TOO_FAR, u64::from(body.class)));
+            }
+            Err(fault)
+        }
+    }
+}
+
+/// The byte at which the body stands that stood at an offset, 4-aligned, to which it is appended unless an equal one
+/// stands already; 0 where there is none.
+fn add_body(
+    alloc: Global,
+    out: &mut Vec<u8>,
+    moved: &mut Moved,
+    numbers: &Numbers,
+    sections: &Sections<'_>,
+    codes: Section,
+    body: Body,
+) -> Result<u32, Fault>
+    requires codes { IsSectionOf sections.now 0x2001 codes }
+    requires body { (s : Five) × (v : Option content.Code) × IsCarriedBody sections.now numbers.now s body.code v × (length out.old.items + wide_body v < 2 ^ 32) }
+    requires moved { AreMoved (WritesCarried sections.now numbers.now) moved.old.items moved.old.places }
+    ensures ok { IfOk result (λ place. (s : Five) (v : Option content.Code) → IsCarriedBody sections.now numbers.now s body.code v
+        → UsesItem is_bodiless (WritesBody s) 4 moved.old.items moved.new.items out.old.items out.new.items v place) }
+    ensures moved { OnOk result (AreMoved (WritesCarried sections.now numbers.now) moved.new.items moved.new.places) }
+    ensures far { IfErr result (λ e. e ≢ memory → (e ≡ record { code = 89; place = body.class })
+        × ((s : Five) (v : Option content.Code) → IsCarriedBody sections.now numbers.now s body.code v → IsFar s v)) }
+{
+    if body.code == 0 {
+        return Ok(0);
+    }
+    if let Some(place) = moved.find(body.code) {
+        return Ok(place);
+    }
+    let bytes = renumber_body(alloc, numbers, sections, codes, body)?;
+    Ok(moved.put_aligned(out, body.code, bytes)?)
+}
+
+/// Appends the codes of these bodies.
+fn place_bodies(
+    alloc: Global,
+    out: &mut Vec<u8>,
+    numbers: &Numbers,
+    sections: &Sections<'_>,
+    bodies: &[Body],
+) -> Result<Placed, Fault>
+    requires front { 0 < length out.old.items }
+    requires bodies { (s : Five) × (xs : List (ℕ × Option content.Code)) × AreOwned sections.now numbers.now s bodies.now xs × (length out.old.items + wide_all wide_body (bodies_alone xs) < 2 ^ 32) }
+    ensures ok { IfOk result (λ r. (s : Five) (xs : List (ℕ × Option content.Code)) → AreOwned sections.now numbers.now s bodies.now xs
+        → Laid is_bodiless (PacksBody (NameRanks s)) 4 wide_body out.old.items out.new.items (bodies_alone xs) r.places.items r.items) }
+    ensures once { IfOk result (λ r. (s : Five) (xs : List (ℕ × Option content.Code)) → AreRising s → AreOwned sections.now numbers.now s bodies.now xs → AreShared r.places.items (bodies_alone xs)) }
+    ensures near { OnOk result ((s : Five) (xs : List (ℕ × Option content.Code)) → AreOwned sections.now numbers.now s bodies.now xs → AreNear s xs) }
+    ensures far { IfErr result (λ e. e ≢ memory → (e.code ≡ 89)
+        × ((s : Five) (xs : List (ℕ × Option content.Code)) → AreOwned sections.now numbers.now s bodies.now xs → IsFirstFar s xs e.place)) }
+{
+    let codes = section_of(sections, kind::CODE_ITEM);
+    let mut moved = Moved::new(alloc, numbers.seed());
+    let mut places = Vec::new(alloc);
+    for body in bodies {
+        let place = add_body(alloc, out, &mut moved, numbers, sections, codes, *body)?;
+        places.push(place)?;
+    }
+    Ok(Placed {
+        places,
+        items: moved.items.count(),
+    })
+}
+
+/// Appends the bodies of the methods of these entries, of the class with this number.
+fn push_bodies(bodies: &mut Vec<Body>, class: u32, entries: &[MethodEntry]) -> Result<(), Fault>
+    ensures ok { OnOk result (bodies.new.items ≡ bodies.old.items ++ map (body_of class) entries.now) }
+    ensures memory { IsOkUnless result memory }
+{
+    for entry in entries {
+        bodies.push(Body {
+            class,
+            code: entry.code,
+        })?;
+    }
+    Ok(())
+}
+
+/// Appends the bodies of the methods of row i, the direct ones, then the virtual ones.
+fn push_class(
+    alloc: Global,
+    bodies: &mut Vec<Body>,
+    sections: &Sections<'_>,
+    i: u32,
+) -> Result<(), Fault>
+    requires kept { (numbers : Columns) × (p : Program) × Keeps sections.now numbers p }
+    requires row { i < size_of sections.now section.class_defs }
+    ensures ok { OnOk result ((numbers : Columns) (p : Program) → Keeps sections.now numbers p → wide_all wide_body (body_values p) < 2 ^ 32
+        → AreFirstBodies sections.now numbers p i bodies.old.items → AreFirstBodies sections.now numbers p (i + 1) bodies.new.items) }
+    ensures memory { IsOkUnless result memory }
+{
+    are_bytes(sections.bytes());
+    let data = class_word(sections, i, word::CLASS_DATA_OFF);
+    let Some(all) = entries_at(alloc, sections, data)? else {
+        unreachable!()
+    };
+    push_bodies(bodies, i, &all.directs)?;
+    Ok(push_bodies(bodies, i, &all.virtuals)?)
+}
+
+/// The bodies of all methods: by class, direct methods, then virtual ones.
+fn all_bodies(alloc: Global, sections: &Sections<'_>) -> Result<Vec<Body>, Fault>
+    requires kept { (numbers : Columns) × (p : Program) × Keeps sections.now numbers p }
+    ensures ok { IfOk result (λ bodies. (numbers : Columns) (p : Program) → Keeps sections.now numbers p → wide_all wide_body (body_values p) < 2 ^ 32
+        → AreOwned sections.now numbers (needed p) bodies.items (numbered 0 p)) }
+    ensures memory { IsOkUnless result memory }
+{
+    let mut bodies = Vec::new(alloc);
+    for i in 0..class_count(sections) {
+        push_class(alloc, &mut bodies, sections, i)?;
+    }
+    Ok(bodies)
+}
+
+/// Appends the bodies of all methods, each 4-aligned: by class, direct methods, then virtual ones. It answers the place
+/// of each method's body, 0 for a method without one. A body that several methods refer to is looked at once, and equal
+/// ones stand once.
+///
+/// Refused with 89 at the number of the first class of which a handler begins too far after its list's begin, and else
+/// only when out of memory.
+///
+/// ```
+/// let codes = put_codes(alloc, &mut out, &numbers, &sections)?;
+/// ```
+pub(crate) fn put_codes(
+    alloc: Global,
+    out: &mut Vec<u8>,
+    numbers: &Numbers,
+    sections: &Sections<'_>,
+) -> Result<Placed, Fault>
+    requires front { 0 < length out.old.items }
+    requires kept { (p : Program) × Keeps sections.now numbers.now p × (length out.old.items + wide_all wide_body (body_values p) < 2 ^ 32) }
+    ensures ok { IfOk result (λ r. (p : Program) → Keeps sections.now numbers.now p
+        → Laid is_bodiless (PacksBody (NameRanks (needed p))) 4 wide_body out.old.items out.new.items (body_values p) r.places.items r.items) }
+    ensures once { IfOk result (λ r. (p : Program) → Keeps sections.now numbers.now p → AreShared r.places.items (body_values p)) }
+    ensures near { OnOk result ((p : Program) → Keeps sections.now numbers.now p → (i : ℕ) → ¬ ClassBreaksLimit (NameRanks (needed p)) 89 p i) }
+    ensures far { IfErr result (λ e. e ≢ memory → (e.code ≡ 89)
+        × ((p : Program) → Keeps sections.now numbers.now p → IsFirstToBreak (NameRanks (needed p)) 89 p e.place)) }
+{
+    let bodies = all_bodies(alloc, sections)?;
+    Ok(place_bodies(alloc, out, numbers, sections, &bodies)?)
+}

@@ -1,0 +1,16 @@
+//! The law of the lines of a text. It has no code: it says of the definitions what its contract says.
+
+ghost use Rattle.std.specs.Prelude.{◌≡◌, ◌↔◌, ℕ, true, false, List};
+ghost use Rattle.listing_lines.specs.declared.form.Form.{Form};
+ghost use Rattle.listing_lines.specs.Places.{is_start};
+ghost use Rattle.listing_parse.specs.States.{State, stage_of};
+ghost use Rattle.listing_parse.specs.Reads.{AreRead, SayRun};
+ghost use Rattle.listing_parse.specs.Runs.{is_outside};
+
+/// In a text of either form, after its first line and outside of codes, as after a method, lines are read to where no code
+/// is open exactly if they say lines of a program that lead there, in codes with their labels, whether a target is late or
+/// not.
+pub fn lines_are_read_as_they_say()
+    ensures { (form : Form) (s t : State) (ls : List (List ℕ)) → is_start (stage_of s.block) ≡ false
+        → is_outside s.block ≡ true → is_outside t.block ≡ true → AreRead form s ls t ↔ SayRun form s ls t }
+{}

@@ -1,5 +1,0 @@
-use Rattle.listing_shapes.proofs.ShapeLaws.{bare_one}
-use Rattle.listing_shapes.proofs.laws.words_have_one_bare_shape.Goals as goal
-
-pub returns : goal.returns
-returns c = bare_one

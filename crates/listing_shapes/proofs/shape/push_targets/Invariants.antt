@@ -1,7 +1,0 @@
-use Rattle.std.proofs.Common.{◌≡◌, ◌++◌}
-use Rattle.std.specs.Prelude.{replicate}
-use Rattle.listing_shapes.specs.Shapes.{target}
-use Rattle.listing_shapes.proofs.shape.push_targets.Given as goal
-
-abbrev pub invariant-loop-turn : goal.invariant-loop-turn
-invariant-loop-turn l = l.slots.items ≡ l.fn.slots.items ++ replicate l._turn target

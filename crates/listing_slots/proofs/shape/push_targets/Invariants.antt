@@ -1,0 +1,7 @@
+use Rattle.std.proofs.Common.{◌≡◌, ◌++◌}
+use Rattle.std.specs.Prelude.{replicate}
+use Rattle.listing_slots.specs.Shapes.{target}
+use Rattle.listing_slots.proofs.shape.push_targets.Given as goal
+
+abbrev pub invariant-loop-turn : goal.invariant-loop-turn
+invariant-loop-turn l = l.slots.items ≡ l.fn.slots.items ++ replicate l._turn target

@@ -1,8 +1,0 @@
-use Rattle.tables_laws.proofs.NoFault as law
-use Rattle.tables_laws.proofs.tables_hold_without_fault.Goals as goal
-
-pub returns-clause-hold : goal.returns-clause-hold
-returns-clause-hold c = law.without_fault
-
-pub returns-clause-clear : goal.returns-clause-clear
-returns-clause-clear c = law.with_tables

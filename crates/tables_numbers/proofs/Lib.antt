@@ -1,3 +1,0 @@
-pub mod ColumnLemmas
-pub mod MarkLemmas
-pub mod RankLemmas

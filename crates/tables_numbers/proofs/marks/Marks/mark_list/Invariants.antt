@@ -1,8 +1,0 @@
-use Rattle.std.proofs.Common.{List, map, take}
-use Rattle.program_types.specs.Content.{Units, OfDesc}
-use Rattle.tables_rows.specs.Stands.{TypesAt}
-use Rattle.tables_numbers.specs.Marked.{AddsNames}
-use Rattle.tables_numbers.proofs.marks.Marks.mark_list.Given as goal
-
-abbrev pub invariant-loop-j : goal.invariant-loop-j
-invariant-loop-j l = (ts : List Units) → TypesAt l.sections l.off ts → AddsNames l.sections l.fn.self l.self (map OfDesc (take l.j ts))

@@ -1,4 +1,0 @@
-pub mod FrontLemmas
-pub mod NameLemmas
-pub mod MarkLemmas
-pub mod CarryLemmas
