@@ -1,26 +1,25 @@
 -- Names in the order of first need, or sorted, as a set of keys. `key`, `cmp` and `eq` are those of any kind of names.
-use Rattle.std.proofs.Common.{◌≡◌, ℕ, ◌+◌, ◌<◌, Bool, true, false, cond, ◌||◌, List, [], ◌∷◌, ◌++◌, map, length, get_or, refl, sym, ap, ◌∙◌, arith, if◌then◌else◌, Option, Some, None, Result, Ok, Err, MatchResult, subst, option_map, inl, inr, true≢false}
+use Rattle.std.proofs.Common.{◌≡◌, ℕ, ◌+◌, ◌<◌, Bool, true, false, ◌||◌, List, [], ◌∷◌, ◌++◌, map, length, get_or, refl, sym, ap, ◌∙◌, arith, if◌then◌else◌, Option, Some, None, is_some, Result, Ok, Err, MatchResult, subst, IfSome, IfNone, slice_get, option_map, inl, inr, true≢false}
 use Rattle.std.specs.declared.cmp.Ordering.{Ordering}
 use Rattle.std.specs.declared.cmp.Ordering.TheVariants.{Less, Greater}
 use Rattle.std.specs.Ordering.{is_eq, is_lt, eq_by_cmp, ordering_reverse}
-use Rattle.std.specs.Cmp.{IsEquivalence, Equal-is, eq_by_cmp_equiv, tied_itself}
-use Rattle.std.specs.Option.{SomeIff, MatchOption}
+use Rattle.std.specs.Cmp.{Equal-is, tied_itself}
+use Rattle.std.specs.Option.{SomeIff}
 use Rattle.std.specs.Result.{OkIff, result_ok}
-use Rattle.std.specs.List.{list_any, IsDistinct, AllWithin}
+use Rattle.std.specs.List.{list_any, position, IsDistinct, AllWithin}
 use Rattle.std.specs.List.Sorted.{IsSorted, IsSortedBy, IsPermutation, IsBinarySearchResult, IsSearchInRange}
 use Rattle.std.proofs.lemmas.List.{length-map, get_or-map, map-append}
-use Rattle.std.proofs.lemmas.List.Folds.{list_any_at, list_any-append}
+use Rattle.std.proofs.lemmas.List.Folds.{list_any_at}
+use Rattle.std.proofs.lemmas.List.Quantifiers.{position-Some}
 use Rattle.std.proofs.lemmas.List.Sorted.{list_any-IsPermutation, IsPermutation-map, searchable_from_sorted}
-use Rattle.std.proofs.lemmas.Map.Keys.{sorted_from_all_adjacent, apart_from_distinct, Less-from_sorted, IsDistinct-push}
+use Rattle.std.proofs.lemmas.Map.Keys.{sorted_from_all_adjacent, apart_from_distinct, Less-from_sorted}
+use Rattle.indexmap.specs.IndexSet.{insert_key as insert_last}
 use Rattle.program_types.specs.Key.{Key, key_cmp}
 use Rattle.program_types.specs.KeyLaws.{key_cmp-total, key_cmp-same}
-use Rattle.std.proofs.lemmas.Option.{slice_get-map, slice_get_within, get_or_from_slice_get}
+use Rattle.std.proofs.lemmas.Option.{slice_get-map, slice_get-get_or, slice_get_within, get_or_from_slice_get}
 use Rattle.std.proofs.lemmas.Bool.{cases_order}
 use Rattle.tables_names.specs.Rank.{Rising, is_member, rank_of, add_all, IsAt}
-use Rattle.tables_names.specs.Numbers.{with_last, NumbersSet, NumbersTable, RanksNames}
-use Rattle.tables_names.proofs.NumberLemmas.{member_of_set, rank_there}
-use Rattle.dex_base.proofs.ListFacts.{get_last, slice_left}
-use Rattle.tables_names.proofs.PlaceLemmas.{member_at}
+use Rattle.tables_names.specs.Numbers.{with_last}
 use Rattle.tables_names.proofs.RisingLemmas.{less_of, same_rising, rank-at, not_member}
 use Rattle.tables_names.proofs.UnionLemmas.{rising-add_all, is_member-add_all, rising-none}
 
@@ -29,72 +28,29 @@ module _ {N : Type 0} (key : N → Key) (eq : N → N → Bool) (by_key : (x y :
   any_keys [] x = refl
   any_keys (y ∷ ys) x = λ i. by_key x y i || any_keys ys x i
 
-  -- equal names have one key
-  one_key : (x y : N) → eq x y ≡ true → key x ≡ key y
-  one_key x y e = key_cmp-same (key x) (key y) ((Equal-is (key_cmp (key x) (key y))).0 (sym (by_key x y) ∙ e))
-
-  -- others have two
-  two_keys : (x y : N) → eq x y ≡ false → eq_by_cmp key_cmp (key y) (key x) ≡ false
-  two_keys x y e = (eq_by_cmp_equiv key_cmp-total).symm (key y) (key x) ∙ sym (by_key x y) ∙ e
-
-  -- what is there once more, with its number, changes nothing
-  module _ (number new : N → Option ℕ) (xs : List N) (x : N) (v : ℕ) where
-    pub there : number x ≡ Some v → NumbersSet key eq number xs → IsAt (map key xs) v (key x)
-    there at set = subst (λ (r : Option ℕ). MatchOption r (is_member (map key xs) (key x) ≡ false) (λ n. IsAt (map key xs) n (key x))) at (set.each x)
-
-    pub again : number x ≡ Some v → ((y : N) → new y ≡ cond (eq x y) (Some v) (number y)) → NumbersSet key eq number xs → NumbersSet key eq new xs
-    again at writes set = record {
-      each = λ y. subst (λ (r : Option ℕ). MatchOption r (is_member (map key xs) (key y) ≡ false) (λ n. IsAt (map key xs) n (key y))) (sym (writes y)) (by y (eq x y) refl);
-      distinct = set.distinct;
-    }
-      where
-        by : (y : N) (b : Bool) → eq x y ≡ b → MatchOption (cond b (Some v) (number y)) (is_member (map key xs) (key y) ≡ false) (λ n. IsAt (map key xs) n (key y))
-        by y true e = subst (λ (k : Key). IsAt (map key xs) v k) (one_key x y e) (there at set)
-        by y false e = set.each y
-
-    pub same_names : number x ≡ Some v → NumbersSet key eq number xs → map key xs ≡ with_last (map key xs) (key x)
-    same_names at set = sym (ap (λ (b : Bool). if b then map key xs else map key xs ++ key x ∷ []) (member_at (map key xs) v (key x) (there at set)))
-
-  -- what isn't goes last
-  module _ (number new : N → Option ℕ) (xs : List N) (x : N) where
-    pub absent : number x ≡ None → NumbersSet key eq number xs → is_member (map key xs) (key x) ≡ false
-    absent none set = subst (λ (r : Option ℕ). MatchOption r (is_member (map key xs) (key x) ≡ false) (λ n. IsAt (map key xs) n (key x))) none (set.each x)
-
-    pub last : IsAt (map key (xs ++ x ∷ [])) (length xs) (key x)
-    last = slice_get-map key (xs ++ x ∷ []) (length xs) ∙ ap (option_map key) (get_last xs x)
-
-    pub one_more : IsEquivalence eq → number x ≡ None → ((y : N) → new y ≡ cond (eq x y) (Some (length xs)) (number y)) → NumbersSet key eq number xs → NumbersSet key eq new (xs ++ x ∷ [])
-    one_more laws none writes set = record {
-      each = λ y. subst (λ (r : Option ℕ). Answers y r) (sym (writes y)) (by y (eq x y) refl);
-      distinct = IsDistinct-push laws xs x set.distinct (any_keys xs x ∙ absent none set);
-    }
-      where
-        Answers : N → Option ℕ → Type 0
-        Answers y r = MatchOption r (is_member (map key (xs ++ x ∷ [])) (key y) ≡ false) (λ n. IsAt (map key (xs ++ x ∷ [])) n (key y))
-
-        other : (y : N) → eq x y ≡ false → (r : Option ℕ) → MatchOption r (is_member (map key xs) (key y) ≡ false) (λ n. IsAt (map key xs) n (key y)) → Answers y r
-        other y e None is =
-            ap (λ (l : List Key). is_member l (key y)) (map-append key xs (x ∷ [])) ∙ list_any-append (eq_by_cmp key_cmp (key y)) (map key xs) (key x ∷ [])
-            ∙ (λ i. is i || (two_keys x y e i || false))
-        other y e (Some n) is = subst (λ (l : List Key). IsAt l n (key y)) (sym (map-append key xs (x ∷ []))) (slice_left (map key xs) (key x ∷ []) n (key y) is)
-
-        by : (y : N) (b : Bool) → eq x y ≡ b → Answers y (cond b (Some (length xs)) (number y))
-        by y true e = subst (λ (k : Key). IsAt (map key (xs ++ x ∷ [])) (length xs) k) (one_key x y e) last
-        by y false e = other y e (number y) (set.each y)
-
-    pub more_names : number x ≡ None → NumbersSet key eq number xs → map key (xs ++ x ∷ []) ≡ with_last (map key xs) (key x)
-    more_names none set = map-append key xs (x ∷ []) ∙ sym (ap (λ (b : Bool). if b then map key xs else map key xs ++ key x ∷ []) (absent none set))
-
-  -- the numbers of names lead to their ranks
-  pub to_ranks : (number : N → Option ℕ) (xs : List N) (table : List Key) (ranks : List ℕ) → NumbersSet key eq number xs → RanksNames (map key xs) table ranks → NumbersTable key number table ranks
-  to_ranks number xs table ranks set ranked = record {
-    each = λ y. by y (number y) (set.each y);
-    rises = subst Rising (sym ranked.same) (rising-add_all [] (map key xs) rising-none);
-  }
+  -- a name that goes last, if no equal one is there
+  pub keys-insert_last : (xs : List N) (x : N) → map key (insert_last eq xs x) ≡ with_last (map key xs) (key x)
+  keys-insert_last xs x = by (list_any (eq x) xs) ∙ (λ i. if any_keys xs x i then map key xs else map key xs ++ key x ∷ [])
     where
-      by : (y : N) (r : Option ℕ) → MatchOption r (is_member (map key xs) (key y) ≡ false) (λ n. IsAt (map key xs) n (key y)) → MatchOption r (is_member table (key y) ≡ false) (λ n. (n < length ranks) × IsAt table (get_or ranks n 0) (key y))
-      by y None none = ap (λ l. is_member l (key y)) ranked.same ∙ member_of_set (map key xs) (key y) ∙ none
-      by y (Some n) at = rank_there (map key xs) table ranks n (key y) ranked.each at
+      by : (b : Bool) → map key (if b then xs else xs ++ x ∷ []) ≡ (if b then map key xs else map key xs ++ key x ∷ [])
+      by true = refl
+      by false = map-append key xs (x ∷ [])
+
+  -- an equal name has the same key
+  pub stored_at : (xs : List N) (x : N) (i : ℕ) → (y : N) × (slice_get xs i ≡ Some y) × (eq x y ≡ true) → IsAt (map key xs) i (key x)
+  stored_at xs x i s =
+      let same : key x ≡ key s.0 = key_cmp-same (key x) (key s.0) ((Equal-is (key_cmp (key x) (key s.0))).0 (sym (by_key x s.0) ∙ s.2)) in
+      slice_get-map key xs i ∙ ap (option_map key) s.1 ∙ ap Some (sym same)
+
+  -- what a look-up finds
+  pub found_at : (xs : List N) (x : N) (r : Option ℕ) → r ≡ position (eq x) xs → IfSome r (λ n. IsAt (map key xs) n (key x))
+  found_at xs x None at = tt
+  found_at xs x (Some i) at =
+      let here = position-Some (eq x) xs i x (sym at) in stored_at xs x i (get_or xs i x, slice_get-get_or xs i x here.0, here.1)
+
+  pub none_there : (xs : List N) (x : N) (r : Option ℕ) → is_some r ≡ list_any (eq x) xs → IfNone r (is_member (map key xs) (key x) ≡ false)
+  none_there xs x None found = sym (found ∙ any_keys xs x)
+  none_there xs x (Some i) found = tt
 
   -- after a sort the keys rise
   pub sorted_keys : (cmp : N → N → Ordering) → ((x y : N) → cmp x y ≡ key_cmp (key x) (key y)) → (ys : List N) → IsDistinct eq ys → IsSorted cmp ys → Rising (map key ys)

@@ -1,11 +1,10 @@
 -- Names in the order of first need, where each has a number, its place, and beside each the places of its parts: the row of
 -- a table, but by places in these lists. In sorted lists the places are ranks, and these are the rows of the tables.
 -- Page: "Dalvik Executable format": type_id_item, proto_id_item, field_id_item and method_id_item name their parts by index.
-use Rattle.std.specs.Prelude.{◌≡◌, ℕ, ◌<◌, Bool, false, List, [], ◌∷◌, ◌++◌, if◌then◌else◌, length, map, slice_index, Option}
-use Rattle.std.specs.List.{AllZip, IsDistinct}
-use Rattle.std.specs.Option.{MatchOption}
+use Rattle.std.specs.Prelude.{◌≡◌, ℕ, ◌<◌, List, [], ◌∷◌, ◌++◌, if◌then◌else◌, length, slice_index}
+use Rattle.std.specs.List.{AllZip}
 use Rattle.program_types.specs.Key.{Key, text_key}
-use Rattle.tables_names.specs.Rank.{Rising, is_member, add_all, IsAt}
+use Rattle.tables_names.specs.Rank.{is_member, add_all, IsAt}
 use Rattle.tables_names.specs.Closure.{Five, IsClosed}
 use Rattle.tables_names.specs.declared.parts.TypeParts.{TypeParts}
 use Rattle.tables_names.specs.declared.parts.ProtoParts.{ProtoParts}
@@ -98,18 +97,6 @@ RanksOf names table ranks = AllZip (λ k rank. IsAt table rank k) names ranks
 pub record RanksNames (names table : List Key) (ranks : List ℕ) : Type 0 where
   pub same : table ≡ set_of names
   pub each : RanksOf names table ranks
-
--- ---- what a look-up by a name answers
-
--- of a name that is one of these, which differ, its number, the place where it stands; of another name nothing
-pub record NumbersSet {N : Type 0} (key : N → Key) (eq : N → N → Bool) (number : N → Option ℕ) (names : List N) : Type 0 where
-  pub each : (name : N) → MatchOption (number name) (is_member (map key names) (key name) ≡ false) (λ n. IsAt (map key names) n (key name))
-  pub distinct : IsDistinct eq names
-
--- of a name that is in the table its number, at which its rank stands; of another name nothing
-pub record NumbersTable {N : Type 0} (key : N → Key) (number : N → Option ℕ) (table : List Key) (ranks : List ℕ) : Type 0 where
-  pub each : (name : N) → MatchOption (number name) (is_member table (key name) ≡ false) (λ n. (n < length ranks) × IsAt table (slice_index ranks n) (key name))
-  pub rises : Rising table
 
 -- the ranks of the parts of a field
 abbrev pub field_ranks : List ℕ → List ℕ → FieldParts → FieldParts

@@ -1,5 +1,5 @@
-//! The names of one kind that are needed, in the order of first need, and a hashed map of their numbers; once no name is added, beside
-//! the map the names in the order of their ranks. The map is never made anew.
+//! The names of one kind that are needed: a hashed set in the order of first need, and, once no name is added, beside it the
+//! names in the order of their ranks. The set is never hashed a second time.
 ghost use Rattle.std.specs.Prelude.{◌≡◌, ◌<◌, ◌^◌, ℕ, List, [], ◌∷◌, ◌++◌, map, false, true, OnOk, OnErr, IfOk, IfSome, IfNone, option_map, slice_get};
 ghost use Rattle.std.specs.List.{IsDistinct};
 ghost use Rattle.tables_names.specs.Rank.{Rising, is_member, LookUpAnswers, IsAt};
@@ -8,38 +8,29 @@ ghost use Rattle.tables_names.specs.Numbers.{with_last, RanksNames};
 use crate::row::Row;
 use crate::sorting::names_of;
 use dex_base::Seed;
+use indexmap::IndexSet;
 use std::alloc::{AllocError, Global};
-use std::collections::HashMap;
-use std::collections::hash_map::Entry;
 use std::marker::Model;
 
-/// A set of names, in the order of first need, where the place of a name is its number. It stands for the list of their keys.
+/// A set of names, in the order of first need, where the index of a name is its number. It stands for the list of their keys.
 pub(crate) struct NameSet<N: Row> {
-    numbers: HashMap<N, usize, Seed>,
-    names: Vec<N>,
+    items: IndexSet<N, Seed>,
 }
 
 // Each place where a set is let go is proved: here it is one call, and derived it would be all that the set owns.
 impl<N: Row> Drop for NameSet<N> {
     fn drop(self) {
-        let NameSet {
-            numbers: _,
-            names: _,
-        } = self;
+        let NameSet { items: _ } = self;
     }
 }
 
 impl<N: Row> Model for NameSet<N> {
     ghost use Rattle.std.specs.Prelude.{List, map};
-    ghost use Rattle.std.specs.HashMap.{get};
     ghost use Rattle.program_types.specs.Key.{Key};
-    ghost use Rattle.tables_names.specs.Numbers.{NumbersSet};
 
     ghost Value = { List Key };
 
-    ghost view = { λ h. map N.key h.names.items };
-
-    ghost invariant = { λ h. NumbersSet N.key N.eq (get N.eq h.numbers) h.names.items };
+    ghost view = { λ h. map N.key h.items.keys };
 }
 
 impl<N: Row> NameSet<N> {
@@ -48,8 +39,7 @@ impl<N: Row> NameSet<N> {
         ensures { result ≡ [] }
     {
         NameSet {
-            numbers: HashMap::with_hasher(alloc, seed),
-            names: Vec::new(alloc),
+            items: IndexSet::with_hasher(alloc, seed),
         }
     }
 
@@ -58,7 +48,7 @@ impl<N: Row> NameSet<N> {
         ensures some { IfSome result (λ n. IsAt self.now n (N.key name.now)) }
         ensures none { IfNone result (is_member self.now (N.key name.now) ≡ false) }
     {
-        self.numbers.get(name).copied()
+        self.items.get_index_of(name)
     }
 
     /// Adds a name after the others, if it isn't there yet, and gives its number.
@@ -67,16 +57,8 @@ impl<N: Row> NameSet<N> {
         ensures number { IfOk result (λ n. IsAt self.new n (N.key name)) }
         ensures unchanged { OnErr result (self.new ≡ self.old) }
     {
-        self.names.reserve(1)?;
-        match self.numbers.entry(name)? {
-            Entry::Occupied(entry) => Ok(*entry.into_mut()), // after `get` a proof would not know the map
-            Entry::Vacant(entry) => {
-                let number = self.names.len();
-                entry.insert(number);
-                self.names.push(name)?; // there is room
-                Ok(number)
-            }
-        }
+        let (number, _) = self.items.insert_full(name)?;
+        Ok(number)
     }
 
     /// The names, in the order of first need.
@@ -84,7 +66,7 @@ impl<N: Row> NameSet<N> {
         ensures keys { map N.key result.now ≡ self.now }
         ensures distinct { IsDistinct N.eq result.now }
     {
-        &self.names
+        self.items.as_slice()
     }
 
     /// The same names with their ranks: those of these rows, in their order, and of each, by its number, its rank.
@@ -99,9 +81,9 @@ impl<N: Row> NameSet<N> {
     {
         let names = names_of(alloc, rows)?;
         let ranks = Vec::from_slice(alloc, ranks)?;
-        let NameSet { numbers, names: _ } = self;
+        let NameSet { items } = self;
         Ok(Ranked {
-            numbers,
+            items,
             names,
             ranks,
         })
@@ -150,10 +132,10 @@ pub(crate) struct Table<N: Row, P: Copy> {
     pub(crate) parts: Vec<P>,
 }
 
-/// A set of names that stays: of each its number, the names in the order of their ranks, and of each number the rank. It stands for
-/// the rising list of their keys.
+/// A set of names that stays, in the order of first need, and beside it the names in the order of their ranks and of each, by its
+/// number, its rank. It stands for the rising list of their keys.
 pub(crate) struct Ranked<N: Row> {
-    numbers: HashMap<N, usize, Seed>,
+    items: IndexSet<N, Seed>,
     names: Vec<N>,
     ranks: Vec<usize>,
 }
@@ -161,7 +143,7 @@ pub(crate) struct Ranked<N: Row> {
 impl<N: Row> Drop for Ranked<N> {
     fn drop(self) {
         let Ranked {
-            numbers: _,
+            items: _,
             names: _,
             ranks: _,
         } = self;
@@ -171,14 +153,13 @@ impl<N: Row> Drop for Ranked<N> {
 impl<N: Row> Model for Ranked<N> {
     ghost use Rattle.std.specs.Prelude.{List, map};
     ghost use Rattle.program_types.specs.Key.{Key};
-    ghost use Rattle.std.specs.HashMap.{get};
-    ghost use Rattle.tables_names.specs.Numbers.{NumbersTable};
+    ghost use Rattle.tables_names.specs.Numbers.{RanksNames};
 
     ghost Value = { List Key };
 
     ghost view = { λ h. map N.key h.names.items };
 
-    ghost invariant = { λ h. NumbersTable N.key (get N.eq h.numbers) (map N.key h.names.items) h.ranks.items };
+    ghost invariant = { λ h. RanksNames (map N.key h.items.keys) (map N.key h.names.items) h.ranks.items };
 }
 
 impl<N: Row> Ranked<N> {
@@ -200,8 +181,8 @@ impl<N: Row> Ranked<N> {
         ensures some { IfSome result (λ i. IsAt self.now i (N.key name.now)) }
         ensures none { IfNone result (is_member self.now (N.key name.now) ≡ false) }
     {
-        match self.numbers.get(name) {
-            Some(number) => Some(self.ranks[*number]),
+        match self.items.get_index_of(name) {
+            Some(number) => Some(self.ranks[number]),
             None => None,
         }
     }
@@ -215,7 +196,7 @@ impl<N: Row> Ranked<N> {
 
     /// What its hashes begin with.
     pub(crate) fn seed(&self) -> Seed {
-        *self.numbers.hasher()
+        *self.items.hasher()
     }
 
     /// The keys strictly rise.
@@ -223,7 +204,7 @@ impl<N: Row> Ranked<N> {
         ensures { Rising self.now }
     {
         // Only for the proof: what holds of each value of its type.
-        let _ = &self.numbers;
+        let _ = &self.items;
     }
 
     /// The name with this rank.
