@@ -17,6 +17,7 @@ use Rattle.dexasm_run.specs.declared.error.RunFault.TheVariants.{Refused, Input,
 use Rattle.dexasm_world.specs.State.{Path, Files, Passes}
 use Rattle.dexasm_world.specs.Safe.{IsSafe, IsGivenUp}
 use Rattle.dexasm_world.specs.Looks.{IsHeld, CantBeRead}
+use Rattle.dexasm_command.specs.Streams.{path_of}
 use Rattle.dexasm_command.specs.Carried.{CarriesOut, AnswersFrom, IsUnreadable}
 use Rattle.dexasm_command.specs.Told.{EndsTold}
 use Rattle.dexasm_command.specs.Served.{CommandRun, DoesNothing}
@@ -126,9 +127,9 @@ begun_by r job (Some path) out h = elim h [
       (g.0, g.1, (λ k. held r.before.files path.now w.1 g.0 (w.2 k) g.2), g.3, g.4)
 ]
 
-kept_safe : (r : CommandRun) (plan : Plan) → Plans (subcommand_of dexasm r.words) plan → (file : Option (Bor Path)) → plan.file ≡ file → (res : Result (Unit {0}) RunFault)
-    → CarriesOut {T = Unit {0}} plan.job file plan.output r.before r.after res → r.before.known ≡ true → (r.after.files ≡ r.before.files) ⊎ IsKeptSafe r
-kept_safe r plan planned None is res h k = elim (safe_from r plan.job plan.output r.before.left r.after.left r.after.input_failed res h k) [
+kept_safe : (r : CommandRun) (plan : Plan) → Plans (subcommand_of dexasm r.words) plan → (file : Option (Bor Path)) → path_of plan.file ≡ file → (res : Result (Unit {0}) RunFault)
+    → CarriesOut {T = Unit {0}} plan.job file (path_of plan.output) r.before r.after res → r.before.known ≡ true → (r.after.files ≡ r.before.files) ⊎ IsKeptSafe r
+kept_safe r plan planned None is res h k = elim (safe_from r plan.job (path_of plan.output) r.before.left r.after.left r.after.input_failed res h k) [
   | inl same ↦ inl same
   | inr s ↦ inr (record {
     plan = plan;
@@ -145,7 +146,7 @@ kept_safe r plan planned None is res h k = elim (safe_from r plan.job plan.outpu
 ]
 kept_safe r plan planned (Some path) is res h k = elim h [
   | inl c ↦ inl c.untouched
-  | inr w ↦ elim (safe_from r plan.job plan.output (Some w.1) (Some []) false res w.3 k) [
+  | inr w ↦ elim (safe_from r plan.job (path_of plan.output) (Some w.1) (Some []) false res w.3 k) [
     | inl same ↦ inl same
     | inr s ↦ inr (record {
       plan = plan;
@@ -166,21 +167,21 @@ kept_safe r plan planned (Some path) is res h k = elim h [
 other_status : (r : CommandRun) (fault : RunFault) (n : ℕ) → exit_status fault ≢ n → 4 ≢ n → EndsTold {T = Unit {0}} r.terminals.errors (Err fault) r.said r.says r.errors_failed r.status → r.status ≡ n → ⊥
 other_status r fault n a b ended is = elim ended [ inl t ↦ a (sym t.0 ∙ is) | inr t ↦ b (sym t.0 ∙ is) ]
 
-zero_of : (r : CommandRun) (plan : Plan) → Plans (subcommand_of dexasm r.words) plan → (res : Result (Unit {0}) RunFault) → CarriesOut plan.job plan.file plan.output r.before r.after res
+zero_of : (r : CommandRun) (plan : Plan) → Plans (subcommand_of dexasm r.words) plan → (res : Result (Unit {0}) RunFault) → CarriesOut plan.job (path_of plan.file) (path_of plan.output) r.before r.after res
     → EndsTold r.terminals.errors res r.said r.says r.errors_failed r.status → r.status ≡ 0 → IsAnswered r
 zero_of r plan planned (Ok x) h ended is =
-    let a = answered_by r plan.job plan.file plan.output x h in
+    let a = answered_by r plan.job (path_of plan.file) (path_of plan.output) x h in
     record { plan = plan; planned = planned; given = a.0; answer = a.1; input = a.2; answered = a.3; come = a.4; silent = ended.1 }
 zero_of r plan planned (Err (Refused fault)) h ended is = absurd (other_status r (Refused fault) 0 (λ e. cc) (λ e. cc) ended is)
 zero_of r plan planned (Err Input) h ended is = absurd (other_status r Input 0 (λ e. cc) (λ e. cc) ended is)
 zero_of r plan planned (Err Output) h ended is = absurd (other_status r Output 0 (λ e. cc) (λ e. cc) ended is)
 zero_of r plan planned (Err Memory) h ended is = absurd (other_status r Memory 0 (λ e. cc) (λ e. cc) ended is)
 
-one_of : (r : CommandRun) (plan : Plan) → Plans (subcommand_of dexasm r.words) plan → (res : Result (Unit {0}) RunFault) → CarriesOut plan.job plan.file plan.output r.before r.after res
+one_of : (r : CommandRun) (plan : Plan) → Plans (subcommand_of dexasm r.words) plan → (res : Result (Unit {0}) RunFault) → CarriesOut plan.job (path_of plan.file) (path_of plan.output) r.before r.after res
     → EndsTold r.terminals.errors res r.said r.says r.errors_failed r.status → r.status ≡ 1 → IsJobRefused r
 one_of r plan planned (Ok x) h ended is = absurd (let e = sym ended.0 ∙ is in cc)
 one_of r plan planned (Err (Refused fault)) h ended is =
-    let a = refused_by r plan.job plan.file plan.output fault h in
+    let a = refused_by r plan.job (path_of plan.file) (path_of plan.output) fault h in
     record {
       plan = plan;
       planned = planned;
@@ -195,15 +196,15 @@ one_of r plan planned (Err Input) h ended is = absurd (other_status r Input 1 (�
 one_of r plan planned (Err Output) h ended is = absurd (other_status r Output 1 (λ e. cc) (λ e. cc) ended is)
 one_of r plan planned (Err Memory) h ended is = absurd (other_status r Memory 1 (λ e. cc) (λ e. cc) ended is)
 
-three_of : (r : CommandRun) (plan : Plan) → Plans (subcommand_of dexasm r.words) plan → (res : Result (Unit {0}) RunFault) → CarriesOut plan.job plan.file plan.output r.before r.after res
+three_of : (r : CommandRun) (plan : Plan) → Plans (subcommand_of dexasm r.words) plan → (res : Result (Unit {0}) RunFault) → CarriesOut plan.job (path_of plan.file) (path_of plan.output) r.before r.after res
     → EndsTold r.terminals.errors res r.said r.says r.errors_failed r.status → r.status ≡ 3 → CantRead r ⊎ CantWrite r
 three_of r plan planned (Ok x) h ended is = absurd (let e = sym ended.0 ∙ is in cc)
 three_of r plan planned (Err (Refused fault)) h ended is = absurd (other_status r (Refused fault) 3 (λ e. cc) (λ e. cc) ended is)
 three_of r plan planned (Err Input) h ended is =
-    let a = unread_by r plan.job plan.file plan.output h in
+    let a = unread_by r plan.job (path_of plan.file) (path_of plan.output) h in
     inl (record { plan = plan; planned = planned; failed = a.0; nothing = a.1; told = elim ended [ inl t ↦ t.1 | inr t ↦ absurd (let e = sym t.0 ∙ is in cc) ] })
 three_of r plan planned (Err Output) h ended is =
-    let a = begun_by r plan.job plan.file plan.output h in
+    let a = begun_by r plan.job (path_of plan.file) (path_of plan.output) h in
     inr (record {
       plan = plan;
       planned = planned;
@@ -270,6 +271,6 @@ four r s is = elim s [
 
 pub never_lost : OutIsNeverLost
 never_lost r s known = elim s [
-  | inl c ↦ kept_safe r c.plan c.planned c.plan.file refl c.result c.carried known
+  | inl c ↦ kept_safe r c.plan c.planned (path_of c.plan.file) refl c.result c.carried known
   | inr o ↦ inl (elim o [ inl shown ↦ shown.files | inr p ↦ elim p [ inl m ↦ m.nothing.files | inr q ↦ elim q [ inl u ↦ u.nothing.files | inr b ↦ b.nothing.files ] ] ])
 ]

@@ -1,3 +1,4 @@
+pub mod Streams
 pub mod Carried
 pub mod Told
 pub mod Served

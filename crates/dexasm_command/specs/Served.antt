@@ -5,10 +5,11 @@ use Rattle.clap.specs.Words.{Text, IsAmong, fault_of, subcommand_of}
 use Rattle.clap.specs.declared.error.kind.ErrorKind.{ErrorKind}
 use Rattle.clap.specs.declared.error.kind.ErrorKind.TheVariants.{DisplayHelp, DisplayVersion}
 use Rattle.dexasm_plan.specs.Commands.{dexasm}
-use Rattle.dexasm_plan.specs.Plans.{Plans, puts_file}
+use Rattle.dexasm_plan.specs.Plans.{Plans}
 use Rattle.dexasm_plan.specs.declared.planned.Plan.{Plan}
 use Rattle.dexasm_run.specs.declared.error.RunFault.{RunFault}
 use Rattle.dexasm_run.specs.declared.error.RunFault.TheVariants.{Memory}
+use Rattle.dexasm_command.specs.Streams.{path_of, puts_file}
 use Rattle.dexasm_command.specs.Carried.{Around, CarriesOut}
 use Rattle.dexasm_command.specs.Told.{PutsLine, TellsFault, EndsTold, Shows, terminal_line}
 use Rattle.dexasm_command.specs.declared.terminals.Terminals.{Terminals}
@@ -32,7 +33,7 @@ pub record DoesNothing (r : CommandRun) : Type 0 where
 
 -- a .dex file would go to a terminal
 abbrev pub is_held_back : Terminals → Plan → Bool
-is_held_back terminals plan = terminals.output && puts_file plan
+is_held_back terminals plan = terminals.output && puts_file plan.job (path_of plan.output)
 
 -- the words are a job, which is carried out
 pub record IsCarried (r : CommandRun) : Type 0 where
@@ -41,7 +42,7 @@ pub record IsCarried (r : CommandRun) : Type 0 where
   pub right : fault_of dexasm r.words ≡ []
   pub allowed : is_held_back r.terminals plan ≡ false
   pub result : Result (Unit {0}) RunFault
-  pub carried : CarriesOut plan.job plan.file plan.output r.before r.after result
+  pub carried : CarriesOut plan.job (path_of plan.file) (path_of plan.output) r.before r.after result
   pub ended : EndsTold r.terminals.errors result r.said r.says r.errors_failed r.status
 
 -- the words are a job whose answer, a .dex file, would go to a terminal

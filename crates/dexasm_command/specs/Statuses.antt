@@ -14,6 +14,7 @@ use Rattle.dexasm_run.specs.declared.error.RunFault.TheVariants.{Refused, Input,
 use Rattle.dexasm_world.specs.State.{Path, Passes}
 use Rattle.dexasm_world.specs.Safe.{IsSafe, IsDelivered, IsTidy, IsGivenUp}
 use Rattle.dexasm_world.specs.Looks.{IsHeld, CantBeRead, CauseAt}
+use Rattle.dexasm_command.specs.Streams.{path_of}
 use Rattle.dexasm_command.specs.Told.{PutsFault}
 use Rattle.dexasm_command.specs.Served.{CommandRun, Serves, DoesNothing, IsShown, IsMisused, IsHeldBack}
 
@@ -51,9 +52,9 @@ pub record IsAnswered (r : CommandRun) : Type 0 where
   pub planned : Plans (subcommand_of dexasm r.words) plan
   pub given : List ℕ
   pub answer : List ℕ
-  pub input : IsInput r plan.file given
+  pub input : IsInput r (path_of plan.file) given
   pub answered : Answer plan.job given answer
-  pub come : HasCome r plan.output answer
+  pub come : HasCome r (path_of plan.output) answer
   pub silent : Keeps r.said r.says
 
 -- the words are a job, which refuses what was read, and nothing was done but that a line tells so
@@ -62,7 +63,7 @@ pub record IsJobRefused (r : CommandRun) : Type 0 where
   pub planned : Plans (subcommand_of dexasm r.words) plan
   pub given : List ℕ
   pub fault : Fault
-  pub input : IsInput r plan.file given
+  pub input : IsInput r (path_of plan.file) given
   pub refused : Refusal plan.job given fault
   pub nothing : DoesNothing r
   pub told : TellsIn r (Refused fault)
@@ -71,7 +72,7 @@ pub record IsJobRefused (r : CommandRun) : Type 0 where
 pub record CantRead (r : CommandRun) : Type 0 where
   pub plan : Plan
   pub planned : Plans (subcommand_of dexasm r.words) plan
-  pub failed : MatchOption plan.file (r.after.input_failed ≡ true) (λ path. r.before.known ≡ true → CantBeRead r.before.files path.now)
+  pub failed : MatchOption (path_of plan.file) (r.after.input_failed ≡ true) (λ path. r.before.known ≡ true → CantBeRead r.before.files path.now)
   pub nothing : DoesNothing r
   pub told : TellsIn r Input
 
@@ -87,9 +88,9 @@ pub record CantWrite (r : CommandRun) : Type 0 where
   pub planned : Plans (subcommand_of dexasm r.words) plan
   pub given : List ℕ
   pub answer : List ℕ
-  pub input : IsInput r plan.file given
+  pub input : IsInput r (path_of plan.file) given
   pub answered : Answer plan.job given answer
-  pub begun : HasBegun r plan.output answer
+  pub begun : HasBegun r (path_of plan.output) answer
   pub told : TellsIn r Output
 
 -- the words ask for help or the version, and standard output failed
@@ -106,9 +107,9 @@ pub record IsKeptSafe (r : CommandRun) : Type 0 where
   pub given : List ℕ
   pub answer : List ℕ
   pub out : Bor Path
-  pub input : IsInput r plan.file given
+  pub input : IsInput r (path_of plan.file) given
   pub answered : Answer plan.job given answer
-  pub is : plan.output ≡ Some out
+  pub is : path_of plan.output ≡ Some out
   pub moments : Passes r.before.files r.after.files (IsSafe r.before.files out.now answer)
   pub left : IsGivenUp r.before.files out.now answer r.after.files
 

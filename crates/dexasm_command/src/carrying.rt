@@ -4,7 +4,7 @@ ghost use Rattle.dexasm_command.specs.Carried.{AnswersFrom, CarriesOut, GoesTo, 
 
 use dex_base::Seed;
 use dexasm_job::Job;
-use dexasm_run::{RunFault, Sink, Source, answer_bytes, make, run, write_all};
+use dexasm_run::{RunFault, Sink, Source, answer_bytes, make, run_seeded, write_all};
 use dexasm_world::{Refusal, World, deliver, read_all};
 use std::alloc::Global;
 
@@ -124,7 +124,7 @@ fn answer_from<W: World, I: Source, O: Sink>(
         result }
 {
     match out {
-        None => run(alloc, seed, job, input, output),
+        None => run_seeded(alloc, seed, job, input, output),
         Some(path) => answer_to(alloc, seed, job, path, world, input),
     }
 }

@@ -5,6 +5,7 @@ mod carrying;
 mod laws;
 mod serving;
 mod shown;
+mod streams;
 mod telling;
 mod terminals;
 
@@ -13,7 +14,8 @@ pub use dex_base::Seed;
 pub use dexasm_job::Job;
 pub use dexasm_plan::{plan, usage_status};
 pub use dexasm_run::{
-    Line, RunFault, Sink, Source, Watched, answer, answer_owned, line_text, run, status, write_all,
+    Line, RunFault, Sink, Source, Watched, answer, answer_owned, line_text, run, run_seeded,
+    status, write_all,
 };
 pub use dexasm_world::deliver;
 pub use laws::{out_is_never_lost, statuses_tell};

@@ -7,6 +7,7 @@ ghost use Rattle.dexasm_command.specs.Served.{Serves};
 
 use crate::carrying::carry_out;
 use crate::shown::shown;
+use crate::streams::{path_of, puts_file};
 use crate::telling::tell;
 use crate::terminals::Terminals;
 use clap::Error;
@@ -63,10 +64,10 @@ pub fn serve<W: World, I: Source, O: Sink, E: Sink>(
 {
     match plan(alloc, words) {
         Ok(planned) => {
-            if terminals.output && planned.puts_file() {
+            let (job, file, out) = (planned.job, path_of(planned.file), path_of(planned.output));
+            if terminals.output && puts_file(job, out) {
                 return hold_back(errors);
             }
-            let (job, file, out) = (planned.job, planned.file, planned.output);
             let done = carry_out(alloc, seed, job, file, out, world, input, output);
             let error = error_of(&done, file, out, world, input, output);
             end(alloc, done, error, terminals.errors, errors)

@@ -1,5 +1,5 @@
 -- What a subcommand and its entries plan.
-use Rattle.std.specs.Prelude.{◌≡◌, Bool, true, false, List, Option, Some, None, codes, map, option_map, is_some, if◌then◌else◌}
+use Rattle.std.specs.Prelude.{◌≡◌, Bool, false, List, Option, Some, None, codes, map, option_map, if◌then◌else◌}
 use Rattle.std.specs.Option.{option_map_or}
 use Rattle.std.specs.Str.{bytes_eq}
 use Rattle.std.specs.Borrow.{Bor}
@@ -23,27 +23,11 @@ job_named name align = if bytes_eq name (codes "check") then Some Check
 abbrev pub is_set : Text → List Row → Bool
 is_set id rows = option_map_or (λ t. bytes_eq t (codes "true")) (first_of id rows) false
 
--- a path, if the word is one: `-` stands for a standard stream
-abbrev pub path_named : Option Text → Option Text
-path_named None = None
-path_named (Some word) = if bytes_eq word (codes "-") then None else Some word
-
--- the job's answer is a .dex file
-abbrev pub makes_file : Job → Bool
-makes_file Check = false
-makes_file ListJob = false
-makes_file (Assemble align) = true
-makes_file Strip = true
-
--- a .dex file goes to standard output
-abbrev pub puts_file : Plan → Bool
-puts_file p = if is_some p.output then false else makes_file p.job
-
--- the plan has the job of that name, with the flag, and the paths of FILE and OUT
+-- the plan has the job of that name, with the flag, and the words that are FILE and OUT
 pub record IsPlanOf (name : Text) (rows : List Row) (p : Plan) : Type 0 where
   pub job : job_named name (is_set (codes "align") rows) ≡ Some p.job
-  pub file : option_map (λ s. s.now) p.file ≡ path_named (first_of (codes "FILE") rows)
-  pub output : option_map (λ s. s.now) p.output ≡ path_named (first_of (codes "output") rows)
+  pub file : option_map (λ s. s.now) p.file ≡ first_of (codes "FILE") rows
+  pub output : option_map (λ s. s.now) p.output ≡ first_of (codes "output") rows
 
 -- the plan is that of the subcommand that was met, with its entries
 abbrev pub Plans : Option (Text × List Row) → Plan → Type 0

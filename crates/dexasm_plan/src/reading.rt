@@ -1,10 +1,10 @@
 //! The plan that the words ask for.
-ghost use Rattle.std.specs.Prelude.{◌≡◌, ◌≢◌, IfOk, IfErr, codes, false, true, option_map};
+ghost use Rattle.std.specs.Prelude.{◌≡◌, ◌≢◌, IfOk, IfErr, codes, false, true};
 ghost use Rattle.std.specs.Option.{option_map_or};
 ghost use Rattle.std.specs.Str.{bytes_eq};
 ghost use Rattle.clap.specs.Words.{FailsBy, fault_of, first_value, found_of, has_subcommand, kind_of, subcommand_of, subcommand_rows_of, takes};
 ghost use Rattle.dexasm_plan.specs.Commands.{dexasm};
-ghost use Rattle.dexasm_plan.specs.Plans.{Plans, job_named, path_named, texts_of};
+ghost use Rattle.dexasm_plan.specs.Plans.{Plans, job_named, texts_of};
 
 use crate::command::command;
 use crate::planned::Plan;
@@ -39,19 +39,9 @@ pub fn plan<'w>(alloc: Global, words: &'w [&'w str]) -> Result<Plan<'w>, Error>
     };
     Ok(Plan {
         job,
-        file: path_of(entries.get_str("FILE")),
-        output: path_of(entries.get_str("output")),
+        file: entries.get_str("FILE"),
+        output: entries.get_str("output"),
     })
-}
-
-/// The path that the word is: `-` stands for a standard stream.
-fn path_of<'w>(word: Option<&'w str>) -> Option<&'w str>
-    ensures { option_map (λ s. s.now) result ≡ path_named (option_map (λ s. s.now) word.entry) }
-{
-    match word {
-        Some("-") => None,
-        _ => word,
-    }
 }
 
 /// The words as clap reads them: one of the subcommands was met.

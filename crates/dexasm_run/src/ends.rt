@@ -35,8 +35,10 @@ pub trait Source {
     fn ended(&self) -> bool
         ensures { result ≡ ended self.now };
 
-    /// The error that a `take` has answered last. It is for people: no clause speaks of it.
-    fn error(&self) -> Option<io::Error>;
+    /// The error that a `take` has answered last, if the source keeps it. It is for people: no clause speaks of it.
+    fn error(&self) -> Option<io::Error> {
+        None
+    }
 }
 
 /// A writer that says whether it failed. It tells its bytes as `Write` does.
@@ -58,8 +60,10 @@ pub trait Sink {
     fn failed(&self) -> bool
         ensures { result ≡ failed self.now };
 
-    /// The error that a `put` has answered last. It is for people: no clause speaks of it.
-    fn error(&self) -> Option<io::Error>;
+    /// The error that a `put` has answered last, if the sink keeps it. It is for people: no clause speaks of it.
+    fn error(&self) -> Option<io::Error> {
+        None
+    }
 }
 
 /// A reader, and what a call on it may do. That is left open here: so what is proved of any `Reader` can only have made the call, and pass

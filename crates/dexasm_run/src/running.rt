@@ -18,21 +18,58 @@ const PIECE: usize = 64 * 1024;
 /// `Refused` carries a fault of the call that the job stands for, `Input` comes only where the source failed in
 /// this run, `Output` only where the sink did, and `Memory` stands for the fault 255. After `Refused`, `Input` and
 /// `Memory` nothing was put, after `Output` a beginning of the answer. An endless source ends in `Memory` or
-/// `Input`, since each `take` adds a byte, fails or ends the source, and a vector's length is bounded. Hashes begin with the
-/// seed, as those of `dexasm_run::answer_seeded` do.
+/// `Input`, since each `take` adds a byte, fails or ends the source, and a vector's length is bounded.
 ///
 /// ```
-/// use dex_base::Seed;
-/// use dexasm_run::{Job, Watched, run};
+/// use dexasm_job::Job;
+/// use dexasm_run::{Watched, run};
 ///
 /// let listing: &[u8] = b"dex 035 listing 2\n";
 /// let mut output = Watched::new(Vec::new(alloc));
 /// let job = Job::Assemble { align: false };
-/// let done = run(alloc, Seed::fixed(), job, &mut Watched::new(listing), &mut output);
+/// let done = run(alloc, job, &mut Watched::new(listing), &mut output);
 /// assert!(rt; done.is_ok());
 /// assert_eq!(rt; output.into_inner().len(), 140);
 /// ```
 pub fn run<R: Source, W: Sink>(
+    alloc: Global,
+    job: Job,
+    input: &mut R,
+    output: &mut W,
+) -> Result<(), RunFault>
+    requires input_works { R.failed input.old ≡ false }
+    requires input_goes_on { R.ended input.old ≡ false }
+    requires output_works { W.failed output.old ≡ false }
+    ensures bytes { MatchRun result
+        (Answers job (R.remaining input.old) (R.remaining input.new) (W.contents output.old) (W.contents output.new))
+        (Refuses job (R.remaining input.old) (R.remaining input.new))
+        ⊤
+        (BeginsAnswer job (R.remaining input.old) (R.remaining input.new) (W.contents output.old) (W.contents output.new))
+        ⊤ }
+    ensures flags { MatchRun result (R.ended input.new ≡ true) (λ _. R.ended input.new ≡ true)
+        (R.failed input.new ≡ true) (W.failed output.new ≡ true) ⊤ }
+    ensures unwritten { MatchRun result ⊤ (λ _. Keeps (W.contents output.old) (W.contents output.new))
+        (Keeps (W.contents output.old) (W.contents output.new)) ⊤
+        (Keeps (W.contents output.old) (W.contents output.new)) }
+{
+    run_seeded(alloc, Seed::fixed(), job, input, output)
+}
+
+/// `run`, with hashes that begin with this seed, on which nothing else depends.
+///
+/// ```
+/// use dex_base::Seed;
+/// use dexasm_job::Job;
+/// use dexasm_run::{Watched, run_seeded};
+///
+/// let listing: &[u8] = b"dex 035 listing 2\n";
+/// let mut output = Watched::new(Vec::new(alloc));
+/// let job = Job::Assemble { align: false };
+/// let done = run_seeded(alloc, Seed::new(0x5eed), job, &mut Watched::new(listing), &mut output);
+/// assert!(rt; done.is_ok());
+/// assert_eq!(rt; output.into_inner().len(), 140);
+/// ```
+pub fn run_seeded<R: Source, W: Sink>(
     alloc: Global,
     seed: Seed,
     job: Job,
@@ -62,7 +99,8 @@ pub fn run<R: Source, W: Sink>(
 ///
 /// ```
 /// use dex_base::Seed;
-/// use dexasm_run::{Job, Watched, make};
+/// use dexasm_job::Job;
+/// use dexasm_run::{Watched, make};
 ///
 /// let listing: &[u8] = b"dex 035 listing 2\n";
 /// let job = Job::Assemble { align: false };
@@ -86,7 +124,8 @@ pub fn make<R: Source>(
 ///
 /// ```
 /// use dex_base::Seed;
-/// use dexasm_run::{Job, answer_bytes};
+/// use dexasm_job::Job;
+/// use dexasm_run::answer_bytes;
 ///
 /// let listing: Vec<u8> = Vec::from_slice(alloc, b"dex 035 listing 2\n").unwrap();
 /// let job = Job::Assemble { align: false };

@@ -49,7 +49,7 @@ fn last_of(words: &'static [&'static str]) -> &'static str {
 #[rattlefmt::skip]
 #[test]
 fn words_ask_for_a_job_or_have_their_status(rt: HostRuntime) -> Result<(), Fail> {
-    static CASES: [Said; 26] = [
+    static CASES: [Said; 27] = [
         Said(&["dexasm", "check"], Meaning::Plan(Job::Check, None, None)),
         Said(&["dexasm", "list"], Meaning::Plan(Job::List, None, None)),
         Said(&["dexasm", "assemble"], Meaning::Plan(Job::Assemble { align: false }, None, None)),
@@ -70,6 +70,7 @@ fn words_ask_for_a_job_or_have_their_status(rt: HostRuntime) -> Result<(), Fail>
             Meaning::Plan(Job::Strip, Some("a.dex"), Some("b.dex")),
         ),
         Said(&["dexasm", "strip", "list", "--output="], Meaning::Plan(Job::Strip, Some("list"), Some(""))),
+        Said(&["dexasm", "list", "-o", "-", "-"], Meaning::Plan(Job::List, Some("-"), Some("-"))),
         // Help, and wrong words.
         Said(&["dexasm", "--help"], Meaning::Status(0)),
         Said(&["dexasm", "-h"], Meaning::Status(0)),

@@ -7,7 +7,7 @@ use dex_samples::{
     Case, NOTHING, Rows, TestReader, TestWriter, closed_with, file_of, put_bytes, reader,
     reader_failing_once, with_bytes, writer, writer_failing_once,
 };
-use dexasm_command::{Job, RunFault, Seed, Sink, Source, Watched, run};
+use dexasm_command::{Job, RunFault, Seed, Sink, Source, Watched, run_seeded};
 use std::alloc::Global;
 
 /// What a run is given.
@@ -121,7 +121,7 @@ fn writer_of(alloc: Global, end: End) -> TestWriter {
 fn is_run_so(alloc: Global, given: &[u8], case: &Run) -> bool {
     let mut input = Watched::new(reader_of(given, case.2));
     let mut output = Watched::new(writer_of(alloc, case.3));
-    let done = run(alloc, Seed::new(7), case.0, &mut input, &mut output);
+    let done = run_seeded(alloc, Seed::new(7), case.0, &mut input, &mut output);
     let seen = Seen {
         has_ended: input.ended(),
         reader_failed: Source::failed(&input),

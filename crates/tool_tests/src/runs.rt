@@ -4,7 +4,7 @@ use crate::given::Given;
 use crate::ran::{End, Input, Ran, Run, SOUND, Told};
 use dex_base::{Fault, fault};
 use dex_samples::{Case, WITHOUT_CLASSES, all_hold};
-use dexasm_command::{Job, Line, RunFault, Seed, Sink, Source, Watched, line_text, run, status};
+use dexasm_command::{Job, Line, RunFault, Sink, Source, Watched, line_text, run, status};
 use std::alloc::Global;
 use std::io::Cursor;
 use std::test::Fail;
@@ -49,7 +49,7 @@ fn check_reads_the_whole_file_and_answers(rt: HostRuntime) -> Result<(), Fail> {
 fn is_answered_at_once(alloc: Global, given: &[u8]) -> bool {
     let mut input = Watched::new(given);
     let mut output = Watched::new(Vec::new(alloc));
-    let done = run(alloc, Seed::fixed(), Job::Check, &mut input, &mut output);
+    let done = run(alloc, Job::Check, &mut input, &mut output);
     let has_ended = input.ended() && !Source::failed(&input);
     done.is_ok() && has_ended && output.into_inner().as_slice() == b"ok\n".as_slice()
 }

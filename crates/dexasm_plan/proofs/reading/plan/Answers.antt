@@ -3,7 +3,7 @@ use Rattle.std.specs.Option.{option_map_or}
 use Rattle.std.specs.Str.{bytes_eq}
 use Rattle.clap.specs.Words.{Text, found_of}
 use Rattle.clap.proofs.WalkLemmas.{first_value-rows}
-use Rattle.dexasm_plan.specs.Plans.{job_named, path_named, texts_of}
+use Rattle.dexasm_plan.specs.Plans.{job_named, texts_of}
 use Rattle.dexasm_plan.proofs.Shapes.{met_is, no_other}
 use Rattle.dexasm_plan.proofs.reading.plan.Goals as goal
 
@@ -24,7 +24,7 @@ returns-clause-ok c =
       met,
       record {
         job = ap (job_named c.in-Some.name.now) (sym flag) ∙ sym c.job_of.ensures ∙ c.in-Some-job_of.is;
-        file = c.path_of.ensures ∙ ap path_named (c.get_str.ensures ∙ first_value-rows f (codes "FILE"));
-        output = c.path_of-2.ensures ∙ ap path_named (c.get_str-2.ensures ∙ first_value-rows f (codes "output"));
+        file = c.get_str.ensures ∙ first_value-rows f (codes "FILE");
+        output = c.get_str-2.ensures ∙ first_value-rows f (codes "output");
       },
     )
