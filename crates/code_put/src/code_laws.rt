@@ -1,4 +1,4 @@
-//! Laws of code items, for the proofs of crates above: functions that do nothing, whose contracts are the laws.
+//! Laws of what is written of a code, for the proofs of crates above: functions that do nothing, whose contracts are the laws.
 //!
 //! ```text
 //! packed_is_spelled(); // what `put_code` appends is a code item of the code, so `read_code` gives it back

@@ -19,7 +19,7 @@ mod lowering;
 mod mentioned;
 mod payloads;
 
-// Tries and handlers.
+// Handlers and the fixed parts of an item, as bytes.
 mod handlers;
 mod items;
 

@@ -92,7 +92,7 @@ abbrev pub PacksHandlers : (ℕ → Name → Type 0) → List ℕ → ℕ → Li
 PacksHandlers N ss zero bytes hs = (bytes ≡ []) × (hs ≡ [])
 PacksHandlers N ss (suc n) bytes hs = PacksList N ss bytes hs
 
--- the handler that begins at an offset
+-- the handler that begins at an offset (handler_off)
 unfoldable pub handler_at : List (ℕ × Handler) → ℕ → Option Handler
 handler_at [] off = None
 handler_at (p ∷ ps) off = if p.0 == off then Some p.1 else handler_at ps off

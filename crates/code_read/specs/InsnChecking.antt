@@ -1,4 +1,4 @@
--- What the private functions of checking say.
+-- What the private functions that look at instructions say.
 use Rattle.std.specs.Prelude.{ℕ, List, length, Option, IfNone, IfSome}
 use Rattle.program_types.specs.Content.{Name, Insn}
 use Rattle.program_code_rules.specs.First.{AllHold}

@@ -1,4 +1,4 @@
--- What the private functions of reading say.
+-- What the private functions that read instructions say.
 use Rattle.std.specs.Prelude.{ℕ, ◌≡◌, ◌<◌, List, length, None}
 use Rattle.dex_insn.specs.Raw.{Raw}
 use Rattle.program_types.specs.Content.{Name, Insn}

@@ -20,7 +20,7 @@ pub record TryHolds (ss : List ℕ) (size : ℕ) (items : List ℕ) (i : ℕ) : 
 abbrev pub handler_of : Try → Handler
 handler_of t = record { catches = t.catches; all = t.catch_all }
 
--- Try_item i spells the try: it covers the instructions whose addresses lie in its range.
+-- Try_item i spells the try: it covers the instructions whose addresses lie in its range, and its handler is the one at handler_off.
 pub record SpellsTry (ss : List ℕ) (items : List ℕ) (hs : List (ℕ × Handler)) (i : ℕ) (t : Try) : Type 0 where
   pub from : position ss (try_start items i) ≡ Some t.from
   pub to : t.to ≡ count_below (try_start items i + try_count items i) ss

@@ -1,6 +1,6 @@
 //! Code items, read or only looked at: a method's instructions and tries, at a byte offset of a file. The units of the instructions are
 //! walked once, end to end, and linked: an index becomes a name, and an offset the number of the instruction to which it leads. Then
-//! branches, payloads, switches and registers are asked for the rules of programs. Tries and their handlers follow.
+//! branches, payloads and switches are asked for the rules of programs. Tries and their handlers follow, and registers come last.
 //!
 //! ```text
 //! let tables = Tables::read(alloc, &arena, &sections)?;

@@ -1,6 +1,6 @@
-//! What all layers share. Bytes: faults, numbers at a place, LEB128 numbers, the checksum, the seed that hashes begin with. Texts: MUTF-8
-//! strings and their order, names of members, descriptors. `specs/Grammar.antt` has the words in which all crates say which bytes spell
-//! which value.
+//! What all layers share: faults, and the seed that hashes begin with. Bytes: numbers at a place, LEB128 numbers, the checksum. Texts:
+//! MUTF-8 strings and their order, names of members, descriptors. `specs/Grammar.antt` has the words in which all crates say which
+//! bytes spell which value.
 //!
 //! ```
 //! let refusal = Fault::at(fault::MAP_PLACE, 52);
@@ -22,7 +22,6 @@ mod fault_names;
 // Numbers of fixed width, and of as many bytes as they need.
 mod fields;
 mod leb128;
-mod width;
 mod words;
 
 // The checksum.
@@ -37,6 +36,7 @@ mod spelling_laws;
 // Strings.
 mod mutf8;
 mod units;
+mod width;
 
 // Names.
 mod descriptor;

@@ -1,4 +1,4 @@
-//! Laws of the definitions: functions that do nothing, whose contracts are the laws.
+//! Laws of numbers, and of one spelling after another: functions that do nothing, whose contracts are the laws.
 
 ghost use Rattle.std.specs.Prelude.{◌≡◌, ℕ, ◌<◌, List, ℤ, length, drop, map, All};
 ghost use Rattle.dex_base.specs.Grammar.{Begins, NoneBegins, Takes, IsPrefixUnique, Pair, Each, Placed, Counted, Seen};

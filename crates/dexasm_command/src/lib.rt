@@ -1,13 +1,27 @@
 //! What a command leaves in the world: on standard output, in OUT, on standard error, and as the exit status.
+//!
+//! ```text
+//! let status = serve(alloc, seed, &words, terminals, &mut world, &mut input, &mut output, &mut errors); // 0 where all is done
+//! ```
+//!
+//! It hands on what a program of your own may be made of, from its rooms: `dexasm_job` and `dexasm_plan` (what the words ask for),
+//! `dexasm_run` (a job over any reader and writer), `dexasm_world` (files).
+//!
+//! docs/MAP.md says where this crate stands among the others.
 #![tactic(auto)]
 
+// A job carried out, of which the words are plain paths or standard streams.
 mod carrying;
-mod laws;
-mod serving;
-mod shown;
 mod streams;
+
+// What is told of a failure, on a terminal and elsewhere.
+mod shown;
 mod telling;
 mod terminals;
+
+// A command line carried out, and what holds of its status and of OUT.
+mod laws;
+mod serving;
 
 pub use carrying::carry_out;
 pub use dex_base::Seed;

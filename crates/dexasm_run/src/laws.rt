@@ -1,4 +1,4 @@
-//! Laws of the definitions, each the contract of a function that does nothing else.
+//! Laws of answers and outcomes, each the contract of a function that does nothing else.
 ghost use Rattle.dexasm_run.specs.Once.{ListedAndAssembledIsStripped, OneAnswer, OneOutcome};
 
 /// A job has one answer to the bytes that it is given.

@@ -1,4 +1,4 @@
--- The names in the row of a class are held.
+-- The names in the row of a class have indices.
 -- Page: "Dalvik Executable format", "class_def_item".
 use Rattle.std.specs.Option.{ForSome}
 use Rattle.tables_names.specs.Closure.{Five}

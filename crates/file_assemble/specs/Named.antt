@@ -1,4 +1,4 @@
--- What has to be held of the names of a class, so that its items can be written.
+-- Which names of a class have to have indices, so that its items can be written.
 -- Page: "Dalvik Executable format", "class_data_item", "encoded_array".
 use Rattle.std.specs.Prelude.{◌≤◌, ◌^◌, ◌++◌, List, length, map, Option, IfSome}
 use Rattle.code_put.specs.Fits.{CanBePut, FitsCode}

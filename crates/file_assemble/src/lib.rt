@@ -10,7 +10,7 @@
 //! docs/MAP.md says where this crate stands among the others.
 #![tactic(auto)]
 
-// Where the items of a part stand, the entries of class data, and the indices of names that are held.
+// Where the items of a part stand, the entries of class data, and the indices of names that have one.
 mod entries;
 mod index;
 mod placed;
@@ -22,7 +22,7 @@ mod codes;
 mod texts;
 mod type_lists;
 
-// The rows of each table, and what holds of them.
+// The rows of each table, and what holds of rows, type lists and class data.
 mod class_defs;
 mod field_ids;
 mod method_ids;

@@ -1,4 +1,4 @@
-//! Laws of the definitions, each the contract of a function that does nothing else.
+//! Laws of rows, type lists and class data, each the contract of a function that does nothing else.
 ghost use Rattle.file_assemble.specs.AtIndex.{TypeRowsStand, ProtoRowsStand, FieldRowsStand, MethodRowsStand};
 ghost use Rattle.file_assemble.specs.Once.{ClassDataIsOne, ClassRowsAreOne, NameRowsAreOne, TypeListIsOne};
 

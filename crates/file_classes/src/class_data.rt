@@ -1,4 +1,4 @@
-//! What a class defines, as numbers ("class_data_item"): fault 44.
+//! What a class defines, as numbers ("class_data_item"); where none is spelled, `heads.rt` answers 44.
 ghost use Rattle.std.specs.Prelude.{ℕ, List, IfOk, IfSome, IfNone, IsOkUnless, map};
 ghost use Rattle.dex_base.specs.Fault.{memory};
 ghost use Rattle.dex_base.specs.Grammar.{Takes, NoneBegins, Many};

@@ -1,4 +1,4 @@
-//! Laws of the definitions, each the contract of a function that does nothing else.
+//! Laws of laid items and of finished files, each the contract of a function that does nothing else.
 
 ghost use Rattle.std.specs.Prelude.{ℕ, ◌<◌, List};
 ghost use Rattle.dex_container.specs.Frame.{IsFramed};

@@ -8,7 +8,7 @@
 //! let mut items = Items::new(alloc, seed);
 //! let place = items.put_aligned(&mut out, bytes)?; // appended here, 4-aligned, or where an equal item stands
 //! let plan = Plan { rows, lists, codes, strings, arrays, datas };
-//! finish(alloc, &mut out, &plan, &rows)?; // `rows` has the rows of the tables
+//! finish(alloc, &mut out, &plan, &table_rows)?; // the bytes of the tables, which stand after the header
 //! let sections = open(&out)?; // what is finished is framed
 //! ```
 //!

@@ -1,4 +1,4 @@
-//! Laws over the definitions, for the proofs of crates above.
+//! Laws of kept rows and their numbers, for the proofs of crates above.
 ghost use Rattle.file_renumber.specs.Numbers.{KeptRowsAreRanks, KeptProtosAreRanks, KeptRowsAreHeld, TotalsAreLengths};
 
 /// A kept row's number is the rank of its name among the names whose rows are kept.

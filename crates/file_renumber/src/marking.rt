@@ -1,4 +1,4 @@
-//! What values name, and how many bytes they take at most.
+//! Arrays of values: what they name, and how many bytes they take at most.
 ghost use Rattle.std.specs.Prelude.{◌≡◌, ℕ, ◌<◌, ◌^◌, ◌%◌, List, length, OnOk, IfOk, IsOkUnless};
 ghost use Rattle.std.specs.List.{flat_map};
 ghost use Rattle.dex_base.specs.Fault.{memory};

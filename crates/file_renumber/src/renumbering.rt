@@ -1,4 +1,4 @@
-//! Values with other numbers.
+//! Arrays of values with other numbers.
 ghost use Rattle.std.specs.Prelude.{◌≡◌, ℕ, ◌%◌, List, OnOk, IfOk, IsOkUnless};
 ghost use Rattle.dex_base.specs.Fault.{memory};
 ghost use Rattle.dex_base.specs.Grammar.{Appends, Each};

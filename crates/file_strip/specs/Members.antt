@@ -1,4 +1,4 @@
--- The members of classes by the numbers of kept rows.
+-- Class data spelled by the numbers of kept rows.
 -- Page: "Dalvik Executable format", "class_data_item", "encoded_field", "encoded_method".
 use Rattle.std.specs.Prelude.{◌≡◌, ℕ, ◌+◌, ◌<◌, ◌≤◌, ◌^◌, List, Some, length, slice_get, slice_index}
 use Rattle.file_classes.specs.ClassData.{Entries, index_of, steps}

@@ -1,4 +1,4 @@
--- The rows of the tables of names, of the kept ones of the first rows.
+-- The rows that are written of the first rows of a table: those of the kept ones.
 -- Page: "Dalvik Executable format", "string_id_item" to "method_id_item".
 use Rattle.std.specs.Prelude.{ℕ, List, slice_index, take}
 use Rattle.dex_base.specs.Grammar.{Appends}

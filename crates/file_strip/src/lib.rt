@@ -17,7 +17,7 @@ mod members;
 mod sizes;
 mod survey;
 
-// Where what stood at an offset stands, and a word of each row of class_defs.
+// What the parts share: a word of each row of class_defs, and where an item of the file that came in stands in the new one.
 mod class_words;
 mod moved;
 

@@ -1,4 +1,4 @@
-//! Laws of what is assembled, each the contract of a function that does nothing.
+//! Laws of the file of a program and of a stripped file, each the contract of a function that does nothing.
 //! Page: "Dalvik Executable format", "File layout".
 ghost use Rattle.std.specs.Prelude.{◌≡◌, ℕ, ◌<◌, ◌↔◌, List};
 ghost use Rattle.file_assemble.specs.Assembled.{Assembled};

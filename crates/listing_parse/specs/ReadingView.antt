@@ -1,4 +1,4 @@
--- What stands in memory.
+-- The reader's state in memory, as its content.
 use Rattle.listing_parse.specs.View.{state}
 use Rattle.listing_parse.specs.Text as text
 use Rattle.listing_parse.specs.declared.reading.Reading.{Reading}

@@ -1,4 +1,4 @@
--- Which program a text is, and why it is refused.
+-- Which program a text is as the reader reads it, and why it is refused.
 -- Page: docs/LISTING.md, "Lines and words", "Faults".
 use Rattle.std.specs.Prelude.{◌≡◌, ◌≢◌, ℕ, ◌+◌, ◌==◌, ◌&&◌, ◌||◌, Bool, true, false, if◌then◌else◌, ◌⊎◌, List, [], ◌∷◌, ◌++◌, length, Option, Some, None, codes}
 use Rattle.program_types.specs.Content.{Program}

@@ -1,4 +1,4 @@
--- What stands in memory, as a state.
+-- The draft in memory, as a state.
 use Rattle.std.specs.Prelude.{ℕ, ◌∷◌, map, option_map}
 use Rattle.std.specs.Borrow.{Bor}
 use Rattle.program_types.specs.Content as content

@@ -1,4 +1,4 @@
-//! Laws of listings. None has code: each says of the definitions what its contract says.
+//! Laws of the reader: a text has one program, or one fault. None has code: each says of the definitions what its contract says.
 
 ghost use Rattle.std.specs.Prelude.{◌≡◌, ℕ, List};
 ghost use Rattle.program_types.specs.Content.{Program};

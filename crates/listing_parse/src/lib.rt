@@ -24,7 +24,7 @@ mod lines;
 mod listing;
 mod reading;
 
-// What lines mean, without a reader's state.
+// Laws: what lines mean, without a reader's state.
 mod class_laws;
 mod code_laws;
 mod text_laws;

@@ -1,4 +1,4 @@
-//! The law of listings. It has no code: it says of the definitions what its contract says.
+//! The law of a whole listing, without a reader's state. It has no code: it says of the definitions what its contract says.
 
 ghost use Rattle.std.specs.Prelude.{◌↔◌, ℕ, List};
 ghost use Rattle.program_types.specs.Content.{Program};

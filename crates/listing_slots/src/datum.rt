@@ -1,4 +1,4 @@
-//! What words say.
+//! What a word can say.
 
 ghost use Rattle.std.specs.Prelude.{◌≡◌, ◌<◌, map};
 ghost use Rattle.program_types.specs.View.{name, str, desc, proto};

@@ -1,4 +1,4 @@
-//! The shape of a line: what it is, and a slot for each word after its keywords.
+//! The slots of each instruction's format, and which words have the form of a slot.
 
 ghost use Rattle.std.specs.Prelude.{◌≡◌, ◌<◌, ◌+◌, ◌++◌, ◌∷◌, [], Option, Some, map, drop, replicate, OnOk, IsOkUnless};
 ghost use Rattle.dex_base.specs.Fault.{memory};

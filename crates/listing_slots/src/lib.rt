@@ -1,5 +1,5 @@
-//! A line's words: its first ones tell its shape, which is what the line is and a slot for each word after them; a slot says what its word
-//! may stand for, and so what the word says and how it is printed.
+//! A line's words. The first ones tell its shape: what the line is, and a slot for each word after them. A slot says what its word may stand
+//! for, and so what the word says and how it is printed.
 //!
 //! ```text
 //! read_shape(words of `try @0 @5`, &mut slots)?   // Found { kind: Kind::Try, lead: 1, .. }, and slots for two targets
@@ -14,7 +14,6 @@
 // Slots: what a word says there, how it is printed, and what holds of both.
 mod datum;
 mod key;
-mod kind;
 mod name_parts;
 mod numbers;
 mod put;
@@ -27,6 +26,7 @@ mod word_laws;
 mod due;
 mod forms;
 mod found;
+mod kind;
 mod shape;
 mod shape_laws;
 mod values;

@@ -1,4 +1,4 @@
-//! What the words of a line say.
+//! From words and their slots to what the words say.
 
 ghost use Rattle.std.specs.Prelude.{◌≡◌, true, ◌∷◌, [], map, length, IfOk, IfSome, IfNone, IsOkUnless};
 ghost use Rattle.dex_base.specs.Fault.{memory};

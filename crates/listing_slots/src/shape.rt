@@ -1,4 +1,4 @@
-//! The shape of a line.
+//! From a line's words to its shape: what it is, and a slot for each word after its keywords.
 
 ghost use Rattle.std.specs.Prelude.{◌≡◌, ◌+◌, ◌∷◌, [], ◌++◌, false, List, Some, None, map, replicate, ℕ, length, IfOk, IfSome, IfNone, OnOk, IsOkUnless};
 ghost use Rattle.dex_base.specs.Fault.{memory};

@@ -1,10 +1,21 @@
 -- From where the offsets of an instruction count, instruction by instruction.
-use Rattle.std.proofs.Common.{◌≡◌, ◌≢◌, ℕ, ◌+◌, ◌<◌, List, length, get_or, ◌∙◌, arith, subst, inl, inr, get_or-set_other, get_or-set_same, length-set, set}
+use Rattle.std.proofs.Common.{◌≡◌, ◌≢◌, ◌⊎◌, ℕ, ◌+◌, ◌<◌, ◌≤◌, List, length, get_or, ◌∙◌, arith, subst, inl, inr, get_or-set_other, get_or-set_same, length-set, set}
 use Rattle.std.proofs.lemmas.Bool.{cases_lt}
 use Rattle.program_types.specs.Content.{Insn}
 use Rattle.program_types.specs.Formed.{insn_at, insn_payload, insn_reach, IsSwitch, RefersToPayload}
-use Rattle.program_code_rules.specs.Branches.{IsOrigin, AreOrigins, IsSwitchSoFar, AreSwitchesSoFar}
+use Rattle.program_code_rules.specs.Branches.{IsOrigin, AreOrigins}
 use Rattle.program_code_rules.proofs.UseLaws.{refers-one}
+
+-- what is known of the switch of payload k among the first m instructions
+abbrev pub IsSwitchSoFar : List Insn → ℕ → ℕ → ℕ → Type 0
+IsSwitchSoFar is m k j =
+    ((j < m) × IsSwitch (insn_payload (insn_at is k)) × RefersToPayload is j k × ((i : ℕ) → i < m → RefersToPayload is i k → i ≤ j))
+    ⊎ ((j ≡ k) × (IsSwitch (insn_payload (insn_at is k)) → (i : ℕ) → i < m → RefersToPayload is i k → ⊥))
+
+-- Of each instruction the last switch among the first m, or itself if there is none.
+pub record AreSwitchesSoFar (is : List Insn) (m : ℕ) (js : List ℕ) : Type 0 where
+  pub count : length js ≡ length is
+  pub each : (k : ℕ) → k < length is → IsSwitchSoFar is m k (get_or js k 0)
 
 -- instruction j is no switch of it, or it is
 switch-same : (is : List Insn) (m k j : ℕ) → IsSwitchSoFar is m k j → (IsSwitch (insn_payload (insn_at is k)) → RefersToPayload is m k → ⊥) → IsSwitchSoFar is (m + 1) k j

@@ -41,14 +41,3 @@ IsOrigin is k j = IsLastSwitch is j k ⊎ (((i : ℕ) → ¬ IsLastSwitch is i k
 pub record AreOrigins (is : List Insn) (js : List ℕ) : Type 0 where
   pub count : length js ≡ length is
   pub each : (k : ℕ) → k < length is → IsOrigin is k (slice_index js k)
-
--- what is known of the switch of payload k among the first m instructions
-abbrev pub IsSwitchSoFar : List Insn → ℕ → ℕ → ℕ → Type 0
-IsSwitchSoFar is m k j =
-    ((j < m) × IsSwitch (insn_payload (insn_at is k)) × RefersToPayload is j k × ((i : ℕ) → i < m → RefersToPayload is i k → i ≤ j))
-    ⊎ ((j ≡ k) × (IsSwitch (insn_payload (insn_at is k)) → (i : ℕ) → i < m → ¬ RefersToPayload is i k))
-
--- Of each instruction the last switch among the first m, or itself if there is none.
-pub record AreSwitchesSoFar (is : List Insn) (m : ℕ) (js : List ℕ) : Type 0 where
-  pub count : length js ≡ length is
-  pub each : (k : ℕ) → k < length is → IsSwitchSoFar is m k (slice_index js k)

@@ -1,9 +1,9 @@
 //! From where the offsets of an instruction count.
 
-ghost use Rattle.std.specs.Prelude.{◌↔◌, ◌<◌, ◌≤◌, length, map, IfOk, IsTrue};
+ghost use Rattle.std.specs.Prelude.{◌≡◌, ◌↔◌, ℕ, ◌<◌, ◌≤◌, length, map, slice_index, IfOk, IsTrue};
 ghost use Rattle.program_types.specs.Formed.{insn_at, insn_payload, IsSwitch, RefersToPayload};
 ghost use Rattle.program_types.specs.View.{insn};
-ghost use Rattle.program_code_rules.specs.Branches.{AreOrigins, AreSwitchesSoFar};
+ghost use Rattle.program_code_rules.specs.Branches.{AreOrigins};
 
 use crate::payloads::{reach_at, refers};
 use program_types::{Insn, is_switch, payload_of};
@@ -20,11 +20,12 @@ fn is_switch_of(insns: &[Insn<'_>], j: usize, k: usize) -> bool
     is_switch(payload_of(&insns[k]))
 }
 
-/// Notes each switch at its payload.
+/// Notes each switch at its payload, where at each place its own number was noted.
 fn mark_switches(all: &mut [u32], insns: &[Insn<'_>])
     requires few { length insns.now ≤ 4294967295 }
-    requires none { AreSwitchesSoFar (map insn insns.now) 0 all.old }
-    ensures { AreSwitchesSoFar (map insn insns.now) (length insns.now) all.new }
+    requires count { length all.old ≡ length insns.now }
+    requires own { (k : ℕ) → k < length insns.now → slice_index all.old k ≡ k }
+    ensures { AreOrigins (map insn insns.now) all.new }
 {
     for j in 0..insns.len() {
         let k = reach_at(insns, j) as usize;

@@ -1,5 +1,5 @@
-//! Laws of what stands in a file, each the contract of a function that does nothing. The one that takes any grammar stands in
-//! `proofs/Standing`: `At-one`, that one value stands at a place where no spelling begins another one.
+//! Laws of tables in memory beside the file that they were read from, each the contract of a function that does nothing. The one that takes
+//! any grammar stands in `proofs/Standing`: `At-one`, that one value stands at a place where no spelling begins another one.
 ghost use Rattle.std.specs.Prelude.{◌≡◌, ℕ, List};
 ghost use Rattle.dex_container.specs.Frame.{IsFramed};
 ghost use Rattle.tables_rows.specs.Names.{AreNamesOf, NameIsAt, TypeIsAt};

@@ -11,7 +11,7 @@
 // The fields of a row.
 mod row_fields;
 
-// The tables, in the order in which they are read.
+// The five tables, and what their rows have in common.
 mod field_ids;
 mod kinds;
 mod look_up;

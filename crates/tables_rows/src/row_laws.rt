@@ -1,4 +1,4 @@
-//! Laws of the five tables of a file, each the contract of a function that does nothing.
+//! Laws of rows, of the five tables of a file and of the names that a file holds, each the contract of a function that does nothing.
 
 ghost use Rattle.std.specs.Prelude.{◌≡◌, ℕ, ◌<◌, ◌⊎◌, List, ◌↔◌, true};
 ghost use Rattle.std.specs.Ordering.{nat_cmp};

@@ -1,6 +1,6 @@
 use Rattle.std.proofs.Common.{map}
 use Rattle.program_types.specs.View.{insn}
-use Rattle.program_code_rules.specs.Branches.{AreSwitchesSoFar}
+use Rattle.program_code_rules.proofs.OriginLaws.{AreSwitchesSoFar}
 use Rattle.program_code_rules.proofs.origins.mark_switches.Given as goal
 
 abbrev pub invariant-loop-j : goal.invariant-loop-j
