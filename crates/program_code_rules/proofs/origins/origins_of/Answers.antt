@@ -3,8 +3,7 @@ use Rattle.std.proofs.lemmas.Bool.{cases_lt}
 use Rattle.std.proofs.lemmas.List.{length-map, take_at, get_or_append_left}
 use Rattle.std.proofs.Math.Seq.{get_or-append_seam}
 use Rattle.program_types.specs.View.{insn}
-use Rattle.program_code_rules.specs.Branches.{AreSwitchesSoFar, AreOrigins}
-use Rattle.program_code_rules.proofs.OriginLaws.{switches-none, origins-all}
+use Rattle.program_code_rules.specs.Branches.{AreOrigins}
 use Rattle.program_code_rules.proofs.origins.origins_of.Goals as goal
 
 pub loop-k-preserved : goal.loop-k-preserved
@@ -20,12 +19,13 @@ loop-k-preserved c =
       ];
     }
 
-pub mark_switches-requires-clause-none : goal.mark_switches-requires-clause-none
-mark_switches-requires-clause-none c =
-    let m = length-map c.args.insns.now insn in
+pub mark_switches-requires-clause-count : goal.mark_switches-requires-clause-count
+mark_switches-requires-clause-count c =
     let n = c.loop-k.invariant.count in
-    subst (λ (ys : List ℕ). AreSwitchesSoFar (map insn c.args.insns.now) 0 ys) (sym c.deref_mut.ensures.value)
-    (switches-none (map insn c.args.insns.now) c.loop-k.all.items (omega (arith, m, n)) (λ k l. c.loop-k.invariant.each k (omega (arith, l, m))))
+    subst (λ (ys : List ℕ). length ys ≡ length c.args.insns.now) (sym c.deref_mut.ensures.value) (omega (arith, n))
+
+pub mark_switches-requires-clause-own : goal.mark_switches-requires-clause-own
+mark_switches-requires-clause-own c = λ k l. ap (λ (ys : List ℕ). get_or ys k 0) c.deref_mut.ensures.value ∙ c.loop-k.invariant.each k (omega (arith, l))
 
 pub returns : goal.returns
 returns c =
@@ -33,5 +33,4 @@ returns c =
     let a = c.mark_switches.ensures in
     let n = a.count in
     let o = c.loop-k.invariant.count in
-    subst (λ (ys : List ℕ). AreOrigins (map insn c.args.insns.now) ys) (sym (take_at c.mark_switches.new.all _ c.loop-k.all.len (omega (arith, m, n, o))))
-    (origins-all (map insn c.args.insns.now) c.mark_switches.new.all (subst (λ (k : ℕ). AreSwitchesSoFar (map insn c.args.insns.now) k c.mark_switches.new.all) (sym m) a))
+    subst (λ (ys : List ℕ). AreOrigins (map insn c.args.insns.now) ys) (sym (take_at c.mark_switches.new.all _ c.loop-k.all.len (omega (arith, m, n, o)))) a
