@@ -8,7 +8,7 @@ use Rattle.program_types.specs.Content as made
 use Rattle.program_types.specs.Formed.{insn_at, try_at}
 use Rattle.program_types.specs.Mentions.{names_of_insn, names_of_try, names_of_code}
 use Rattle.tables_rows.specs.Stands.{NameStands}
-use Rattle.tables_rows.specs.FileNames.{HasRow}
+use Rattle.tables_rows.specs.Stands.{HasRow}
 use Rattle.code_read.specs.Walk.{raw_at}
 use Rattle.code_read.specs.Symbols.{name_in}
 use Rattle.code_read.specs.Linked.{SpellsInsns}

@@ -7,7 +7,7 @@ use Rattle.program_types.specs.Content.{Code}
 use Rattle.program_types.specs.Mentions.{names_of_code}
 use Rattle.tables_rows.specs.Names.{Names, NameIsAt}
 use Rattle.tables_rows.specs.Stands.{NameStands}
-use Rattle.tables_rows.specs.FileNames.{HasRow}
+use Rattle.tables_rows.specs.Stands.{HasRow}
 use Rattle.code_read.specs.Code.{CodeStands}
 use Rattle.code_read.specs.Faults.{CodeBreaks, CodeOverruns}
 

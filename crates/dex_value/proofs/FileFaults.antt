@@ -8,7 +8,7 @@ use Rattle.program_types.specs.Content.{Name, Value, Named, Enum, Array, Values,
 use Rattle.program_types.specs.Mentions.{names_of_value, names_of_values}
 use Rattle.tables_rows.specs.Sorted.{TablesHold}
 use Rattle.tables_rows.specs.Stands.{NameStands}
-use Rattle.tables_rows.specs.FileNames.{HasRow}
+use Rattle.tables_rows.specs.Stands.{HasRow}
 use Rattle.dex_container.proofs.PlacesDecided.{HasSection, at_front}
 use Rattle.dex_value.specs.Spelling.{SpellsValue, SpellsValues, SpellsArray, unsigned_of}
 use Rattle.dex_value.specs.Standing.{ArrayStands}

@@ -10,7 +10,7 @@ ghost use Rattle.tables_rows.specs.Sorted.{TablesHold};
 ghost use Rattle.tables_rows.specs.Stands.{NameStands};
 ghost use Rattle.std.specs.List.{AllByRecursion, flat_map};
 ghost use Rattle.program_types.specs.Mentions.{names_of_value};
-ghost use Rattle.tables_rows.specs.FileNames.{HasRow};
+ghost use Rattle.tables_rows.specs.Stands.{HasRow};
 ghost use Rattle.dex_value.specs.Spelling.{SpellsArray};
 ghost use Rattle.dex_value.specs.Standing.{ArrayStands};
 ghost use Rattle.dex_value.specs.Faults.{ArrayBreaksAt};

@@ -11,7 +11,7 @@ use Rattle.tables_rows.specs.RowFields.{row_place}
 use Rattle.tables_rows.specs.Sorted.{RowsHold, TablesHold}
 use Rattle.tables_rows.specs.Stands.{NameStands}
 use Rattle.tables_rows.proofs.NameLaws.{names_stand, stands_names}
-use Rattle.tables_rows.proofs.FileLemmas.{tables_have_names}
+use Rattle.tables_laws.proofs.FileLemmas.{tables_have_names}
 use Rattle.tables_rows.proofs.RowsBreak.{tables_are_decided}
 use Rattle.dex_base.specs.Fields.{AreBytes}
 use Rattle.dex_value.proofs.ArraysDecided.{arrays_are_decided}

@@ -19,7 +19,7 @@ use Rattle.program_rules.specs.Ranges.{ProtoInRange, NameInRange, ValueInRange, 
 use Rattle.program_rules.specs.WellFormed.{WellFormed}
 use Rattle.tables_rows.specs.Stands.{StringStands, TypeStands, ProtoStands, NameStands}
 use Rattle.tables_rows.proofs.TypeLists.{indexes_of}
-use Rattle.tables_rows.specs.FileNames.{HasRow}
+use Rattle.tables_rows.specs.Stands.{HasRow}
 use Rattle.dex_value.specs.Spelling.{SpellsValue, SpellsValues, unsigned_of, signed_of, high_of}
 use Rattle.dex_value.specs.Standing.{ArrayStands}
 use Rattle.dex_value.specs.Writing.{magnitude_of}

@@ -24,8 +24,9 @@ use Rattle.program_types.specs.Kinds.{void}
 use Rattle.program_types.specs.Formed.{IsFormed, RegistersHold}
 use Rattle.dex_base.specs.Fields.{AreBytes}
 use Rattle.tables_rows.proofs.TypeLists.{indexes_of}
-use Rattle.tables_rows.specs.FileNames.{HasRow, IsMentionedIn}
-use Rattle.tables_rows.proofs.FileLemmas.{fields_compare, methods_compare, name_row_one}
+use Rattle.tables_rows.specs.Stands.{HasRow}
+use Rattle.tables_laws.specs.FileNames.{IsMentionedIn}
+use Rattle.tables_laws.proofs.FileLemmas.{fields_compare, methods_compare, name_row_one}
 use Rattle.dex_value.specs.Standing.{ArrayStands}
 use Rattle.dex_value.proofs.FileFaults.{names_have_rows}
 use Rattle.file_classes.specs.ClassRows.{class_word, no_index, IndexOrNone, NoneDefines}

@@ -11,7 +11,7 @@ ghost use Rattle.dex_container.specs.Frame.{IsFramed};
 ghost use Rattle.program_types.specs.Content.{Program};
 ghost use Rattle.program_rules.specs.WellFormed.{WellFormed};
 ghost use Rattle.tables_rows.specs.Sorted.{TablesHold};
-ghost use Rattle.tables_rows.specs.FileNames.{IsMentionedIn};
+ghost use Rattle.tables_laws.specs.FileNames.{IsMentionedIn};
 ghost use Rattle.dex_container.specs.Layout.{size_of};
 ghost use Rattle.dex_container.specs.Section as section;
 ghost use Rattle.file_classes.specs.ClassFaults.{ClassRowHolds, ClassRowBreaks, ClassRowsHold, IsClassFault, ValuesHold, ValuesBreak, BodiesHold, BodiesBreak, RowRegistersHold, RowRegistersBreak};

@@ -20,8 +20,8 @@ use Rattle.tables_rows.specs.Names.{Names, AreNamesOf, NameIsAt}
 use Rattle.tables_rows.specs.Stands.{StringStands, TypeStands, ProtoStands, FieldStands, MethodStands, NameStands}
 use Rattle.tables_rows.specs.Sorted.{TablesHold}
 use Rattle.tables_rows.proofs.NameLaws.{proto_one, row_is, stands_names}
-use Rattle.tables_rows.specs.FileNames.{five_of}
-use Rattle.tables_rows.proofs.FileLemmas.{tables_have_names, names_rise, row_of, key_at}
+use Rattle.tables_laws.specs.FileNames.{five_of}
+use Rattle.tables_laws.proofs.FileLemmas.{tables_have_names, names_rise, row_of, key_at}
 use Rattle.file_renumber.proofs.ColumnLemmas.{before-cons}
 use Rattle.file_renumber.specs.Marked.{Columns, Marked, MarksOf, AreMarks, kind_of}
 use Rattle.file_renumber.specs.Numbers.{before, Counts, AreRowNumbers, IsKept, Carries, column_of, KeptRowsAreRanks, KeptProtosAreRanks, KeptRowsAreHeld, HaveLengths, TotalsAreLengths}

@@ -7,8 +7,8 @@ use Rattle.tables_names.proofs.NeededLemmas.{needed_is_least}
 use Rattle.tables_names.proofs.PlaceLemmas.{member_at, rank_at}
 use Rattle.program_types.specs.Content.{Name, OfDesc, OfField, OfMethod, OfText, Program}
 use Rattle.program_types.specs.Key.{Key, field_ref_key, method_ref_key, proto_key, text_key}
-use Rattle.tables_rows.specs.FileNames.{AreNoShorter, HaveRowsIn}
-use Rattle.tables_rows.proofs.FileLemmas.{files_are_no_shorter, needed_has_rows}
+use Rattle.tables_laws.specs.FileNames.{AreNoShorter, HaveRowsIn}
+use Rattle.tables_laws.proofs.FileLemmas.{files_are_no_shorter, needed_has_rows}
 use Rattle.file_read.specs.Means.{Means}
 use Rattle.file_read.proofs.WellLaws.{program_rows}
 use Rattle.file_strip.specs.AtLeast.{AreNoFurther, HoldsAtLeast}

@@ -6,7 +6,6 @@ pub mod ClearRows
 pub mod NameLaws
 pub mod Marks
 pub mod CachedLaws
-pub mod FileLemmas
 pub mod RowsDecided
 pub mod NoFault
 pub mod RowsBreak

@@ -7,4 +7,3 @@ pub mod Reading
 pub mod Halves
 pub mod Cached
 pub mod Known
-pub mod FileNames

@@ -77,3 +77,7 @@ NameStands b i (OfText s) = StringStands b i s
 NameStands b i (OfDesc t) = TypeStands b i t
 NameStands b i (OfField f) = FieldStands b i f
 NameStands b i (OfMethod m) = MethodStands b i m
+
+-- The file has a row for this name.
+abbrev pub HasRow : List ℕ → Name → Type 0
+HasRow b name = (i : ℕ) × NameStands b i name

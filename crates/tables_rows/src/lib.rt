@@ -1,4 +1,4 @@
-//! The five tables of names, string_ids to method_ids, read from a file, and what holds of the tables of every file.
+//! The five tables of names, string_ids to method_ids, read from a file, and what holds of their rows in every file.
 //!
 //! ```
 //! let tables = Tables::read(alloc, &arena, &open(bytes)?)?;
@@ -36,11 +36,9 @@ pub use row_fields::{
     proto_shorty, type_string,
 };
 pub use row_laws::{
-    clear_rows_hold, files_are_no_shorter, files_hold_needed, names_are_closed,
-    names_compare_as_rows, names_rise, needed_has_rows, one_table_fault, row_denotes_one_name,
-    row_of_a_name_is_one, rows_break_one_rule, rows_that_hold_are_clear,
-    rows_that_hold_keep_the_rules, tables_are_decided, tables_have_names,
-    tables_hold_without_fault, unions_hold_both,
+    clear_rows_hold, one_table_fault, row_denotes_one_name, rows_break_one_rule,
+    rows_that_hold_are_clear, rows_that_hold_keep_the_rules, tables_are_decided,
+    tables_hold_without_fault,
 };
 pub use tables::Tables;
 pub use type_list::indexes_or_none;

@@ -1,11 +1,8 @@
-//! Laws of rows, of the five tables of a file and of the names that a file holds, each the contract of a function that does nothing.
+//! Laws of rows and of the five tables of a file, each the contract of a function that does nothing.
 
-ghost use Rattle.std.specs.Prelude.{◌≡◌, ℕ, ◌<◌, ◌⊎◌, List, ◌↔◌, true};
-ghost use Rattle.std.specs.Ordering.{nat_cmp};
-ghost use Rattle.program_types.specs.Content.{Units, Name, Proto, OfText, OfDesc, OfField, OfMethod};
-ghost use Rattle.tables_names.specs.Rank.{is_member, add_all};
-ghost use Rattle.program_types.specs.Key.{key_cmp, text_key, proto_key, field_ref_key, method_ref_key, Key};
-ghost use Rattle.tables_rows.specs.Stands.{StringStands, TypeStands, ProtoStands, FieldStands, MethodStands, NameStands};
+ghost use Rattle.std.specs.Prelude.{◌≡◌, ℕ, ◌<◌, ◌⊎◌, List};
+ghost use Rattle.program_types.specs.Content.{Units, OfText, OfDesc, OfField, OfMethod};
+ghost use Rattle.tables_rows.specs.Stands.{StringStands, TypeStands, ProtoStands, NameStands};
 ghost use Rattle.dex_base.specs.declared.fault.Fault.{Fault};
 ghost use Rattle.dex_base.specs.Descriptor.{IsDescriptor, IsClass, IsArray, IsMemberName};
 ghost use Rattle.dex_container.specs.Frame.{IsFramed};
@@ -16,7 +13,6 @@ ghost use Rattle.dex_container.specs.Section as section;
 ghost use Rattle.tables_rows.specs.RowFields.{string_place, type_string, proto_parameters, member_class, member_kind, member_name};
 ghost use Rattle.tables_rows.specs.Sorted.{RowRises, StringIsBelow, TypeIsBelow, ProtoIsBelow, MemberIsBelow, StringHolds, TypeHolds, ProtoHolds, FieldHolds, MethodHolds, StringsHold, TypesHold, ProtosHold, TablesHold};
 ghost use Rattle.tables_rows.specs.TableFaults.{ParametersAt, ProtoIsOut, HasAnotherShorty, FieldIsOut, MethodIsOut, StringBreaks, TypeBreaks, ProtoBreaks, FieldBreaks, MethodBreaks, IsTableFault};
-ghost use Rattle.tables_rows.specs.FileNames.{TablesHaveNames, NamesRise, NamesAreClosed, FilesHoldNeeded, FilesAreNoShorter, NeededHasRows};
 
 /// A row denotes one name.
 pub fn row_denotes_one_name()
@@ -60,32 +56,6 @@ pub fn rows_break_one_rule()
     ensures method { (b : List ℕ) → IsFramed b → (i m n : ℕ) → MethodBreaks b i m → MethodBreaks b i n → m ≡ n }
 {}
 
-/// Where the tables hold, each row denotes a name.
-pub fn tables_have_names()
-    ensures { TablesHaveNames }
-{}
-
-/// The names of each table rise: order by indices is order by names.
-pub fn names_rise()
-    ensures { NamesRise }
-{}
-
-/// With each name in a file's tables its parts are there too.
-pub fn names_are_closed()
-    ensures { NamesAreClosed }
-{}
-
-/// A file that has a row for each name that a program mentions holds all that the program needs.
-pub fn files_hold_needed()
-    ensures { FilesHoldNeeded }
-{}
-
-/// The tables of a file that has a row for each name that a program mentions are no shorter than what the program
-/// needs.
-pub fn files_are_no_shorter()
-    ensures { FilesAreNoShorter }
-{}
-
 /// The tables of a framed file hold exactly if no fault of tables stands.
 pub fn tables_hold_without_fault()
     ensures hold { (b : List ℕ) → IsFramed b → ((e : Fault) → ¬ IsTableFault b e) → TablesHold b }
@@ -101,20 +71,6 @@ pub fn clear_rows_hold()
     ensures method { (b : List ℕ) → IsFramed b → (i : ℕ) → StringsHold b → TypesHold b → ProtosHold b → i < size_of b section.method_ids → ((code : ℕ) → ¬ MethodBreaks b i code) → MethodHolds b i }
 {}
 
-/// A file that has a row for each name that a program mentions has one for each name that the program needs.
-pub fn needed_has_rows()
-    ensures { NeededHasRows }
-{}
-
-/// Names of a file compare as their rows: order by names is order by indices, and no name has two rows.
-pub fn names_compare_as_rows()
-    ensures string { (b : List ℕ) → IsFramed b → TablesHold b → (i j : ℕ) (s t : _) → StringStands b i s → StringStands b j t → key_cmp (text_key s) (text_key t) ≡ nat_cmp i j }
-    ensures ty { (b : List ℕ) → IsFramed b → TablesHold b → (i j : ℕ) (s t : _) → TypeStands b i s → TypeStands b j t → key_cmp (text_key s) (text_key t) ≡ nat_cmp i j }
-    ensures proto { (b : List ℕ) → IsFramed b → TablesHold b → (i j : ℕ) (p q : _) → ProtoStands b i p → ProtoStands b j q → key_cmp (proto_key p) (proto_key q) ≡ nat_cmp i j }
-    ensures field { (b : List ℕ) → IsFramed b → TablesHold b → (i j : ℕ) (f g : _) → FieldStands b i f → FieldStands b j g → key_cmp (field_ref_key f) (field_ref_key g) ≡ nat_cmp i j }
-    ensures method { (b : List ℕ) → IsFramed b → TablesHold b → (i j : ℕ) (m n : _) → MethodStands b i m → MethodStands b j n → key_cmp (method_ref_key m) (method_ref_key n) ≡ nat_cmp i j }
-{}
-
 /// The tables of a framed file hold, or a fault of tables stands.
 pub fn tables_are_decided()
     ensures { (b : List ℕ) → IsFramed b → TablesHold b ⊎ ((e : Fault) × IsTableFault b e) }
@@ -123,15 +79,4 @@ pub fn tables_are_decided()
 /// The tables have one fault: one number, at one place.
 pub fn one_table_fault()
     ensures { (b : List ℕ) (e f : Fault) → IsTableFault b e → IsTableFault b f → e ≡ f }
-{}
-
-/// A name has one row.
-pub fn row_of_a_name_is_one()
-    ensures name { (b : List ℕ) → IsFramed b → TablesHold b → (i j : ℕ) (name : Name) → NameStands b i name → NameStands b j name → i ≡ j }
-    ensures proto { (b : List ℕ) → IsFramed b → TablesHold b → (i j : ℕ) (p : Proto) → ProtoStands b i p → ProtoStands b j p → i ≡ j }
-{}
-
-/// A union holds what one of the two sets holds.
-pub fn unions_hold_both()
-    ensures { (ks js : List Key) (k : Key) → is_member (add_all ks js) k ≡ true ↔ ((is_member ks k ≡ true) ⊎ (is_member js k ≡ true)) }
 {}

@@ -13,7 +13,7 @@ use Rattle.tables_rows.specs.Names.{Names, AreNamesOf}
 use Rattle.program_types.specs.Mentions.{mentions}
 use Rattle.tables_names.specs.Needed.{needed}
 use Rattle.tables_rows.specs.Sorted.{TablesHold}
-use Rattle.tables_rows.specs.Stands.{StringStands, TypeStands, ProtoStands, FieldStands, MethodStands, NameStands}
+use Rattle.tables_rows.specs.Stands.{StringStands, TypeStands, ProtoStands, FieldStands, MethodStands, HasRow}
 
 -- the keys of names, row by row
 abbrev pub five_of : Names → Five
@@ -36,10 +36,6 @@ NamesRise = (b : List ℕ) (names : Names) → IsFramed b → TablesHold b → A
 -- With each name its parts are in the tables.
 abbrev pub NamesAreClosed : Type 0
 NamesAreClosed = (b : List ℕ) (names : Names) → IsFramed b → AreNamesOf b names → IsClosed (five_of names)
-
--- The file has a row for this name.
-abbrev pub HasRow : List ℕ → Name → Type 0
-HasRow b name = (i : ℕ) × NameStands b i name
 
 -- A file has a row for each name that a program mentions.
 abbrev pub IsMentionedIn : Program → List ℕ → Type 0

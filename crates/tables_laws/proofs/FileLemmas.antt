@@ -32,7 +32,8 @@ use Rattle.tables_names.proofs.RowLemmas.{keys_compare_as_indices, index_is_at_l
 use Rattle.tables_names.proofs.PlaceLemmas.{member_at, member_index, one_place}
 use Rattle.tables_names.proofs.NeededLemmas.{needed_is_least, holds_part}
 use Rattle.tables_names.proofs.SubsetLemmas as sub
-use Rattle.tables_rows.specs.FileNames.{five_of, TablesHaveNames, NamesRise, NamesAreClosed, HasRow, FilesHoldNeeded, FilesAreNoShorter, NeededHasRows}
+use Rattle.tables_rows.specs.Stands.{HasRow}
+use Rattle.tables_laws.specs.FileNames.{five_of, TablesHaveNames, NamesRise, NamesAreClosed, FilesHoldNeeded, FilesAreNoShorter, NeededHasRows}
 use Rattle.dex_base.proofs.ListFacts.{all_weaker}
 
 -- ---- rows and their keys

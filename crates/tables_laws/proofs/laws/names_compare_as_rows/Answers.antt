@@ -1,5 +1,5 @@
-use Rattle.tables_rows.proofs.FileLemmas as law
-use Rattle.tables_rows.proofs.row_laws.names_compare_as_rows.Goals as goal
+use Rattle.tables_laws.proofs.FileLemmas as law
+use Rattle.tables_laws.proofs.laws.names_compare_as_rows.Goals as goal
 
 pub returns-clause-string : goal.returns-clause-string
 returns-clause-string c = law.strings_compare
