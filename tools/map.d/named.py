@@ -2,9 +2,10 @@
 import os
 import re
 
-from tree import crates, names_of_files, read, words_of
+from tree import INSIDE, OUTSIDE, crates, names_of_files, read, words_of
 
 MAP, PROVED = "docs/MAP.md", "docs/PROVED.md"
+MISTAKES = "| Mistake | In the gate | Outside |\n"
 TO_SEE, BY_LAYER, AFTER = "\n## The crates to see\n", "\n## Crates, from the bottom up\n", "\n## "
 
 NAME_OR_FILE = re.compile(r"\b([a-z]\w*)\b(?!\.)|`(?:specs/|src/)?(\w+\.(?:antt|rt))`")
@@ -48,7 +49,7 @@ def named_in_vain() -> list[str]:
         for path in re.findall(r"`((?:tools|docs|bench|contrib)/[\w./-]+)`", text):
             if not os.path.exists(path):
                 vain.append(f"{page} names {path}, which isn't there")
-    return vain + crates_in_vain(known) + files_in_vain(known) + promised_in_vain(known)
+    return vain + crates_in_vain(known) + files_in_vain(known) + promised_in_vain(known) + mistakes_in_vain()
 
 
 def crates_in_vain(known: set[str]) -> list[str]:
@@ -82,6 +83,26 @@ def files_in_vain(known: set[str]) -> list[str]:
     return vain
 
 
+def without_mistakes(page: str) -> str:
+    """PROVED without its table of mistakes."""
+    begin = page.index(MISTAKES)
+    return page[:begin] + page[page.index("\n\n", begin) :]
+
+
+def mistakes_in_vain() -> list[str]:
+    """The wrong bodies that PROVED names beside a mistake, in the gate and outside, and that their crate doesn't have there."""
+    page, vain = read(PROVED), []
+    table = page[page.index(MISTAKES) :].split("\n\n", 1)[0]
+    for row in rows(table, "Mistake"):
+        for cell, folder in zip(row[1:], (INSIDE, OUTSIDE)):
+            crate = ""
+            for name, edit in re.findall(r"(?:(\w+) )?`([\w-]+)`", cell):
+                crate = name or crate
+                if not os.path.exists(f"crates/{crate}/{folder}/{edit}.edit"):
+                    vain.append(f"{PROVED} names {edit}, which {crate} doesn't have in {folder}/")
+    return vain
+
+
 def is_there(item: str, names: list[str]) -> bool:
     """Whether one of these crates has the word."""
     return any(item in words_of(name) for name in names)
@@ -91,7 +112,7 @@ def promised_in_vain(known: set[str]) -> list[str]:
     """The functions, clauses and definitions that PROVED says carry a promise and that its crate doesn't have: of what
     is named without a crate the one before is meant, or any if there is none."""
     vain = []
-    for row in re.findall(r"^\| .* \| (.*) \|$", read(PROVED), re.M):
+    for row in re.findall(r"^\| .* \| (.*) \|$", without_mistakes(read(PROVED)), re.M):
         names = sorted(known)
         for word in re.findall(r"`([\w:]+)`", row):
             crate, _, item = word.rpartition("::")

@@ -14,5 +14,5 @@
 //! docs/MAP.md says where this crate stands among the others.
 #![tactic(auto)]
 
-pub use listing_parse::{parse, parse_seeded};
+pub use listing_parse::{a_listing_is_its_lines, parse, parse_seeded};
 pub use listing_print::{print, print_1};

@@ -115,7 +115,8 @@ fn read_program<'a>(
 }
 
 /// The program of a listing: the only one that it is a listing of. It is well formed: it keeps the rules of every file's program, and
-/// each number fits its type.
+/// each number fits its type. `IsListing` says what a listing is by what is open after each line; `a_listing_is_its_lines` is the law that
+/// this is `ListingText`, the lines of a program as docs/LISTING.md has them.
 ///
 /// The names, slices and values of the program lie in the arena. The lowest line that is at fault by itself is refused, or
 /// else a text that ends inside a block (106); where there is none, the lowest line with a target that is no instruction of
