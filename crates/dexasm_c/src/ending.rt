@@ -18,7 +18,7 @@ pub(crate) enum Ending {
 /// A fault as C sees it: its number and its place, or twice 0 where there is none.
 #[repr(C)]
 #[derive(Clone, Copy)]
-pub(crate) struct CFault {
+pub struct CFault {
     pub code: u16,
     pub place: u64,
 }
