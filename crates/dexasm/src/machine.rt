@@ -7,7 +7,7 @@ use std::alloc::Global;
 use std::cell::Cell;
 use std::fs::{File, Metadata, OpenOptions, Permissions};
 use std::io::{Error, ErrorKind, Read, Write};
-use std::os::unix::fs::{MetadataExt, PermissionsExt, fchown};
+use std::os::unix::fs::{MetadataExt, OpenOptionsExt, PermissionsExt, fchown};
 use std::{fs, io};
 
 /// The files that the system shows to this process.
@@ -98,8 +98,13 @@ impl World for Machine<'_> {
         read.map_err(|error| refusal(&error))
     }
 
-    fn make(&mut self, path: &str) -> Result<Opened, NotMade> {
-        match self.noted(File::create_new(self.rt, path)) {
+    fn make(&mut self, path: &str, is_private: bool) -> Result<Opened, NotMade> {
+        let opened = OpenOptions::new()
+            .write(true)
+            .create_new(true)
+            .mode(if is_private { 0o600 } else { 0o666 })
+            .open(self.rt, path);
+        match self.noted(opened) {
             Ok(file) => Ok(Opened(file)),
             Err(error) => Err(not_made(&error)),
         }

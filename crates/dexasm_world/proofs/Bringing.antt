@@ -2,9 +2,9 @@
 use Rattle.std.proofs.Common.{◌≡◌, ◌≢◌, ◌⊎◌, inl, inr, ℕ, List, [], ◌++◌, Option, Some, None, IsSome, subst, refl, sym, ◌∙◌, ap}
 use Rattle.std.specs.Option.{IfSome, IsSomeAnd}
 use Rattle.dexasm_world.specs.State.{Path, Paths, FileState, Stored, Files, IsThere, Passes, place_of}
-use Rattle.dexasm_world.specs.Steps.{TouchesOnly}
+use Rattle.dexasm_world.specs.Steps.{TouchesOnly, private_mode}
 use Rattle.dexasm_world.specs.Safe.{KeepsFile, HasAnswer, IsWholeAt, IsNarrow}
-use Rattle.dexasm_world.specs.Parts.{Fills, Stores, Dresses, HasPartFile, HasFullPart, Brings, HasBrought}
+use Rattle.dexasm_world.specs.Parts.{IsStill, Fills, Stores, Dresses, HasPartFile, HasFullPart, Brings, HasBrought}
 use Rattle.dexasm_world.specs.declared.world.Dress.{Dress}
 use Rattle.dexasm_world.proofs.Passing.{weaker, goes_on}
 use Rattle.dexasm_world.proofs.Installing.{IsFine, brings}
@@ -31,29 +31,32 @@ fine_beside part out answer s t two narrow d =
     let old : KeepsFile out s t = λ n is. d.files n (out, is) (d.own out n two is).0 in
     record { names = λ p away elsewhere. d.names p away; files = d.files; old = old; whole = inl (record { name = d.names out two; file = old }); narrow = narrow }
 
--- no more bytes yet, or the mode of the file that it is to replace
+-- it is as it was, or has the mode of the file that it is to replace
 dress_narrow : (o : Option Dress) (P : Type 0) (mode m : ℕ) → IfSome o (λ d. P ⊎ (m ≡ d.mode)) → IsSomeAnd o (λ d. d.mode ≡ mode) → P ⊎ (m ≡ mode)
 dress_narrow None P mode m h is = absurd is
 dress_narrow (Some d) P mode m h is = elim h [ inl p ↦ inl p | inr e ↦ inr (e ∙ is) ]
 
-narrow_filled : (f : Files) (part path : Path) (n : ℕ) (dress : Option Dress) (t : FileState) → HasPartFile f part path n → (f.now.file n).bytes ≡ [] → Dresses (place_of f path) dress f.now
-    → Fills n dress f.now t → IsNarrow (place_of f path) (place_of f part) f.now t
-narrow_filled f part path n dress t h empty wears fills k m there is =
-    let one : Some n ≡ Some k = sym (fills.only.names (place_of f part) ∙ h.here) ∙ there in
-    let same : n ≡ k = cc in
-    let narrow = dress_narrow dress ((t.file n).bytes ≡ (f.now.file n).bytes) ((f.now.file m).mode) ((t.file n).mode) fills.narrow (wears m is) in
-    subst (λ (i : ℕ). ((t.file i).bytes ≡ []) ⊎ ((t.file i).mode ≡ (f.now.file m).mode)) same (elim narrow [ inl e ↦ inl (e ∙ empty) | inr e ↦ inr e ])
-
-pub storing : (f b : Files) (part path : Path) (n : ℕ) (answer : List ℕ) (dress : Option Dress) → HasPartFile f part path n → (f.now.file n).bytes ≡ []
-    → Dresses (place_of f path) dress f.now → Passes f b (Fills n dress f.now) → Passes f b (IsFine (place_of f part) (place_of f path) answer f.now)
-storing f b part path n answer dress h empty wears p = weaker f b (Fills n dress f.now) (IsFine (place_of f part) (place_of f path) answer f.now)
-    (λ t fills. fine_beside (place_of f part) (place_of f path) answer f.now t (λ e. h.two (sym e)) (narrow_filled f part path n dress t h empty wears fills)
-    (differs_at_part f part path n t h fills.only)) p
-
 -- a dress that a file has is there
-dressed_some : (o : Option Dress) (m : ℕ) → IsSomeAnd o (λ d. d.mode ≡ m) → IsSome o
+pub dressed_some : (o : Option Dress) (m : ℕ) → IsSomeAnd o (λ d. d.mode ≡ m) → IsSome o
 dressed_some None m h = absurd h
 dressed_some (Some d) m h = refl
+
+narrow_filled : (f : Files) (part path : Path) (n : ℕ) (dress : Option Dress) (t : FileState) → HasPartFile f part path n → (f.now.file n).bytes ≡ []
+    → (IsSome dress → (f.now.file n).mode ≡ private_mode) → Dresses (place_of f path) dress f.now
+    → Fills n dress f.now t → IsNarrow (place_of f path) (place_of f part) f.now t
+narrow_filled f part path n dress t h empty private wears fills k m there is =
+    let one : Some n ≡ Some k = sym (fills.only.names (place_of f part) ∙ h.here) ∙ there in
+    let same : n ≡ k = cc in
+    let narrow = dress_narrow dress (IsStill n f.now t) ((f.now.file m).mode) ((t.file n).mode) fills.narrow (wears m is) in
+    let private_now = private (dressed_some dress ((f.now.file m).mode) (wears m is)) in
+    subst (λ (i : ℕ). (((t.file i).bytes ≡ []) × ((t.file i).mode ≡ private_mode)) ⊎ ((t.file i).mode ≡ (f.now.file m).mode)) same
+    (elim narrow [ inl still ↦ inl (still.0 ∙ empty, still.1 ∙ private_now) | inr e ↦ inr e ])
+
+pub storing : (f b : Files) (part path : Path) (n : ℕ) (answer : List ℕ) (dress : Option Dress) → HasPartFile f part path n → (f.now.file n).bytes ≡ []
+    → (IsSome dress → (f.now.file n).mode ≡ private_mode) → Dresses (place_of f path) dress f.now → Passes f b (Fills n dress f.now) → Passes f b (IsFine (place_of f part) (place_of f path) answer f.now)
+storing f b part path n answer dress h empty private wears p = weaker f b (Fills n dress f.now) (IsFine (place_of f part) (place_of f path) answer f.now)
+    (λ t fills. fine_beside (place_of f part) (place_of f path) answer f.now t (λ e. h.two (sym e)) (narrow_filled f part path n dress t h empty private wears fills)
+    (differs_at_part f part path n t h fills.only)) p
 
 dressed_mode : (o : Option Dress) (m k : ℕ) → IfSome o (λ d. k ≡ d.mode) → IsSomeAnd o (λ d. d.mode ≡ m) → k ≡ m
 dressed_mode None m k h is = absurd is

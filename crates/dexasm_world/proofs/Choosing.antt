@@ -5,7 +5,7 @@ use Rattle.std.specs.Bool.{Decides}
 use Rattle.std.specs.Str.{bytes_eq}
 use Rattle.std.proofs.lemmas.Slice.Eq.{bytes_eq-Decides}
 use Rattle.dexasm_world.specs.State.{Path, Paths, FileState, Stored, Files, Passes, place_of}
-use Rattle.dexasm_world.specs.Steps.{Same, Made}
+use Rattle.dexasm_world.specs.Steps.{Same, Made, MadeAs, private_mode}
 use Rattle.dexasm_world.specs.Safe.{part_path, name_count, target_of, IsTaken, IsNarrow, IsPartPlace, IsAsBefore, KeepsFile, IsAlone, HasRoomBeside, CanGive, IsSafe, IsDelivered}
 use Rattle.std.specs.Option.{IsSomeAnd}
 use Rattle.dexasm_world.specs.declared.world.Dress.{Dress}
@@ -71,8 +71,8 @@ made_differs place n s t m = record {
 }
 
 safe_beside : (f : Files) (out : Path) (answer : List ℕ) (place : Path) (n : ℕ) (t : FileState) → IsPartPlace f out place → f.now.stands place ≡ None → place_of f out ≢ place → DiffersAt place f.now t
-    → t.stands place ≡ Some n → (t.file n).bytes ≡ [] → IsSafe f out answer t
-safe_beside f out answer place n t part free two d here empty =
+    → t.stands place ≡ Some n → (t.file n).bytes ≡ [] → ((m : ℕ) → f.now.stands (place_of f out) ≡ Some m → (t.file n).mode ≡ private_mode) → IsSafe f out answer t
+safe_beside f out answer place n t part free two d here empty private =
     let old : KeepsFile (place_of f out) f.now t = λ n is. d.files n (place_of f out, is) (d.own (place_of f out) n two is).0 in
     let before : IsAsBefore (place_of f out) f.now t = record { name = d.names (place_of f out) two; file = old } in
     record {
@@ -85,7 +85,7 @@ safe_beside f out answer place n t part free two d here empty =
         | inl e ↦ λ k m there is. inl (
             let one : Some n ≡ Some k = sym here ∙ ap t.stands (sym e) ∙ there in
             let same : n ≡ k = cc in
-            subst (λ (i : ℕ). (t.file i).bytes ≡ []) same empty)
+            subst (λ (i : ℕ). ((t.file i).bytes ≡ []) × ((t.file i).mode ≡ private_mode)) same (empty, private m is))
         | inr other ↦ narrow_free f out p t beside (λ away. d.names p other)
       ];
     }
@@ -96,17 +96,18 @@ made_beside f a part n t same p m =
     subst (λ (s : FileState). Made (place_of f part) n s t) same (subst (λ (x : Path). Made x n a.now t) (ap (λ (y : Paths). y.place part) p) m)
 
 -- a try to make a file beside
-pub trying : (f a b : Files) (path part : Path) (answer : List ℕ) → IsBeside f path part → a.now ≡ f.now → Passes f a (IsSafe f path answer)
-    → Passes a b (λ t. Same a.now t ⊎ ((n : ℕ) × (a.paths.is_plain part ≡ true) × Made (place_of a part) n a.now t))
+pub trying : (f a b : Files) (path part : Path) (answer : List ℕ) (is_private : Bool) → IsBeside f path part → a.now ≡ f.now
+    → ((m : ℕ) → f.now.stands (place_of f path) ≡ Some m → is_private ≡ true) → Passes f a (IsSafe f path answer)
+    → Passes a b (λ t. Same a.now t ⊎ ((n : ℕ) × (a.paths.is_plain part ≡ true) × MadeAs is_private (place_of a part) n a.now t))
     → Passes f b (IsSafe f path answer)
-trying f a b path part answer beside same p q =
-    goes_on f a b (IsSafe f path answer) (λ t. Same a.now t ⊎ ((n : ℕ) × (a.paths.is_plain part ≡ true) × Made (place_of a part) n a.now t)) p q
+trying f a b path part answer is_private beside same private p q =
+    goes_on f a b (IsSafe f path answer) (λ t. Same a.now t ⊎ ((n : ℕ) × (a.paths.is_plain part ≡ true) × MadeAs is_private (place_of a part) n a.now t)) p q
     (λ t m. elim m [
       | inl is ↦ safe_at_first f path answer t (subst (λ (s : FileState). Same s t) same is)
       | inr made ↦
           let plain = sym (ap (λ (x : Paths). x.is_plain part) p.same_paths) ∙ made.1 in
-          let new = made_beside f a part made.0 t same p.same_paths made.2 in
-          safe_beside f path answer (place_of f part) made.0 t (a_part f path part beside plain new.free) new.free (λ e. beside.apart plain (sym e)) (made_differs (place_of f part) made.0 f.now t new) new.here new.bytes
+          let new = made_beside f a part made.0 t same p.same_paths made.2.made in
+          safe_beside f path answer (place_of f part) made.0 t (a_part f path part beside plain new.free) new.free (λ e. beside.apart plain (sym e)) (made_differs (place_of f part) made.0 f.now t new) new.here new.bytes (λ m is. made.2.mode (private m is))
     ])
 
 -- the new file beside is a part

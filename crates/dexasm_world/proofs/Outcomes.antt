@@ -7,7 +7,7 @@ use Rattle.std.proofs.lemmas.Slice.Eq.{bytes_eq-Decides}
 use Rattle.std.proofs.lemmas.Bool.Decides.{Decides-eqb}
 use Rattle.std.proofs.lemmas.List.Elements.{All-nil, All-cons}
 use Rattle.dexasm_world.specs.State.{Path, FileState, Stored, Files, place_of}
-use Rattle.dexasm_world.specs.Steps.{Same, TouchesOnly, Made, Wrote, Emptied, Dressed, Kept, Moved, Removed, Begun}
+use Rattle.dexasm_world.specs.Steps.{Same, TouchesOnly, Made, MadeAs, private_mode, Wrote, Emptied, Dressed, Kept, Moved, Removed, Begun}
 use Rattle.dexasm_world.specs.Possible.{MayLead, CanMake, CanDress, CanAppend, CanKeep, CanMove, CanRemove, CanBegin, CanFail}
 
 module _ {A : Type 0} (x y : A) where
@@ -51,23 +51,27 @@ leads f t P Q p q = (
 changes : (n : ℕ) (x : Stored) (s : FileState) → TouchesOnly n s (record { stands = s.stands; file = file_at n x s.file })
 changes n x s = record { names = λ p. refl; files = λ m away. file_away n x s.file m away }
 
+-- what a new file holds
+abbrev new_file : Stored
+new_file = record { bytes = []; mode = private_mode; kept = false }
+
 made_so : (place : Path) (n : ℕ) (s : FileState) → s.stands place ≡ None → ((p : Path) → s.stands p ≢ Some n)
-    → Made place n s (record { stands = stands_at place (Some n) s.stands; file = file_at n (record { bytes = []; mode = 0; kept = false }) s.file })
+    → Made place n s (record { stands = stands_at place (Some n) s.stands; file = file_at n new_file s.file })
 made_so place n s free own = record {
   free = free;
   own = own;
   here = stands_here place (Some n) s.stands;
   names = λ p away. stands_away place (Some n) s.stands p away;
-  bytes = ap (λ (x : Stored). x.bytes) (file_here n (record { bytes = []; mode = 0; kept = false }) s.file);
-  files = λ m away. file_away n (record { bytes = []; mode = 0; kept = false }) s.file m away;
+  bytes = ap (λ (x : Stored). x.bytes) (file_here n new_file s.file);
+  files = λ m away. file_away n new_file s.file m away;
 }
 
 pub can_make : CanMake
-can_make f path n plain free own =
+can_make f is_private path n plain free own =
     let s = f.now in
-    let t : FileState = record { stands = stands_at (place_of f path) (Some n) s.stands; file = file_at n (record { bytes = []; mode = 0; kept = false }) s.file } in
-    let m : Made (place_of f path) n s t = made_so (place_of f path) n s free own in
-    leads f t (λ u. Same s u ⊎ ((k : ℕ) × (f.paths.is_plain path ≡ true) × Made (place_of f path) k s u)) (Made (place_of f path) n s) (inr (n, plain, m)) m
+    let t : FileState = record { stands = stands_at (place_of f path) (Some n) s.stands; file = file_at n new_file s.file } in
+    let m : MadeAs is_private (place_of f path) n s t = record { made = made_so (place_of f path) n s free own; mode = λ is. ap (λ (x : Stored). x.mode) (file_here n new_file s.file) } in
+    leads f t (λ u. Same s u ⊎ ((k : ℕ) × (f.paths.is_plain path ≡ true) × MadeAs is_private (place_of f path) k s u)) (MadeAs is_private (place_of f path) n s) (inr (n, plain, m)) m
 
 pub can_dress : CanDress
 can_dress f n mode =
@@ -133,7 +137,7 @@ can_begin f path n h = elim h [
       begins_so f path n (record { stands = s.stands; file = file_at n x s.file }) (inl (is, e))
   | inr new ↦
       let s = f.now in
-      begins_so f path n (record { stands = stands_at (place_of f path) (Some n) s.stands; file = file_at n (record { bytes = []; mode = 0; kept = false }) s.file })
+      begins_so f path n (record { stands = stands_at (place_of f path) (Some n) s.stands; file = file_at n (new_file) s.file })
       (inr (made_so (place_of f path) n s new.0 new.1))
 ]
 

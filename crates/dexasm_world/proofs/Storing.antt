@@ -3,7 +3,7 @@ use Rattle.std.proofs.Common.{◌≡◌, ◌⊎◌, inl, inr, ℕ, List, [], Opt
 use Rattle.std.specs.Option.{IfSome}
 use Rattle.dexasm_world.specs.State.{FileState, Stored, Files, Passes}
 use Rattle.dexasm_world.specs.Steps.{Same, TouchesOnly, Wrote, Dressed}
-use Rattle.dexasm_world.specs.Parts.{Fills}
+use Rattle.dexasm_world.specs.Parts.{IsStill, Fills}
 use Rattle.dexasm_world.specs.declared.world.Dress.{Dress}
 use Rattle.dexasm_world.proofs.Passing.{weaker, goes_on}
 use Rattle.dexasm_world.proofs.Stepping.{IsFront, touches_then}
@@ -11,26 +11,26 @@ use Rattle.dexasm_world.proofs.Stepping.{IsFront, touches_then}
 touches_from_same : (n : ℕ) (s t : FileState) → Same s t → TouchesOnly n s t
 touches_from_same n s t same = record { names = same.names; files = λ m other. same.files m }
 
--- it has no more bytes yet, or its mode
-fills_by : (n : ℕ) (dress : Option Dress) (d : Dress) (s t : FileState) → dress ≡ Some d → TouchesOnly n s t → ((t.file n).bytes ≡ (s.file n).bytes) ⊎ ((t.file n).mode ≡ d.mode) → Fills n dress s t
+-- it is as it was, or has its mode
+fills_by : (n : ℕ) (dress : Option Dress) (d : Dress) (s t : FileState) → dress ≡ Some d → TouchesOnly n s t → IsStill n s t ⊎ ((t.file n).mode ≡ d.mode) → Fills n dress s t
 fills_by n dress d s t is only h = record {
   only = only;
-  narrow = subst (λ (o : Option Dress). IfSome o (λ e. ((t.file n).bytes ≡ (s.file n).bytes) ⊎ ((t.file n).mode ≡ e.mode))) (sym is) h;
+  narrow = subst (λ (o : Option Dress). IfSome o (λ e. IsStill n s t ⊎ ((t.file n).mode ≡ e.mode))) (sym is) h;
 }
 
 -- it is to have no mode of its own
 fills_undressed : (n : ℕ) (dress : Option Dress) (s t : FileState) → dress ≡ None → TouchesOnly n s t → Fills n dress s t
 fills_undressed n dress s t is only = record {
   only = only;
-  narrow = subst (λ (o : Option Dress). IfSome o (λ e. ((t.file n).bytes ≡ (s.file n).bytes) ⊎ ((t.file n).mode ≡ e.mode))) (sym is) tt;
+  narrow = subst (λ (o : Option Dress). IfSome o (λ e. IsStill n s t ⊎ ((t.file n).mode ≡ e.mode))) (sym is) tt;
 }
 
 -- it is dressed
 pub dressing : (f b : Files) (n : ℕ) (dress : Option Dress) (d : Dress) → dress ≡ Some d → Passes f b (λ t. Same f.now t ⊎ Dressed n d.mode f.now t) → Passes f b (Fills n dress f.now)
 dressing f b n dress d is p = weaker f b (λ t. Same f.now t ⊎ Dressed n d.mode f.now t) (Fills n dress f.now)
     (λ t m. elim m [
-      | inl same ↦ fills_by n dress d f.now t is (touches_from_same n f.now t same) (inl (ap (λ (x : Stored). x.bytes) (same.files n)))
-      | inr dressed ↦ fills_by n dress d f.now t is dressed.only (inl dressed.bytes)
+      | inl same ↦ fills_by n dress d f.now t is (touches_from_same n f.now t same) (inl (ap (λ (x : Stored). x.bytes) (same.files n), ap (λ (x : Stored). x.mode) (same.files n)))
+      | inr dressed ↦ fills_by n dress d f.now t is dressed.only (inr dressed.has)
     ]) p
 
 -- then written to

@@ -21,10 +21,14 @@ pub record HoldsBytes (place : Path) (bytes : List ℕ) (keeps : Bool) (s t : Fi
   pub mode : (n : ℕ) → s.stands place ≡ Some n → (t.file number).mode ≡ (s.file n).mode
   pub kept : keeps ≡ true → (t.file number).kept ≡ true
 
--- a file is written to, and where it is to be dressed it has its mode before it has bytes more
+-- a file has the bytes and the mode that it had
+abbrev pub IsStill : ℕ → FileState → FileState → Type 0
+IsStill n s t = ((t.file n).bytes ≡ (s.file n).bytes) × ((t.file n).mode ≡ (s.file n).mode)
+
+-- a file is written to, and where it is to be dressed it is as it was until it has its mode
 pub record Fills (n : ℕ) (dress : Option Dress) (s t : FileState) : Type 0 where
   pub only : TouchesOnly n s t
-  pub narrow : IfSome dress (λ d. ((t.file n).bytes ≡ (s.file n).bytes) ⊎ ((t.file n).mode ≡ d.mode))
+  pub narrow : IfSome dress (λ d. IsStill n s t ⊎ ((t.file n).mode ≡ d.mode))
 
 -- a file has these bytes more, and where it is to be dressed, the mode, and the disk has it
 pub record Stores (n : ℕ) (bytes : List ℕ) (dress : Option Dress) (s t : FileState) : Type 0 where

@@ -1,7 +1,7 @@
 -- For each call there is an outcome that its clauses allow: one that does what the call is for, and one that fails.
-use Rattle.std.specs.Prelude.{◌≡◌, ◌≢◌, ◌⊎◌, ◌<◌, ◌≤◌, ℕ, true, List, [], Some, None, length, take}
+use Rattle.std.specs.Prelude.{◌≡◌, ◌≢◌, ◌⊎◌, ◌<◌, ◌≤◌, ℕ, Bool, true, List, [], Some, None, length, take}
 use Rattle.dexasm_world.specs.State.{Path, FileState, Files, Passes, place_of}
-use Rattle.dexasm_world.specs.Steps.{Same, Made, Wrote, Dressed, Kept, Moved, Removed, Begun}
+use Rattle.dexasm_world.specs.Steps.{Same, MadeAs, Wrote, Dressed, Kept, Moved, Removed, Begun}
 use Rattle.dexasm_world.specs.Looks.{CanReplace}
 
 -- from these files a call may lead to others by this step, its moments being these
@@ -10,8 +10,8 @@ MayLead f Moment Step = (g : Files) × Passes f g Moment × Step g.now
 
 -- where nothing stands a file is made
 abbrev pub CanMake : Type 0
-CanMake = (f : Files) (path : Path) (n : ℕ) → f.paths.is_plain path ≡ true → f.now.stands (place_of f path) ≡ None → ((p : Path) → f.now.stands p ≢ Some n)
-    → MayLead f (λ t. Same f.now t ⊎ ((m : ℕ) × (f.paths.is_plain path ≡ true) × Made (place_of f path) m f.now t)) (Made (place_of f path) n f.now)
+CanMake = (f : Files) (is_private : Bool) (path : Path) (n : ℕ) → f.paths.is_plain path ≡ true → f.now.stands (place_of f path) ≡ None → ((p : Path) → f.now.stands p ≢ Some n)
+    → MayLead f (λ t. Same f.now t ⊎ ((m : ℕ) × (f.paths.is_plain path ≡ true) × MadeAs is_private (place_of f path) m f.now t)) (MadeAs is_private (place_of f path) n f.now)
 
 -- a file is dressed
 abbrev pub CanDress : Type 0

@@ -2,6 +2,7 @@
 use Rattle.std.specs.Prelude.{◌≡◌, ◌≢◌, ◌⊎◌, ◌<◌, ℕ, true, false, List, [], ◌++◌, codes, Some, None, IsSome, if◌then◌else◌, Result, Ok, Err}
 use Rattle.std.specs.Fmt.{decimal}
 use Rattle.dexasm_world.specs.State.{Path, FileState, Files, IsThere, place_of}
+use Rattle.dexasm_world.specs.Steps.{private_mode}
 use Rattle.dexasm_world.specs.declared.world.Refusal.{Refusal}
 
 -- the path of a file beside another: PATH.N.part
@@ -48,9 +49,10 @@ IsWholeAt out answer s t = IsAsBefore out s t ⊎ HasAnswer out answer s out t
 abbrev pub IsTaken : Files → Path → Type 0
 IsTaken f path = (f.paths.is_plain path ≡ false) ⊎ IsSome (f.now.stands (place_of f path))
 
--- a file beside OUT that holds something has the mode of the file that stood at OUT, if there was one
+-- if a file stood at OUT, one beside it has its mode, or is private and holds nothing yet
 abbrev pub IsNarrow : Path → Path → FileState → FileState → Type 0
-IsNarrow out place s t = (k m : ℕ) → t.stands place ≡ Some k → s.stands out ≡ Some m → ((t.file k).bytes ≡ []) ⊎ ((t.file k).mode ≡ (s.file m).mode)
+IsNarrow out place s t = (k m : ℕ) → t.stands place ≡ Some k → s.stands out ≡ Some m
+    → (((t.file k).bytes ≡ []) × ((t.file k).mode ≡ private_mode)) ⊎ ((t.file k).mode ≡ (s.file m).mode)
 
 -- A new file can stand beside OUT: OUT is a file or nothing, and no link to nothing, and its folder takes a file of the first part name that
 -- is free.

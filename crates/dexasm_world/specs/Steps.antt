@@ -1,5 +1,5 @@
 -- What a call does to the files.
-use Rattle.std.specs.Prelude.{◌≡◌, ◌≢◌, ◌⊎◌, ℕ, true, List, [], ◌++◌, Some, None}
+use Rattle.std.specs.Prelude.{◌≡◌, ◌≢◌, ◌⊎◌, ℕ, Bool, true, List, [], ◌++◌, Some, None}
 use Rattle.dexasm_world.specs.State.{Path, FileState}
 
 -- nothing is changed
@@ -45,6 +45,15 @@ pub record Made (place : Path) (n : ℕ) (s t : FileState) : Type 0 where
   pub names : (p : Path) → p ≢ place → t.stands p ≡ s.stands p
   pub bytes : (t.file n).bytes ≡ []
   pub files : (m : ℕ) → m ≢ n → t.file m ≡ s.file m
+
+-- the mode of a file that nobody but its owner may read or write: 0600
+abbrev pub private_mode : ℕ
+private_mode = 384
+
+-- a file is made, and if it is to be private, so it is made
+pub record MadeAs (is_private : Bool) (place : Path) (n : ℕ) (s t : FileState) : Type 0 where
+  pub made : Made place n s t
+  pub mode : is_private ≡ true → (t.file n).mode ≡ private_mode
 
 -- what stood at one place stands at the other, in place of what stood there
 pub record Moved (from to : Path) (s t : FileState) : Type 0 where

@@ -1,6 +1,7 @@
 //! An answer on its way to OUT: it is written beside OUT, and takes its place only when it is whole.
-ghost use Rattle.std.specs.Prelude.{◌≡◌, true, false, [], Ok, IfOk, OnOk, string_bytes, ⊤};
+ghost use Rattle.std.specs.Prelude.{◌≡◌, true, false, [], Ok, IfOk, IsSome, OnOk, string_bytes, ⊤};
 ghost use Rattle.dexasm_world.specs.State.{Passes, place_of};
+ghost use Rattle.dexasm_world.specs.Steps.{private_mode};
 ghost use Rattle.dexasm_world.specs.Safe.{part_path, IsAlone, IsSafe, IsDelivered, CanGive, Leaves};
 ghost use Rattle.dexasm_world.specs.Looks.{Looks, HasCause, HasCauseBeside, HasCauseAt};
 ghost use Rattle.dexasm_world.specs.Parts.{Overwrites, HoldsBytes, Fills, Stores, Dresses, HasPartFile, HasFullPart, Brings, HasBrought, LeavesPart};
@@ -74,7 +75,7 @@ fn deliver_over<W: World>(
     }
 }
 
-/// By way of a file beside, whose name is free.
+/// By way of a file beside, whose name is free. Where it is to have OUT's mode, nobody else may open it until it has.
 fn deliver_beside<W: World>(
     alloc: Global,
     world: &mut W,
@@ -97,7 +98,7 @@ fn deliver_beside<W: World>(
             return Err(Refusal::Memory);
         };
         let name = part.as_str();
-        match world.make(name) {
+        match world.make(name, dress.is_some()) {
             Ok(file) => return deliver_by(world, file, name, path, answer, dress, is_shared),
             Err(NotMade::Taken) => {}
             Err(NotMade::Closed) => return overwrite(world, path, answer, false),
@@ -126,6 +127,7 @@ fn deliver_by<W: World>(
 ) -> Result<(), Refusal>
     requires new { W.is_known ≡ true → HasPartFile (W.files world.old) part.now path.now (W.File.number file) }
     requires empty { W.is_known ≡ true → ((W.files world.old).now.file (W.File.number file)).bytes ≡ [] }
+    requires private { W.is_known ≡ true → IsSome dress → ((W.files world.old).now.file (W.File.number file)).mode ≡ private_mode }
     requires dressed { W.is_known ≡ true → Dresses (place_of (W.files world.old) path.now) dress (W.files world.old).now }
     ensures moments { W.is_known ≡ true → Passes (W.files world.old) (W.files world.new)
         (Brings (place_of (W.files world.old) part.now) (place_of (W.files world.old) path.now) answer.now

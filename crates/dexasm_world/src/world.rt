@@ -3,7 +3,7 @@ ghost use Rattle.std.specs.Prelude.{◌≡◌, ◌≢◌, ◌⊎◌, ◌≤◌, 
 ghost use Rattle.std.specs.Io.{ReadsAtMost, WritesAtMost};
 ghost use Rattle.std.specs.Io.KnownBytes.{ReadConsumes};
 ghost use Rattle.dexasm_world.specs.State.{Files, Passes, place_of};
-ghost use Rattle.dexasm_world.specs.Steps.{Same, Made, Wrote, Dressed, Kept, Moved, Removed, Begun};
+ghost use Rattle.dexasm_world.specs.Steps.{Same, MadeAs, Wrote, Dressed, Kept, Moved, Removed, Begun};
 ghost use Rattle.dexasm_world.specs.Safe.{part_path};
 ghost use Rattle.dexasm_world.specs.Looks.{Looks, LinkLeadsTo, Opens, Caused, IsBarredAt, HasCause, WhyNotMade, WhyNotReplaced, CanReplace};
 
@@ -114,12 +114,12 @@ pub trait World {
         ensures bytes { is_known ≡ true → ReadConsumes (Self.Reader.left reader.old) (Self.Reader.left reader.new) result piece.new }
         ensures cause { is_known ≡ true → Caused result (IsBarredAt (files self.now) (Self.Reader.place reader.old)) };
 
-    /// Makes a file where there is nothing, not even a link.
-    fn make(&mut self, path: &str) -> Result<Self::File, NotMade>
+    /// Makes a file where there is nothing, not even a link. If it is to be private, nobody but its owner may open it from the beginning.
+    fn make(&mut self, path: &str, is_private: bool) -> Result<Self::File, NotMade>
         ensures moments { is_known ≡ true → Passes (files self.old) (files self.new)
-            (λ t. Same (files self.old).now t ⊎ ((n : ℕ) × ((files self.old).paths.is_plain path.now ≡ true) × Made (place_of (files self.old) path.now) n (files self.old).now t)) }
+            (λ t. Same (files self.old).now t ⊎ ((n : ℕ) × ((files self.old).paths.is_plain path.now ≡ true) × MadeAs is_private (place_of (files self.old) path.now) n (files self.old).now t)) }
         ensures made { is_known ≡ true → IfOk result (λ f.
-            Made (place_of (files self.old) path.now) (Self.File.number f) (files self.old).now (files self.new).now) }
+            MadeAs is_private (place_of (files self.old) path.now) (Self.File.number f) (files self.old).now (files self.new).now) }
         ensures plain { is_known ≡ true → OnOk result ((files self.old).paths.is_plain path.now ≡ true) }
         ensures why { is_known ≡ true → WhyNotMade path.now (files self.old) (files self.new) result };
 

@@ -2,10 +2,10 @@
 use Rattle.std.specs.Prelude.{Result, Ok, Err, OnOk, Vec}
 use Rattle.std.specs.Global.{Global}
 use Rattle.std.specs.Borrow.{Bor}
-use Rattle.std.proofs.Common.{◌≡◌, ◌≢◌, ◌⊎◌, inl, inr, ℕ, ◌+◌, ◌<◌, None, Some, length, take, List, [], ◌∷◌, ◌++◌, append_assoc, refl, sym, ◌∙◌, ap, subst, arith}
+use Rattle.std.proofs.Common.{◌≡◌, ◌≢◌, ◌⊎◌, inl, inr, ℕ, Bool, true, false, ◌+◌, ◌<◌, None, Some, length, take, List, [], ◌∷◌, ◌++◌, append_assoc, refl, sym, ◌∙◌, ap, subst, arith}
 use Rattle.std.proofs.lemmas.List.Elements.{All-nil, All-cons}
-use Rattle.dexasm_world.specs.State.{Path, FileState, Passes}
-use Rattle.dexasm_world.specs.Steps.{Same, Made, Wrote, Moved, Removed}
+use Rattle.dexasm_world.specs.State.{Path, FileState, Stored, Passes}
+use Rattle.dexasm_world.specs.Steps.{Same, Made, MadeAs, private_mode, Wrote, Moved, Removed}
 use Rattle.dexasm_world.specs.Looks.{Caused, RefusedFor}
 use Rattle.dexasm_world.specs.declared.world.Refusal.{Refusal}
 use Rattle.dexasm_world.specs.declared.world.Refusal.TheVariants.{Memory, Missing, Other}
@@ -17,7 +17,7 @@ use Rattle.disk_samples.specs.declared.change.Outcome.{Outcome}
 use Rattle.disk_samples.specs.declared.change.Outcome.TheVariants.{Done, Failed}
 use Rattle.disk_samples.specs.declared.change.Entry.{Entry}
 use Rattle.disk_samples.specs.declared.disk.Disk.{Disk}
-use Rattle.disk_samples.proofs.Stepping.{before_more, faults_more, leftovers_more, state_more, unchanged, made_so, wrote_so, moved_so, removed_so}
+use Rattle.disk_samples.proofs.Stepping.{before_more, file_here, faults_more, leftovers_more, state_more, unchanged, made_so, wrote_so, moved_so, removed_so}
 
 stays_now : (d e : Disk) → Stays d e → (files_of e).now ≡ (files_of d).now
 stays_now d e k = ap state_of k.log
@@ -118,6 +118,14 @@ made_at d place path n bytes mode same empty new free numbered =
     let there : Made place.now n s (step (Make place n bytes mode) s) =
     made_so place n bytes mode s empty (ap s.stands same ∙ free) (λ p is. omega (arith, numbered p n is, new)) in
     subst (λ p. Made p n s (step (Make place n bytes mode) s)) same there
+
+-- and it is private if it is to be
+pub made_as : (d : Disk) (is_private : Bool) (place : Bor Path) (path : Path) (n : ℕ) (bytes : Vec ℕ Global) (mode : ℕ) → place.now ≡ path → bytes.items ≡ [] → n ≡ length d.log.items
+    → (files_of d).now.stands path ≡ None → AreMadeBefore d.log.items → (is_private ≡ true → mode ≡ private_mode) → MadeAs is_private path n (files_of d).now (step (Make place n bytes mode) (files_of d).now)
+made_as d is_private place path n bytes mode same empty new free numbered private = record {
+  made = made_at d place path n bytes mode same empty new free numbered;
+  mode = λ is. ap (λ (x : Stored). x.mode) (file_here n (record { bytes = bytes.items; mode = mode; kept = false }) (files_of d).now.file) ∙ private is;
+}
 
 -- a front of a piece was written
 pub wrote_front : (n k : ℕ) (front : Vec ℕ Global) (piece : List ℕ) (s : FileState) → front.items ≡ take k piece → Wrote n (take k piece) s (step (Write n front) s)

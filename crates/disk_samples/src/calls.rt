@@ -1,5 +1,6 @@
 //! The calls on a disk.
-ghost use Rattle.std.specs.Prelude.{true, string_bytes};
+ghost use Rattle.std.specs.Prelude.{◌≡◌, true, string_bytes};
+ghost use Rattle.dexasm_world.specs.Steps.{private_mode};
 ghost use Rattle.disk_samples.specs.Disks.{files_of};
 ghost use Rattle.disk_samples.specs.Apart.{parts_apart};
 
@@ -12,8 +13,17 @@ use std::alloc::Global;
 use std::io;
 use std::io::{Cursor, Read};
 
-/// The mode of a new file.
+/// The modes of new files.
+const PRIVATE_MODE: u32 = 0o600;
+
 const NEW_MODE: u32 = 0o644;
+
+/// The mode of a new file.
+fn mode_of_new(is_private: bool) -> u32
+    ensures { is_private ≡ true → result ≡ private_mode }
+{
+    if is_private { PRIVATE_MODE } else { NEW_MODE }
+}
 
 /// A file that is open for writing, by its number.
 #[derive(Drop)]
@@ -100,7 +110,7 @@ impl World for Disk {
         }
     }
 
-    fn make(&mut self, path: &str) -> Result<Opened, NotMade> {
+    fn make(&mut self, path: &str, is_private: bool) -> Result<Opened, NotMade> {
         if number_at(self.log.as_slice(), path).is_some() {
             return Err(NotMade::Taken);
         }
@@ -111,7 +121,8 @@ impl World for Disk {
             return Err(NotMade::Closed);
         };
         let number = self.log.len();
-        let change = Change::Make(place, number, Vec::new(self.alloc), NEW_MODE);
+        let mode = mode_of_new(is_private);
+        let change = Change::Make(place, number, Vec::new(self.alloc), mode);
         match self.call(change, Outcome::MayHaveLeft) {
             Ok(()) => Ok(Opened(number)),
             Err(refusal) => Err(NotMade::Failed(refusal)),

@@ -1,12 +1,13 @@
-use Rattle.std.proofs.Common.{◌≡◌, true, ◌∙◌, sym, ap, subst, arith, refl, Err}
+use Rattle.std.proofs.Common.{◌≡◌, ℕ, true, Some, ◌∙◌, sym, ap, subst, arith, refl, Err}
 use Rattle.std.proofs.lemmas.Result.{on_ok_weaker}
-use Rattle.dexasm_world.specs.State.{Paths, FileState, Files, Passes}
+use Rattle.dexasm_world.specs.State.{Paths, FileState, Files, Passes, place_of}
 use Rattle.dexasm_world.specs.Safe.{IsSafe}
 use Rattle.dexasm_world.specs.Steps.{Same}
 use Rattle.dexasm_world.proofs.States.{same_state}
 use Rattle.dexasm_world.proofs.Failing.{taken_was, closed_was, not_made_was}
 use Rattle.dexasm_world.proofs.Leaving.{leaves_clean, leaves_same, leaves_unmade, leaves_brought}
 use Rattle.dexasm_world.proofs.Passing.{stays}
+use Rattle.dexasm_world.proofs.Bringing.{dressed_some}
 use Rattle.dexasm_world.proofs.Choosing.{IsBeside, beside_by, safe_at_first, trying, has_part, bringing, delivered, in_place, in_place_delivered, no_room, true_or, made_keeps, taken_more, taken_at_first}
 use Rattle.dexasm_world.specs.declared.world.Refusal.TheVariants.{Other}
 use Rattle.dexasm_world.proofs.delivery.deliver_beside.Given as given
@@ -31,8 +32,12 @@ module _ (g : given.Over) (c : After-make g) (k : g.W.World.is_known ≡ true) w
   same : before.now ≡ first.now
   same = same_state first.now before.now (c.loop-number.invariant.same k)
 
+  -- a file that stands at OUT has a dress
+  is_private : (m : ℕ) → first.now.stands (place_of first c.args.path.now) ≡ Some m → c.is_some.result ≡ true
+  is_private m is = c.is_some.ensures ∙ dressed_some c.args.dress ((first.now.file m).mode) (c.requires.dressed k m is)
+
   tried : Passes first after (IsSafe first c.args.path.now c.args.answer.now)
-  tried = trying first before after c.args.path.now c.as_str-name.result.now c.args.answer.now beside same (c.loop-number.invariant.moments k) (c.make.ensures.moments k)
+  tried = trying first before after c.args.path.now c.as_str-name.result.now c.args.answer.now c.is_some.result beside same is_private (c.loop-number.invariant.moments k) (c.make.ensures.moments k)
 
 -- nothing is changed at first
 pub loop-number-init : goal.loop-number-init
@@ -47,18 +52,21 @@ loop-number-init g c =
 pub deliver_by-requires-clause-new : goal.deliver_by-requires-clause-new
 deliver_by-requires-clause-new g c k =
     let m = (goal.at.deliver_by-requires-clause-new g c).After-make in
-    has_part (first g m k) (before g m k) (after g m k) c.args.path.now c.as_str-name.result.now (g.W.File.Handle.number c.in-Ok-make.file) (beside g m k) (c.loop-number.invariant.moments k).same_paths (c.make.ensures.moments k).same_paths (c.in-Ok-make.ensures.plain k) (c.in-Ok-make.ensures.made k)
+    has_part (first g m k) (before g m k) (after g m k) c.args.path.now c.as_str-name.result.now (g.W.File.Handle.number c.in-Ok-make.file) (beside g m k) (c.loop-number.invariant.moments k).same_paths (c.make.ensures.moments k).same_paths (c.in-Ok-make.ensures.plain k) (c.in-Ok-make.ensures.made k).made
 
 pub deliver_by-requires-clause-dressed : goal.deliver_by-requires-clause-dressed
 deliver_by-requires-clause-dressed g c k =
     let m = (goal.at.deliver_by-requires-clause-dressed g c).After-make in
-    made_keeps (first g m k) (before g m k) (after g m k) c.args.path.now c.as_str-name.result.now (g.W.File.Handle.number c.in-Ok-make.file) (beside g m k) (same g m k) (c.loop-number.invariant.moments k).same_paths (tried g m k).same_paths (c.in-Ok-make.ensures.plain k) (c.in-Ok-make.ensures.made k) c.args.dress (c.requires.dressed k)
+    made_keeps (first g m k) (before g m k) (after g m k) c.args.path.now c.as_str-name.result.now (g.W.File.Handle.number c.in-Ok-make.file) (beside g m k) (same g m k) (c.loop-number.invariant.moments k).same_paths (tried g m k).same_paths (c.in-Ok-make.ensures.plain k) (c.in-Ok-make.ensures.made k).made c.args.dress (c.requires.dressed k)
+
+pub deliver_by-requires-clause-private : goal.deliver_by-requires-clause-private
+deliver_by-requires-clause-private g c k = λ some. (c.in-Ok-make.ensures.made k).mode (c.is_some.ensures ∙ some)
 
 pub returns-in-Ok-make-clause-moments : goal.returns-in-Ok-make-clause-moments
 returns-in-Ok-make-clause-moments g c k =
     let m = (goal.at.returns-in-Ok-make-clause-moments g c).After-make in
     let d = g.W.World.files c.deliver_by.new.world in
-    bringing (first g m k) (before g m k) (after g m k) d c.args.path.now c.as_str-name.result.now (g.W.File.Handle.number c.in-Ok-make.file) c.args.answer.now _ (beside g m k) (same g m k) (c.loop-number.invariant.moments k).same_paths (c.in-Ok-make.ensures.plain k) (c.in-Ok-make.ensures.made k)
+    bringing (first g m k) (before g m k) (after g m k) d c.args.path.now c.as_str-name.result.now (g.W.File.Handle.number c.in-Ok-make.file) c.args.answer.now _ (beside g m k) (same g m k) (c.loop-number.invariant.moments k).same_paths (c.in-Ok-make.ensures.plain k) (c.in-Ok-make.ensures.made k).made
     (λ give. (ap (λ (x : Paths). x.is_fixed (x.place c.args.path.now)) (tried g m k).same_paths ∙ give.free, false_from_ne_true c.args.is_shared (λ is. c.requires.shared k is give)))
     (tried g m k) (c.deliver_by.ensures.moments k)
 
@@ -66,7 +74,7 @@ pub returns-in-Ok-make-clause-done : goal.returns-in-Ok-make-clause-done
 returns-in-Ok-make-clause-done g c k =
     let m = (goal.at.returns-in-Ok-make-clause-done g c).After-make in
     let d = g.W.World.files c.deliver_by.new.world in
-    on_ok_weaker c.deliver_by.result (delivered (first g m k) (before g m k) (after g m k) d c.args.path.now c.as_str-name.result.now (g.W.File.Handle.number c.in-Ok-make.file) c.args.answer.now _ _ (beside g m k) (same g m k) (c.loop-number.invariant.moments k).same_paths (tried g m k).same_paths (c.in-Ok-make.ensures.plain k) (c.in-Ok-make.ensures.made k)
+    on_ok_weaker c.deliver_by.result (delivered (first g m k) (before g m k) (after g m k) d c.args.path.now c.as_str-name.result.now (g.W.File.Handle.number c.in-Ok-make.file) c.args.answer.now _ _ (beside g m k) (same g m k) (c.loop-number.invariant.moments k).same_paths (tried g m k).same_paths (c.in-Ok-make.ensures.plain k) (c.in-Ok-make.ensures.made k).made
     (λ give. (ap (λ (x : Paths). x.is_fixed (x.place c.args.path.now)) (tried g m k).same_paths ∙ give.free, false_from_ne_true c.args.is_shared (λ is. c.requires.shared k is give))) (true_or c.args.is_shared _ (c.requires.alone k)) (c.deliver_by.ensures.moments k))
     (c.deliver_by.ensures.done k)
 
@@ -111,7 +119,7 @@ returns-in-Ok-make-clause-left g c k =
     let m = (goal.at.returns-in-Ok-make-clause-left g c).After-make in
     let d = g.W.World.files c.deliver_by.new.world in
     leaves_brought (first g m k) (before g m k) (after g m k) d c.args.path.now c.as_str-name.result.now (g.W.File.Handle.number c.in-Ok-make.file) c.args.answer.now _ c.deliver_by.result (beside g m k) (same g m k) (c.loop-number.invariant.moments k).same_paths (tried g m k).same_paths (tried g m k).no_fewer
-    (c.in-Ok-make.ensures.plain k) (c.in-Ok-make.ensures.made k)
+    (c.in-Ok-make.ensures.plain k) (c.in-Ok-make.ensures.made k).made
     (λ give. (ap (λ (x : Paths). x.is_fixed (x.place c.args.path.now)) (tried g m k).same_paths ∙ give.free, false_from_ne_true c.args.is_shared (λ is. c.requires.shared k is give)))
     (c.deliver_by.ensures.moments k) (c.deliver_by.ensures.left k)
 

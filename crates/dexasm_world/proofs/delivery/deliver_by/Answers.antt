@@ -42,7 +42,7 @@ module _ (g : given.Over) (c : After-store g) (k : g.W.World.is_known ≡ true) 
   apart = differs_at_part first c.args.part.now c.args.path.now (g.W.File.Handle.number c.args.file) stored.now (c.requires.new k) (c.store.ensures.moments k).last.only
 
   fine : Passes first stored (IsFine part out c.args.answer.now first.now)
-  fine = storing first stored c.args.part.now c.args.path.now (g.W.File.Handle.number c.args.file) c.args.answer.now c.args.dress (c.requires.new k) (c.requires.empty k) (c.requires.dressed k) (c.store.ensures.moments k)
+  fine = storing first stored c.args.part.now c.args.path.now (g.W.File.Handle.number c.args.file) c.args.answer.now c.args.dress (c.requires.new k) (c.requires.empty k) (c.requires.private k) (c.requires.dressed k) (c.store.ensures.moments k)
 
 pub copy_over-requires : goal.copy_over-requires
 copy_over-requires g c k =
