@@ -2,10 +2,10 @@
 import os
 import re
 
-from tree import INSIDE, OUTSIDE, crates, names_of_files, read, words_of
+from tree import INSIDE, crates, names_of_files, read, words_of
 
 MAP, PROVED = "docs/MAP.md", "docs/PROVED.md"
-MISTAKES = "| Mistake | In the gate | Outside |\n"
+MISTAKES = "| Mistake | Wrong bodies |\n"
 TO_SEE, BY_LAYER, AFTER = "\n## The crates to see\n", "\n## Crates, from the bottom up\n", "\n## "
 
 NAME_OR_FILE = re.compile(r"\b([a-z]\w*)\b(?!\.)|`(?:specs/|src/)?(\w+\.(?:antt|rt))`")
@@ -90,16 +90,15 @@ def without_mistakes(page: str) -> str:
 
 
 def mistakes_in_vain() -> list[str]:
-    """The wrong bodies that PROVED names beside a mistake, in the gate and outside, and that their crate doesn't have there."""
+    """The wrong bodies that PROVED names beside a mistake and that the gate doesn't have."""
     page, vain = read(PROVED), []
     table = page[page.index(MISTAKES) :].split("\n\n", 1)[0]
     for row in rows(table, "Mistake"):
-        for cell, folder in zip(row[1:], (INSIDE, OUTSIDE)):
-            crate = ""
-            for name, edit in re.findall(r"(?:(\w+) )?`([\w-]+)`", cell):
-                crate = name or crate
-                if not os.path.exists(f"crates/{crate}/{folder}/{edit}.edit"):
-                    vain.append(f"{PROVED} names {edit}, which {crate} doesn't have in {folder}/")
+        crate = ""
+        for name, edit in re.findall(r"(?:(\w+) )?`([\w-]+)`", row[1]):
+            crate = name or crate
+            if not os.path.exists(f"crates/{crate}/{INSIDE}/{edit}.edit"):
+                vain.append(f"{PROVED} names {edit}, which {crate} doesn't have in {INSIDE}/")
     return vain
 
 

@@ -1,6 +1,6 @@
 //! The work that `bench/*/run` time beside plain Rust: `bench NAME WORD ..`, where NAME is `codecs`, `insns`, `needed`,
-//! `tables`, `code` or `listing`, and the words are those of the file of that name. `bench all` does each once, on little;
-//! `tables` and `code` read the file on standard input.
+//! `tables`, `code` or `listing`, and the words are those of the file of that name; and `bench puts`, whose requests for memory
+//! tools/refused-memory refuses. `bench all` does each once, on little; `tables` and `code` read the file on standard input.
 //!
 //! docs/MAP.md says where this crate stands among the others.
 #![tactic(auto)]
@@ -10,6 +10,7 @@ mod codecs;
 mod insns;
 mod listing;
 mod needed;
+mod puts;
 mod tables;
 mod words;
 
@@ -45,11 +46,12 @@ fn run(
         "codecs" => codecs::run(rt, words),
         "insns" => insns::run(rt, words),
         "needed" => needed::run(rt, words),
+        "puts" => puts::run(rt),
         "tables" => tables::run(rt, words, bytes),
         "code" => code::run(rt, words, bytes),
         "listing" => listing::run(rt, words),
         "all" => run_all(rt, bytes),
-        _ => println!(rt; "bench codecs|insns|needed|tables|code|listing|all WORD .."),
+        _ => println!(rt; "bench codecs|insns|needed|puts|tables|code|listing|all WORD .."),
     }
 }
 
@@ -58,6 +60,7 @@ fn run_all(rt: &(impl Print + Alloc<A = Global>), bytes: &[u8]) -> io::Result<()
     codecs::run(rt, &["all", "2"])?;
     insns::run(rt, &["1", "2"])?;
     needed::run(rt, &["method", "200", "mentions"])?;
+    puts::run(rt)?;
     tables::run(rt, &["1"], bytes)?;
     code::run(rt, &["1"], bytes)?;
     listing::run(rt, &["all", "1"])

@@ -8,6 +8,7 @@ pub mod PlainLaws
 pub mod OneInsnFault
 pub mod Lists
 pub mod ReadLaws
+pub mod AddressLaws
 pub mod Bytes
 pub mod CarryLaws
 pub mod Carrying

@@ -81,7 +81,7 @@ starts-low us a [] e k h l = absurd (omega arith)
 starts-low us a (r ∷ rs) e zero h l = omega arith
 starts-low us a (r ∷ rs) e (suc k) h l = let t = starts-low us (a + units r) rs e k h.1 (omega arith) in omega arith
 
-run-rises : (us : List ℕ) (a : ℕ) (rs : List Raw) (e i j : ℕ) → Run us a rs e → i < j → j < length rs → get_or (starts_from a (map units rs)) i 0 < get_or (starts_from a (map units rs)) j 0
+pub run-rises : (us : List ℕ) (a : ℕ) (rs : List Raw) (e i j : ℕ) → Run us a rs e → i < j → j < length rs → get_or (starts_from a (map units rs)) i 0 < get_or (starts_from a (map units rs)) j 0
 run-rises us a [] e i j h p l = absurd (omega arith)
 run-rises us a (r ∷ rs) e i zero h p l = absurd (omega arith)
 run-rises us a (r ∷ rs) e zero (suc j) h p l = let t = starts-low us (a + units r) rs e j h.1 (omega arith) in let u = (stands-whole us a r h.0).0 in omega arith

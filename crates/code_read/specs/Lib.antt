@@ -2,6 +2,7 @@ pub mod Places
 pub mod Walk
 pub mod Symbols
 pub mod Linked
+pub mod ByAddress
 pub mod InsnFaults
 pub mod Registers
 pub mod InsnReading

@@ -1,11 +1,13 @@
 //! Laws of instructions, each the contract of a function that does nothing.
-ghost use Rattle.std.specs.Prelude.{◌≡◌, ◌*◌, ◌/◌, ℕ, ℤ, List, length};
+ghost use Rattle.std.specs.Prelude.{◌≡◌, ◌<◌, ◌*◌, ◌/◌, ℕ, ℤ, List, length};
 ghost use Rattle.dex_base.specs.declared.fault.Fault.{Fault};
 ghost use Rattle.dex_insn.specs.Raw.{Raw};
 ghost use Rattle.dex_insn.specs.Registers.{named_registers};
-ghost use Rattle.program_types.specs.Content.{Name};
+ghost use Rattle.program_types.specs.Content.{Name, Code};
 ghost use Rattle.program_types.specs.Formed.{insn_registers};
 ghost use Rattle.tables_rows.specs.Names.{Names, NameIsAt};
+ghost use Rattle.code_read.specs.ByAddress.{LeadsByAddress};
+ghost use Rattle.code_read.specs.Code.{SpellsCode};
 ghost use Rattle.code_read.specs.InsnFaults.{InsnsBreak};
 ghost use Rattle.code_read.specs.Symbols.{linked};
 
@@ -18,4 +20,10 @@ pub fn registers_are_said()
 /// The instructions of a code have one fault: one number, at one place.
 pub fn insns_break_one_rule()
     ensures { (names : Names) (us : List ℕ) (base : ℕ) → length us ≡ 2 * (length us / 2) → (e f : Fault) → InsnsBreak (NameIsAt names) us base e → InsnsBreak (NameIsAt names) us base f → e ≡ f }
+{}
+
+/// By address, as the page says: where a code is spelled, each branch, each target of a switch and each reference to a payload leads to
+/// the instruction whose address is the sum, and to no other. An offset counts from its instruction, a switch's target from the switch.
+pub fn offsets_lead_by_address()
+    ensures { (names : Names) (bytes : List ℕ) (c : Code) (s : SpellsCode (NameIsAt names) bytes c) (k : ℕ) → k < length c.insns → LeadsByAddress s.body.raws c.insns k }
 {}

@@ -1,53 +1,23 @@
 //! Codes by hand: where their instructions begin, whether they fit, their bytes, and what is aligned.
 
-ghost use Rattle.std.specs.Prelude.{◌≡◌, ◌≤◌, ◌<◌, [], IfOk, IsTrue};
+ghost use Rattle.std.specs.Prelude.{◌≡◌, ◌≤◌, []};
 ghost use Rattle.std.specs.List.{flat_map};
 ghost use Rattle.code_put.specs.Fits.{wide_code};
-ghost use Rattle.tables_names.specs.Closure.{nothing};
-ghost use Rattle.program_types.specs.Formed.{IsFormed};
 ghost use Rattle.program_types.specs.Mentions.{names_of_insn, names_of_try};
 ghost use Rattle.program_types.specs.View as view;
 
 use crate::told::insns_told;
 use bumpalo::Bump;
 use code_align::align;
-use code_put::{addresses, fits, put_code};
+use code_put::addresses;
 use dex_base::{Fault, fault};
 use dex_samples::{Case, all_hold};
-use program_code_rules::{CodeRule, code_holds};
-use program_types::{Code, Insn, Try};
+use program_types::{Code, Insn};
+use put_samples::{LOOP, is_formed, no_ranks, put_nameless};
 use std::alloc::Global;
 use std::test::Fail;
-use tables_names::{Needed, Ranks};
 
-/// const/4, if-eqz over the goto, a goto back to it, return-void, and a try of the two in between.
-static LOOP: Code<'static> = Code {
-    registers: 1,
-    ins: 0,
-    outs: 0,
-    insns: &[
-        Insn::I11n {
-            op: 0x12,
-            a: 0,
-            b: 0,
-        },
-        Insn::I21t {
-            op: 0x38,
-            a: 0,
-            to: 3,
-        },
-        Insn::I10t { op: 0x28, to: 1 },
-        Insn::I10x { op: 0x0e },
-    ],
-    tries: &[Try {
-        from: 1,
-        to: 3,
-        catches: &[],
-        catch_all: Some(3),
-    }],
-};
-
-/// Its code item.
+/// The code item of LOOP.
 static ITEM: [u8; 39] = [
     1, 0, 0, 0, 0, 0, 1, 0, 0, 0, 0, 0, 5, 0, 0, 0, 0x12, 0, 0x38, 0, 3, 0, 0x28, 0xfe, 0x0e, 0, 0,
     0, 1, 0, 0, 0, 3, 0, 1, 0, 1, 0, 4,
@@ -94,33 +64,6 @@ static FAR: Code<'static> = Code {
     tries: &[],
 };
 
-/// A number of 16 bits.
-fn is_u16(_number: u16)
-    ensures { _number < 65536 }
-{}
-
-/// Whether the code keeps the rules of a program's.
-fn is_formed(code: &Code<'_>) -> bool
-    ensures { IsTrue result → IsFormed (view.code code.now) }
-{
-    is_u16(code.registers);
-    is_u16(code.ins);
-    is_u16(code.outs);
-    if !code_holds(CodeRule::Operand, code) {
-        return false;
-    }
-    if !code_holds(CodeRule::Target, code) {
-        return false;
-    }
-    if !code_holds(CodeRule::PayloadUse, code) {
-        return false;
-    }
-    if !code_holds(CodeRule::Try, code) {
-        return false;
-    }
-    code_holds(CodeRule::Register, code)
-}
-
 /// Whether the instructions begin at these addresses, and end at the last one.
 fn begins_at(alloc: Global, code: &Code<'_>, want: &[u64]) -> Result<bool, Fault> {
     if !is_formed(code) {
@@ -130,35 +73,15 @@ fn begins_at(alloc: Global, code: &Code<'_>, want: &[u64]) -> Result<bool, Fault
     Ok(all.as_slice() == want)
 }
 
-/// The ranks of no names.
-fn no_ranks<'a>(alloc: Global) -> Result<Ranks<'a>, Fault>
-    ensures { IfOk result (λ r. r ≡ nothing) }
-{
-    Needed::new(alloc).freeze()
-}
-
-/// The item of a code without names, if it keeps the rules. Refused as `fits` refuses it.
-fn put_nameless(alloc: Global, ranks: &Ranks<'_>, code: &Code<'_>) -> Result<Vec<u8>, Fault>
-    requires ranks { ranks.now ≡ nothing }
-    requires insns { flat_map names_of_insn (view.code code.now).insns ≡ [] }
-    requires tries { flat_map names_of_try (view.code code.now).tries ≡ [] }
-    requires short { wide_code (view.code code.now) ≤ 4294967295 }
-{
-    let mut item = Vec::new(alloc);
-    if is_formed(code) {
-        fits(alloc, ranks, code)?;
-        put_code(&mut item, ranks, code)?;
-    }
-    Ok(item)
-}
-
 fn item_of(alloc: Global, code: &Code<'_>) -> Result<Vec<u8>, Fault>
     requires insns { flat_map names_of_insn (view.code code.now).insns ≡ [] }
     requires tries { flat_map names_of_try (view.code code.now).tries ≡ [] }
     requires short { wide_code (view.code code.now) ≤ 4294967295 }
 {
     let ranks = no_ranks(alloc)?;
-    put_nameless(alloc, &ranks, code)
+    let mut item = Vec::new(alloc);
+    put_nameless(&mut item, &ranks, code)?;
+    Ok(item)
 }
 
 #[tactic(auto, unfolding(program_types::specs::Sizes::insn_units, program_types::specs::Sizes::total))]

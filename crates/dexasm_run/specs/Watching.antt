@@ -1,6 +1,6 @@
 -- What callers see of a watched reader or writer.
 use Rattle.std.specs.Prelude.{Bool}
-use Rattle.dexasm_run.specs.declared.ends.Watched.{Watched}
+use Rattle.dexasm_run.specs.declared.watched.Watched.{Watched}
 
 module _ {T : Type 0} where
   -- the reader or the writer

@@ -14,12 +14,16 @@ mod answers;
 mod laws;
 
 // A job run over a reader and a writer, and how it ends.
-mod ends;
 mod error;
 mod running;
+mod sink;
+mod source;
+mod watched;
 
 pub use answers::{answer, answer_owned, answer_owned_seeded, answer_seeded};
-pub use ends::{Reader, Sink, Source, Watched, Writer};
 pub use error::{Line, RunFault, line_text, status};
 pub use laws::{listed_and_assembled_is_stripped, one_answer, one_outcome};
 pub use running::{answer_bytes, make, run, run_seeded, write_all};
+pub use sink::{Sink, Writer};
+pub use source::{Reader, Source};
+pub use watched::Watched;

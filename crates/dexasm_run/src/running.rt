@@ -4,8 +4,9 @@ ghost use Rattle.std.specs.Io.KnownBytes.{Keeps};
 ghost use Rattle.dexasm_run.specs.Runs.{Answers, AnswersTo, BeginsAnswer, Makes, MatchRun, Refuses, ReadsAll, WritesAll};
 
 use crate::answers::answer_owned_seeded;
-use crate::ends::{Sink, Source};
 use crate::error::RunFault;
+use crate::sink::Sink;
+use crate::source::Source;
 use dex_base::{Fault, Seed};
 use dexasm_job::Job;
 use std::alloc::{AllocError, Global};

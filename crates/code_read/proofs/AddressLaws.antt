@@ -1,0 +1,107 @@
+-- Where the offsets of linked instructions lead, by address.
+use Rattle.std.proofs.Common.{◌≡◌, ℕ, ℤ, pos, ◌/◌, ◌<◌, List, [], ◌∷◌, length, map, get_or, refl, ap, sym, ◌∙◌, subst, arith, Option, Some, None, inl, inr}
+use Rattle.std.specs.Prelude.{unwrap_or}
+use Rattle.std.specs.List.{AllByRecursion, AllZip}
+use Rattle.std.proofs.lemmas.Bool.{cases_lt}
+use Rattle.dex_insn.specs.Raw as raw
+use Rattle.dex_insn.specs.Raw.{Raw}
+use Rattle.program_types.specs.Content.{Name, Insn}
+use Rattle.program_types.specs.Formed.{IsSwitch, insn_at, insn_payload, insn_leads, RefersToPayload, PayloadHolds}
+use Rattle.program_code_rules.specs.Branches.{IsOrigin}
+use Rattle.code_read.specs.Places.{Rises, target_at}
+use Rattle.code_read.specs.Walk.{Walks, starts, raw_at, address}
+use Rattle.code_read.specs.Symbols.{linked, name_in}
+use Rattle.code_read.specs.Linked.{lead, payload_of, SpellsInsns}
+use Rattle.code_read.specs.ByAddress.{offsets_of, CountFrom, LeadsTo, LeadsByAddress}
+use Rattle.code_read.proofs.Runs.{run-rises, length-of_starts}
+use Rattle.code_read.proofs.PlaceLaws.{target-there}
+use Rattle.code_read.proofs.LinkLaws.{kind-linked}
+use Rattle.code_read.proofs.CodesFormed.{leads-inside}
+
+-- ---- one offset
+
+walk-rises : (us : List ℕ) (rs : List Raw) → Walks us rs → Rises (starts rs)
+walk-rises us rs w = let n = length-of_starts rs in record { each = λ i j p q. run-rises us 0 rs (length us / 2) i j w.run p (omega (arith, n, q)) }
+
+-- addresses that rise are those of one instruction each
+rises-one : (ss : List ℕ) (i j : ℕ) → Rises ss → i < length ss → j < length ss → get_or ss i 0 ≡ get_or ss j 0 → i ≡ j
+rises-one ss i j r a b e = elim (cases_lt i j) [
+  | inl l ↦ let q = r.each i j l b in absurd (omega (arith, q, e))
+  | inr l ↦ elim (cases_lt j i) [
+    | inl m ↦ let q = r.each j i m a in absurd (omega (arith, q, e))
+    | inr m ↦ omega (arith, l, m)
+  ]
+]
+
+pos-one : (m n : ℕ) → pos m ≡ pos n → m ≡ n
+pos-one m n e = cc
+
+-- `lead` answers the length only where an offset leads nowhere
+some-below : (o : Option ℕ) (d : ℕ) → unwrap_or o d < d → o ≡ Some (unwrap_or o d)
+some-below None d h = absurd (omega (arith, h))
+some-below (Some n) d h = refl
+
+lead-there : (ss : List ℕ) (base : ℕ) (z : ℤ) → lead ss base z < length ss → target_at ss base z ≡ Some (lead ss base z)
+unfolding lead
+lead-there ss base z h = some-below (target_at ss base z) (length ss) h
+
+leads-to : (rs : List Raw) (from : ℕ) (z : ℤ) → Rises (starts rs) → lead (starts rs) (address rs from) z < length rs → LeadsTo rs from z (lead (starts rs) (address rs from) z)
+leads-to rs from z r h =
+    let n = length-of_starts rs in
+    let p = target-there (starts rs) (address rs from) z _ (lead-there (starts rs) (address rs from) z (omega (arith, n, h))) in
+    record { there = h; sum = p.1; only = λ m l e. rises-one (starts rs) m _ r (omega (arith, n, l)) p.0 (pos-one _ _ (e ∙ sym p.1)) }
+
+-- ---- the offsets of one instruction
+
+all-lead : (rs : List Raw) (from : ℕ) (zs : List ℤ) → Rises (starts rs) → AllByRecursion (λ to. to < length rs) (map (lead (starts rs) (address rs from)) zs)
+    → AllZip (LeadsTo rs from) zs (map (lead (starts rs) (address rs from)) zs)
+all-lead rs from [] r h = tt
+all-lead rs from (z ∷ zs) r h = (leads-to rs from z r h.0, all-lead rs from zs r h.1)
+
+leads-linked : (T : ℤ → ℕ) (w : Name) (r : Raw) → insn_leads (linked T w r) ≡ map T (offsets_of r)
+unfolding linked
+leads-linked T w (raw.I10x op) = refl
+leads-linked T w _ = refl
+
+-- ---- from where they count
+
+switch-origin : (is : List Insn) (k o : ℕ) → IsSwitch (insn_payload (insn_at is k)) → PayloadHolds is k → IsOrigin is k o → RefersToPayload is o k
+switch-origin is k o w p (inl s) = s.1
+switch-origin is k o w p (inr s) = let u = p.used w in absurd (s.0 u.0 (w, u.1, λ i x. let e = u.2 i x in omega (arith, e)))
+
+other-origin : (is : List Insn) (k o : ℕ) → (¬ IsSwitch (insn_payload (insn_at is k))) → IsOrigin is k o → o ≡ k
+other-origin is k o h (inl s) = absurd (h s.0)
+other-origin is k o h (inr s) = s.1
+
+count-from : (is : List Insn) (k o : ℕ) (r : Raw) → insn_payload (insn_at is k) ≡ payload_of r → PayloadHolds is k → IsOrigin is k o → CountFrom is k r o
+unfolding payload_of
+count-from is k o (raw.Packed first offsets) e p c = switch-origin is k o (subst IsSwitch (sym e) tt) p c
+count-from is k o (raw.Sparse keys offsets) e p c = switch-origin is k o (subst IsSwitch (sym e) tt) p c
+count-from is k o _ e p c = other-origin is k o (λ w. subst IsSwitch e w) c
+
+-- a switch's payload has one switch
+count-one : (is : List Insn) (k i j : ℕ) (r : Raw) → insn_payload (insn_at is k) ≡ payload_of r → PayloadHolds is k → CountFrom is k r i → CountFrom is k r j → i ≡ j
+unfolding payload_of
+count-one is k i j (raw.Packed first offsets) e p a b = let u = p.used (subst IsSwitch (sym e) tt) in u.2 i a ∙ sym (u.2 j b)
+count-one is k i j (raw.Sparse keys offsets) e p a b = let u = p.used (subst IsSwitch (sym e) tt) in u.2 i a ∙ sym (u.2 j b)
+count-one is k i j _ e p a b = a ∙ sym b
+
+-- ---- all of them
+
+pub leads-by_address : (N : ℕ → Name → Type 0) (us : List ℕ) (rs : List Raw) (is : List Insn) → SpellsInsns N us rs is → (k : ℕ) → k < length is → LeadsByAddress rs is k
+leads-by_address N us rs is s k m =
+    let n = s.linked.count in
+    let x = s.linked.each k (omega (arith, m, n)) in
+    let p = s.keep.payloads k m in
+    let T = lead (starts rs) (address rs x.origin) in
+    let zs = offsets_of (raw_at rs k) in
+    let kind : insn_payload (insn_at is k) ≡ payload_of (raw_at rs k) = ap insn_payload (sym x.says.symbol) ∙ kind-linked _ _ (raw_at rs k) in
+    let led : insn_leads (insn_at is k) ≡ map T zs = ap insn_leads (sym x.says.symbol) ∙ leads-linked T (name_in (insn_at is k)) (raw_at rs k) in
+    let counts = count-from is k x.origin (raw_at rs k) kind p x.counts in
+    let inside = subst (AllByRecursion (λ (to : ℕ). to < length is)) led (leads-inside is k (s.keep.targets k m) p (insn_at is k) refl) in
+    record {
+      from = x.origin;
+      counts = counts;
+      only = λ j c. count-one is k j x.origin (raw_at rs k) kind p c counts;
+      leads = subst (AllZip (LeadsTo rs x.origin) zs) (sym led) (all-lead rs x.origin zs (walk-rises us rs s.walk) (subst (λ (d : ℕ). AllByRecursion (λ (to : ℕ). to < d) (map T zs)) n inside));
+    }
