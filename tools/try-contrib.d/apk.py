@@ -10,6 +10,8 @@ import warnings
 import zipfile
 
 from close import resigned
+from deliver import ACL, acl_of, listed
+from split import fakes
 from trying import ESC, LISTING, assembled, check, dexasm, get, is_one_line, put, room, seen_in, shell, tool
 
 SECRET = b"secret"
@@ -252,4 +254,64 @@ def try_random():
     check("dexasm-apk, archives changed at random", not wrong, wrong[:1])
 
 
-TRIES = (try_good, try_close, try_wrong, try_none, try_others, try_folder, try_words, try_random)
+def try_no_answer():
+    """A command that answers nothing, or what is no answer: nothing passes, and nothing is written."""
+    at, file = room("apk no answer"), assembled(LISTING)
+    put(at, "a.apk", archive(("classes.dex", file)))
+    put(at, "out/classes.dex", b"old")
+    before = seen_in(at)
+    for name, fake in fakes(room("apk fakes")):
+        for words in (("check", "a.apk"), ("list", "a.apk"), ("list", "a.apk", "out"), ("strip", "a.apk", "out")):
+            what = f"{words} by a command that answers {name}"
+            says(what, (3, ""), *words, at=at, begins="classes.dex: ", DEXASM_COMMAND=fake)
+        check(f"dexasm-apk, a command that answers {name}: nothing is written", seen_in(at) == before, seen_in(at))
+
+
+def try_out():
+    """What stands in FOLDER: it is written by the command's rules, and nothing else through it."""
+    at, file = room("apk out"), assembled(LISTING)
+    put(at, "a.apk", archive(("classes.dex", file)))
+    secret, out = put(at, "secret", SECRET), os.path.join(at, "out", "classes.dex")
+    os.mkdir(os.path.dirname(out))
+    for what, make in (
+        ("has another name too", lambda: os.link(secret, out)),
+        ("is no file", lambda: os.mkfifo(out)),
+        ("is no file", lambda: os.mkdir(out)),
+        ("is a link", lambda: os.symlink("none", out)),
+        ("is a link", lambda: os.symlink("/dev/null", out)),
+    ):
+        make()
+        begins = f"classes.dex: dexasm-apk: out/classes.dex {what}, so it isn't written"
+        says(f"a place that {what}", (3, ""), "strip", "a.apk", "out", at=at, begins=begins)
+        check(
+            f"dexasm-apk, a place that {what} stays",
+            get(secret) == SECRET and os.listdir(at + "/out") == ["classes.dex"],
+        )
+        (os.rmdir if os.path.isdir(out) and not os.path.islink(out) else os.remove)(out)
+    put(at, "out/classes.dex", b"old")
+    os.chmod(out, 0o600)
+    try:
+        os.setxattr(out, ACL, listed(6, 6, 0, 6, 0))
+    except OSError:
+        pass
+    old = acl_of(out), os.stat(out).st_mode
+    says("a file with an ACL", (0, ""), "strip", "a.apk", "out", at=at)
+    is_so = (acl_of(out), os.stat(out).st_mode) == old and get(out) == dexasm("strip", given=file)
+    check("dexasm-apk, its ACL", is_so, (acl_of(out), os.stat(out).st_mode))
+    begins = "classes.dex: dexasm-apk: out/classes.dex: File too large"
+    says("no room", (3, ""), "strip", "a.apk", "out", at=at, begins=begins, most=20)
+    check("dexasm-apk, no room, what was there", get(out) == dexasm("strip", given=file), os.listdir(at + "/out"))
+
+
+TRIES = (
+    try_good,
+    try_close,
+    try_wrong,
+    try_none,
+    try_others,
+    try_folder,
+    try_words,
+    try_random,
+    try_no_answer,
+    try_out,
+)

@@ -12,6 +12,7 @@ import subprocess
 import sys
 import time
 
+from deliver import ACL, acl_of, listed, mode_of
 from trying import (
     ESC,
     HEAD,
@@ -22,6 +23,7 @@ from trying import (
     TOP,
     Tries,
     assembled,
+    can_trace,
     check,
     dexasm,
     get,
@@ -31,6 +33,7 @@ from trying import (
     run,
     seen_in,
     tool,
+    traced,
 )
 
 # Each with how its page shows it: what can't be seen stands as an escape.
@@ -537,6 +540,81 @@ def ended(at, number):
     return parts, done.returncode, said
 
 
+def try_looks():
+    """The folder that replaces another one looks as that did, and what is in it is its owner's."""
+    at = room("browse looks")
+    file, out = assembled(LISTING), os.path.join(at, "out")
+    for mode in (0o700, 0o750, 0o2770, 0o1777):
+        os.makedirs(out, exist_ok=True)
+        os.chmod(out, mode)
+        for what in ("an empty folder", "pages"):
+            seen = browse(at, file)
+            is_so = mode_of(out) == mode and os.path.exists(os.path.join(out, "index.html"))
+            check(f"dexasm-browse, {what} of mode {mode:o}", seen == (0, "", "") and is_so, (seen, oct(mode_of(out))))
+        shutil.rmtree(out)
+    os.mkdir(out)
+    try:
+        os.setxattr(out, ACL, listed(7, 7, 0, 7, 0))
+        os.setxattr(out, "user.x", b"x")
+    except OSError:
+        pass
+    else:
+        seen = browse(at, file), browse(at, file)
+        is_so = acl_of(out) == listed(7, 7, 0, 7, 0) and os.getxattr(out, "user.x") == b"x"
+        check("dexasm-browse, an ACL", seen == ((0, "", ""),) * 2 and is_so, (seen, acl_of(out)))
+    shutil.rmtree(out)
+    if os.geteuid() == 0:
+        os.mkdir(out)
+        os.chown(out, 65534, 12345)
+        seen = browse(at, file), browse(at, file)
+        owners = {(os.stat(one).st_uid, os.stat(one).st_gid) for one in (out, f"{out}/class", f"{out}/class/0.html")}
+        check("dexasm-browse, an owner", seen == ((0, "", ""),) * 2 and owners == {(65534, 12345)}, (seen, owners))
+    left = [name for name in os.listdir(at) if "part" in name]
+    check("dexasm-browse, nothing is beside", not left, left)
+
+
+# Calls that put a folder in its place, with which of each; some where a system can't exchange two names in one step.
+PLACES = (
+    ("renameat2", (), (1,)),
+    ("mkdir,mkdirat", (), (1, 2)),
+    ("rename", (), (1, 5)),
+    ("write", (), (2,)),
+    ("fchmod", (), (8,)),
+    ("unlinkat,rmdir", (), (1, 9)),
+    ("rename", ("renameat2:error=EINVAL",), (8, 9)),
+    ("renameat2", ("renameat2:error=ENOSYS:when=1",), (2,)),
+)
+
+
+def try_ended():
+    """Ended at a call, or with one that fails, also where a system can't exchange two names: FOLDER is old or new."""
+    if not can_trace():
+        return
+    at = room("browse ended")
+    put(at, "a.dex", assembled(LISTING))
+    put(at, "b.dex", assembled(HEAD))
+    tool("dexasm-browse", "a.dex", "--output", "old", at=at)
+    tool("dexasm-browse", "b.dex", "--output", "new", at=at)
+    old, new = (seen_in(os.path.join(at, name)) for name in ("old", "new"))
+    for call, before, numbers in PLACES:
+        ends = ("signal=SIGKILL", "signal=SIGTERM", "error=EIO")
+        for how in (*ends, "signal=SIGINT", "signal=SIGHUP") if call == "renameat2" and not before else ends:
+            for number in numbers:
+                shutil.copytree(os.path.join(at, "old"), os.path.join(at, "out"))
+                inject = [*before, f"{call}:{how}:when={number}"]
+                seen = traced("dexasm-browse", "b.dex", "--output", "out", at=at, inject=inject)
+                what = f"{' '.join(before)} {how} at {call} {number}"
+                is_killed = "KILL" in how
+                is_so = os.path.isdir(os.path.join(at, "out")) and seen_in(os.path.join(at, "out")) in (old, new)
+                # (where there is no step for it, a run that is killed between the two leaves the old pages beside)
+                is_so = is_so or is_killed and before and any(name.endswith(".old") for name in os.listdir(at))
+                check(f"dexasm-browse, {what}", is_so and "Traceback" not in seen[2], (seen, os.listdir(at)))
+                left = [name for name in os.listdir(at) if name.startswith(".")]
+                check(f"dexasm-browse, {what}: beside", not left or is_killed or "unlink" in call, left)
+                for name in [*left, "out"]:
+                    shutil.rmtree(os.path.join(at, name), ignore_errors=True)
+
+
 def try_progress():
     """On a terminal there is a bar, by rich or as a line; elsewhere nothing."""
     at = room("browse progress")
@@ -563,5 +641,7 @@ TRIES = (
     try_folder,
     try_again,
     try_cut,
+    try_looks,
+    try_ended,
     try_progress,
 )

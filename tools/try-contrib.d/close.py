@@ -3,7 +3,8 @@ import hashlib
 import os
 import zlib
 
-from trying import ESC, LISTING, NAMES, assembled, check, get, is_one_line, put, room, seen_in, tool
+from deliver import ACL, acl_of, full, listed, made, mode_of, shut_by
+from trying import ESC, LISTING, NAMES, assembled, can_trace, check, get, is_one_line, put, room, seen_in, tool, traced
 
 SHORT = 0x70  # bytes of a header
 
@@ -48,7 +49,7 @@ def try_refused():
         ("empty", b""),
         ("zip", b"PK\3\4" + bytes(200)),
         ("text", LISTING),
-        ("front", good[:SHORT - 1]),
+        ("front", good[: SHORT - 1]),
         ("cut", good[:-1]),
         ("longer", good + b"\0"),
         ("magic", b"dey" + good[3:]),
@@ -87,4 +88,70 @@ def try_names():
     check("dexasm-close, a full disk", got[0] == 3 and "out" not in left and not any("part" in it for it in left), got)
 
 
-TRIES = (try_sums, try_refused, try_names)
+def try_out():
+    """OUT is written by the command's rules: its names, its owner, its ACL, and what may not be written."""
+    at = room("close out")
+    good = assembled(LISTING)
+    wrong = resigned(good, bytes(20))
+    put(at, "in.dex", wrong)
+    for words, out in ((("in.dex", "--output", "out"), "out"), (("in.dex",), "in.dex")):
+        made(at, out, wrong, 0o640)
+        os.link(os.path.join(at, out), os.path.join(at, "other"))
+        got = tool("dexasm-close", *words, at=at)
+        is_so = got == (0, "", "") and get(at, "other") == good == get(at, out) and mode_of(f"{at}/{out}") == 0o640
+        check(f"dexasm-close {words}, two names", is_so, got)
+        os.remove(os.path.join(at, "other"))
+        put(at, "in.dex", wrong)
+    out = made(at, "out", b"old", 0o640)
+    try:
+        os.setxattr(out, ACL, listed(6, 6, 0, 6, 0))
+        os.setxattr(out, "user.x", b"x")
+    except OSError:
+        pass
+    else:
+        got = tool("dexasm-close", "in.dex", "--output", "out", at=at)
+        is_so = acl_of(out) == listed(6, 6, 0, 6, 0) and os.getxattr(out, "user.x") == b"x" and get(out) == good
+        check("dexasm-close, an ACL", got == (0, "", "") and is_so, got)
+    os.symlink("to/nothing", os.path.join(at, "link"))
+    os.mkdir(os.path.join(at, "to"))
+    got = tool("dexasm-close", "in.dex", "--output", "link", at=at)
+    is_so = os.path.islink(os.path.join(at, "link")) and get(at, "to/nothing") == good
+    check("dexasm-close, a link to nothing", got == (0, "", "") and is_so, got)
+    if os.geteuid() == 0:
+        try_root(at, good)
+    if can_trace():
+        try_ended(good, wrong)
+
+
+def try_root(at, good):
+    """As root: another's file, a closed folder, a full disk."""
+    out = made(at, "theirs", b"old", 0o600, 65534, 12345)
+    got = tool("dexasm-close", "in.dex", "--output", "theirs", at=at)
+    there = os.stat(out)
+    check("dexasm-close, the owner", got == (0, "", "") and (there.st_uid, there.st_gid) == (65534, 12345), there)
+    put(at, "shut/in.dex", get(at, "in.dex"))
+    with shut_by("i", os.path.join(at, "shut")):
+        got = tool("dexasm-close", "shut/in.dex", at=at)
+        check("dexasm-close, an immutable folder", got == (0, "", "") and get(at, "shut/in.dex") == good, got)
+    with full("close full", 64) as small:
+        put(small, "in.dex", get(at, "in.dex"))
+        os.link(os.path.join(small, "in.dex"), os.path.join(small, "other"))
+        put(small, "fill", bytes(60 * 1024))
+        got = tool("dexasm-close", "in.dex", at=small)
+        is_so = get(small, "in.dex") == get(at, "in.dex") == get(small, "other")
+        told = got[0] == 3 and is_one_line(got[2], "dexasm-close: in.dex: No space left on device")
+        check("dexasm-close, two names, a full disk", told and is_so and len(os.listdir(small)) == 3, got)
+
+
+def try_ended(good, wrong):
+    """Ended by a signal at a call: FILE is old or new, and nothing is beside it."""
+    for number, one in enumerate(("write", "fsync", "fchmod", "rename")):
+        for name in ("SIGTERM", "SIGHUP", "SIGINT"):
+            at = room(f"close ended {number} {name}")
+            put(at, "in.dex", wrong)
+            got = traced("dexasm-close", "in.dex", at=at, inject=[f"{one}:signal={name}"])
+            is_so = get(at, "in.dex") in (wrong, good) and os.listdir(at) == ["in.dex"] and "Traceback" not in got[2]
+            check(f"dexasm-close, {name} at {one}", is_so and got[0] != 0, (got, os.listdir(at)))
+
+
+TRIES = (try_sums, try_refused, try_names, try_out)

@@ -127,7 +127,14 @@ def try_commands():
         seen[:2] == (3, "") and is_one_line(seen[2], "dexasm-query: the module dexasm for Python isn't there"),
         seen,
     )
-    for dies, status in (("kill -9 $$", 137), ("exit 70", 70), ("echo dexasm: out of memory >&2; exit 4", 4)):
+    for dies, status in (
+        ("kill -9 $$", 3),
+        ("exit 70", 3),
+        ("exit 1", 3),
+        ("true", 3),
+        ("echo x", 3),
+        ("echo dexasm: out of memory >&2; exit 4", 4),
+    ):
         fake = put(at, "fake", f"#!/bin/sh\n{dies}\n".encode())
         os.chmod(fake, 0o755)
         seen = tool("dexasm-query", "calls", "a.dex", at=at, DEXASM_COMMAND="./fake")

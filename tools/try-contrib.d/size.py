@@ -240,4 +240,26 @@ def try_sorted():
     check("dexasm-size, a closed pipe", seen[1] in ("0\n3\n", "3\n3\n") and "Traceback" not in seen[2], seen)
 
 
-TRIES = (try_sums, try_opcodes, try_by_hand, try_unneeded, try_page, try_ends, try_sorted)
+def try_out():
+    """OUT of --html is written by the command's rules."""
+    at = room("size out")
+    put(at, "a.dex", assembled(LISTING))
+    out = put(at, "out", b"old")
+    os.chmod(out, 0o600)
+    os.link(out, os.path.join(at, "other"))
+    seen = tool("dexasm-size", "--html", "out", "a.dex", at=at)
+    is_so = (
+        os.path.samefile(out, os.path.join(at, "other"))
+        and get(out).startswith(b"<!")
+        and os.stat(out).st_mode & 0o777 == 0o600
+    )
+    check("dexasm-size --html, two names", seen[0] == 0 and is_so, seen)
+    seen = tool("dexasm-size", "--html", "/dev/full", "a.dex", at=at)
+    check(
+        "dexasm-size --html, a full device",
+        seen[0] == 3 and is_one_line(seen[2], "dexasm-size: /dev/full: No space"),
+        seen,
+    )
+
+
+TRIES = (try_sums, try_opcodes, try_by_hand, try_unneeded, try_page, try_ends, try_sorted, try_out)

@@ -1,4 +1,7 @@
-"""dexasm-split: it cuts and joins each listing, and nothing outside its folder is read, written or removed."""
+"""dexasm-split: it cuts and joins each listing, and nothing outside its folder is read, written or removed; a folder
+that isn't whole isn't joined.
+"""
+import fcntl
 import os
 
 from trying import (
@@ -7,6 +10,7 @@ from trying import (
     LISTING,
     Tries,
     assembled,
+    can_trace,
     check,
     classes,
     dexasm,
@@ -17,6 +21,7 @@ from trying import (
     seen_in,
     shell,
     tool,
+    traced,
 )
 
 GOOD = classes("LA;", "Lb/B;")
@@ -243,4 +248,129 @@ def try_renamed():
         check(f"dexasm-split, the files of {names}", texts == {f"{name[1:-1]}.txt" for name in names}, texts)
 
 
-TRIES = (try_names, try_refused, try_order, try_links, try_again, try_renamed)
+# As a command that answers nothing, or what is no answer, does.
+NO_ANSWERS = {
+    "nothing": b"#!/bin/sh\n",
+    "nothing, status 1": b"#!/bin/sh\nexit 1\n",
+    "a crash": b"#!/bin/sh\nkill -11 $$\n",
+    "a crash after an answer": b"#!/bin/sh\necho ok\nkill -11 $$\n",
+    "bytes": b"#!/bin/sh\nhead -c 300 /dev/urandom\n",
+    "a front": b"#!/bin/sh\nprintf 'dex\\n035\\0'\n",
+    "another line": b"#!/bin/sh\necho fine\n",
+    "its words are wrong": b"#!/bin/sh\necho 'usage: other' >&2\nexit 2\n",
+}
+
+
+def fakes(at):
+    """Commands that aren't dexasm, by what they answer."""
+    for name, text in NO_ANSWERS.items():
+        fake = put(at, f"fakes/{name}", text)
+        os.chmod(fake, 0o755)
+        yield name, fake
+
+
+def try_no_answer():
+    at = good("no answer")
+    put(at, "a.dex", assembled(GOOD))
+    for name, fake in [*fakes(at)]:
+        for words, given in (("classes",), classes("LA;")), (("a.dex", "classes"), b""), (("new",), GOOD):
+            changes_nothing(f"a command that answers {name}", 3, *words, given=given, at=at, DEXASM_COMMAND=fake)
+
+
+def try_edits():
+    """Files of classes are there to be edited; they keep their mode, and so does what is new."""
+    at = good("edits")
+    listing = GOOD.replace(b"class LA; 0x1\n", b"class LA; 0x1\n# mine\n")
+    put(at, "classes/A.txt", b"class LA; 0x1\n# mine\nend class\n")
+    joined = tool("dexasm-split", "--join", "classes", at=at)
+    check("dexasm-split, an edited file is joined", joined == (0, listing.decode(), ""), joined)
+    os.chmod(os.path.join(at, "classes/A.txt"), 0o600)
+    os.chmod(os.path.join(at, "classes/b/B.txt"), 0o755)
+    other = GOOD.replace(b"end class", b"# more\nend class")
+    cut = tool("dexasm-split", "classes", given=other, at=at)
+    modes = [os.stat(os.path.join(at, "classes", name)).st_mode & 0o7777 for name in ("A.txt", "b/B.txt", "order")]
+    check("dexasm-split, files keep their mode", cut == (0, "", "") and modes == [0o600, 0o755, 0o644], modes)
+    joined = tool("dexasm-split", "--join", "classes", at=at)
+    check("dexasm-split, what was edited is gone", joined == (0, other.decode(), ""), joined)
+
+
+def try_aside():
+    """FOLDER/.dexasm-split is this command's: what others put there isn't followed or removed, nor is it joined."""
+    for what, name, kind in (
+        ("a link", ".dexasm-split", "../away"),
+        ("a file", ".dexasm-split", b"mine"),
+        ("another file in it", ".dexasm-split/precious", b"mine"),
+        ("an order that leads away", ".dexasm-split/unfinished", b"../away/precious.txt\n"),
+        ("a link in place of its order", ".dexasm-split/unfinished", "../../away/precious.txt"),
+    ):
+        at = good(f"aside {what}")
+        if isinstance(kind, str):
+            os.makedirs(os.path.dirname(os.path.join(at, "classes", name)), exist_ok=True)
+            os.symlink(kind, os.path.join(at, "classes", name))
+        else:
+            put(at, f"classes/{name}", kind)
+        changes_nothing(f"{what} aside", 3, "classes", given=classes("LA;"), at=at)
+        if "order" in what:
+            changes_nothing(f"{what} aside, joined", 3, "--join", "classes", at=at)
+    at = good("aside of old")
+    put(at, "classes/.dexasm-split/7", b"a part")
+    seen = tool("dexasm-split", "classes", given=GOOD, at=at)
+    check("dexasm-split, what an ended run left goes", seen == (0, "", "") and clean(at), (seen, seen_in(at)))
+    at = good("aside unfinished")
+    put(at, "classes/.dexasm-split/unfinished", b"A.txt\nold/C.txt\n")
+    put(at, "classes/old/C.txt", b"of the ended run")
+    changes_nothing("a folder that isn't whole, joined", 3, "--join", "classes", at=at)
+    seen = tool("dexasm-split", "classes", given=GOOD, at=at)
+    check("dexasm-split, after an ended run", seen == (0, "", "") and clean(at), (seen, seen_in(at)))
+    with open(os.path.join(at, "classes/order"), "rb"):
+        top = os.open(os.path.join(at, "classes"), os.O_RDONLY)
+        fcntl.flock(top, fcntl.LOCK_EX)
+        changes_nothing("another one at work", 3, "classes", given=classes("LA;"), at=at)
+        changes_nothing("another one at work, joined", 3, "--join", "classes", at=at)
+        os.close(top)
+
+
+def clean(at, names=("A.txt", "b", "b/B.txt", "head", "order", "tail")):
+    return sorted(seen_in(os.path.join(at, "classes"))) == sorted(names)
+
+
+def try_ended():
+    """Ended at a call, or with one that fails: what is joined is the old listing or the new one, or nothing is."""
+    if not can_trace():
+        return
+    new = HEAD + b"# new\n" + classes("LA;", "LC;", "Lb/D;")[len(HEAD) :].replace(b"0x1", b"0x11") + b"# the end\n"
+    names = ("A.txt", "C.txt", "b", "b/D.txt", "head", "order", "tail")
+    for call, most in (("rename,renameat,renameat2", 7), ("unlink,unlinkat,rmdir", 5), ("mkdir,mkdirat", 1)):
+        for how in ("signal=SIGKILL", "signal=SIGTERM", "signal=SIGINT", "signal=SIGHUP", "error=EIO"):
+            # (what holds back one signal to end holds back the others)
+            for number in range(1, most + 1) if how[-3:] not in ("INT", "HUP") else [3] * (most == 7):
+                at = good(f"ended {call[:6]} {how} {number}")
+                seen = traced("dexasm-split", "classes", given=new, at=at, inject=[f"{call}:{how}:when={number}"])
+                status, joined, told = tool("dexasm-split", "--join", "classes", at=at)
+                is_whole = status == 0 and joined.encode() in (GOOD, new) and told == ""
+                is_refused = status == 3 and joined == "" and is_one_line(told, "dexasm-split: classes: it isn't whole")
+                what = f"{how} at {call.split(',')[0]} {number}"
+                check(f"dexasm-split, {what}, joined", is_whole or is_refused, (seen, status, joined, told))
+                if "KILL" not in how and "error" not in how:
+                    is_so = is_whole and (clean(at) or clean(at, names))
+                    check(f"dexasm-split, {what}, nothing is left", is_so, (seen, seen_in(at)))
+                is_so = status or seen[0] or joined.encode() == new
+                check(f"dexasm-split, {what}, status 0 is new", is_so, (seen, joined))
+                again = tool("dexasm-split", "classes", given=new, at=at)
+                joined = tool("dexasm-split", "--join", "classes", at=at)
+                is_so = again == (0, "", "") and joined == (0, new.decode(), "") and clean(at, names)
+                check(f"dexasm-split, {what}, and again", is_so, (again, joined, seen_in(at)))
+
+
+TRIES = (
+    try_names,
+    try_refused,
+    try_order,
+    try_links,
+    try_again,
+    try_renamed,
+    try_no_answer,
+    try_edits,
+    try_aside,
+    try_ended,
+)

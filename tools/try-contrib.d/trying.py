@@ -1,4 +1,5 @@
 """What the tries of the helpers share: rooms, runs, and what is counted."""
+import functools
 import os
 import resource
 import shutil
@@ -150,6 +151,20 @@ def run(words, given=b"", at=None, most=None, **env):
 
 def tool(name, *words, **options):
     return run([os.path.join(TOOLS, name), *words], **options)
+
+
+def traced(name, *words, inject, **options):
+    """A helper with a call of the system failed, or a signal sent at it, as strace takes it: `rename:error=EIO`."""
+    faults = [word for one in inject for word in ("-e", f"inject={one}")]
+    return run(["strace", "-qq", "-f", "-o", "/dev/null", *faults, os.path.join(TOOLS, name), *words], **options)
+
+
+@functools.cache
+def can_trace():
+    try:
+        return run(["strace", "-qq", "-o", "/dev/null", "true"])[0] == 0
+    except OSError:
+        return False
 
 
 def shell(text, at, **options):

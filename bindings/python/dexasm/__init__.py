@@ -19,6 +19,7 @@ import os
 import re
 import shutil
 import subprocess
+import sys
 from typing import Any
 
 from dexasm.names import FieldRef, MethodRef, Proto, Type, spelled
@@ -115,15 +116,30 @@ def _declare(library: ctypes.CDLL) -> ctypes.CDLL:
     return library
 
 
-_loaded = _load()
-_library = None if _loaded is None else _declare(_loaded)
-_command = None if _library else _find_command()
+def _is_program() -> bool:
+    """Whether this is read for `python3 -m dexasm`: while a module is looked for, `-m` stands in its place among the words."""
+    return sys.argv[:1] == ["-m"] and "dexasm" in sys.orig_argv
+
+
+_library: ctypes.CDLL | None = None
+_command: str | None = None
+_missing = ""  # why there is neither, where that ends in a line and a status, as all does that the program tells
+try:
+    _loaded = _load()
+    _library = None if _loaded is None else _declare(_loaded)
+    _command = None if _library else _find_command()
+except (ImportError, OSError) as _error:
+    if not _is_program():
+        raise
+    _missing = str(_error)
 
 
 def _run(job: str, given: bytes, *words: str) -> bytes:
     """The command's answer to a job."""
+    if _command is None:
+        raise OSError(_missing)
     env = {**os.environ, _INSIDE: "1"}
-    command = [str(_command), job, *words]
+    command = [_command, job, *words]
     done = subprocess.run(command, input=given, stdout=subprocess.PIPE, stderr=subprocess.PIPE, env=env)
     line = done.stderr.decode("utf8", "replace").strip().rpartition("\n")[2]
     refused = re.search(r"refused (\d+) (\w+) at (\d+)", line)

@@ -10,7 +10,6 @@ import re
 import shutil
 import subprocess
 import sys
-import tempfile
 
 TOP = os.path.dirname(os.path.dirname(os.path.dirname(os.path.realpath(__file__))))
 REFUSAL = re.compile(r".*\brefused (\d{1,5}) (\w+) at (\d{1,20})(?:: .*)?$")
@@ -84,33 +83,17 @@ def name_of(path):
     return "standard input" if path is None else escaped(path)
 
 
-def put_whole(path, given):
-    """Writes a file beside the path, which replaces what is there when it is complete; a device or a pipe is written as
-    it is.
+def deliver(path, given, through=True, name=None):
+    """Brings an answer to a file by the command's rules (dexasm/deliver.py has them); with through=False only where
+    nothing is or a file of one name, so that nothing else is written through it. `name` is the file's in messages.
     """
+    rules, name = delivery(), name or escaped(path)
     try:
-        if os.path.exists(path) and not os.path.isfile(path):
-            with open(path, "wb") as file:
-                file.write(given)
-            return
-        path = os.path.realpath(path)
-        with tempfile.NamedTemporaryFile(dir=os.path.dirname(path), prefix=".", suffix=".part", delete=False) as file:
-            try:
-                file.write(given)
-                file.flush()
-                os.chmod(file.name, os.stat(path).st_mode & 0o7777 if os.path.exists(path) else 0o666 & ~umask())
-                os.replace(file.name, path)
-            except BaseException:
-                os.remove(file.name)
-                raise
+        rules.deliver(path, given, through=through)
+    except rules.Kept as kept:
+        raise Failed(f"{name}: {reason(kept)}; the whole answer is in {escaped(kept.part)}") from None
     except OSError as error:
-        raise Failed(f"{escaped(path)}: {reason(error)}") from None
-
-
-def umask():
-    mask = os.umask(0o022)
-    os.umask(mask)
-    return mask
+        raise Failed(f"{name}: {reason(error)}") from None
 
 
 def command():
@@ -129,16 +112,24 @@ def command():
 
 
 class Ended:
-    """How a run of dexasm ended: its status, its answer, and what it told, by lines; a run that was killed has a line
-    that says so.
+    """How a run of dexasm ended: its status, its answer, and what it told, by lines. What isn't the end of such a run
+    (it was killed, it answers what is no answer to the job, its status is another one) is a failure, and a line says
+    so.
     """
 
-    def __init__(self, done):
+    def __init__(self, job, done):
         self.status, self.answer = done.returncode, done.stdout or b""
         self.told = done.stderr.decode("utf8", "replace").splitlines()
         if self.status < 0:
-            self.told.append(f"dexasm: killed by signal {-self.status}")
-            self.status = 128 - self.status
+            self.fail(f"killed by signal {-self.status}")
+        elif self.status == 0 and not is_answer(job, self.answer):
+            self.fail(f"what it answers is no answer to `{job}`")
+        elif self.status not in (0, FAILED, MEMORY) and not self.refusal():
+            self.fail(None if self.told else f"status {self.status}")
+
+    def fail(self, why):
+        self.status, self.answer = FAILED, b""
+        self.told += [f"dexasm: {why}"] if why else []
 
     def last(self):
         """Its last line, which says why there is no answer."""
@@ -150,14 +141,22 @@ class Ended:
         return found and (int(found[1]), found[2], int(found[3]))
 
 
-def dexasm(*words, given=b"", folder=None):
-    """Runs dexasm over these bytes, in that folder."""
+def is_answer(job, given):
+    """Whether the bytes are what dexasm answers to a job, and whole as far as that can be seen."""
+    if job == "check":
+        return given == b"ok\n"
+    if job == "list":
+        return given.startswith(b"dex 035") and given.endswith(b"\n")
+    return given.startswith(DEX) and int.from_bytes(given[32:36], "little") == len(given)
+
+
+def dexasm(*words, given=b""):
+    """Runs dexasm over these bytes; the first of the words is the job."""
     try:
-        return Ended(
-            subprocess.run([command(), *words], input=given, stdout=subprocess.PIPE, stderr=subprocess.PIPE, cwd=folder)
-        )
+        done = subprocess.run([command(), *words], input=given, stdout=subprocess.PIPE, stderr=subprocess.PIPE)
     except OSError as error:
         raise Failed(f"dexasm doesn't run: {reason(error)}") from None
+    return Ended(words[0], done)
 
 
 def answer(*words, given, name):
@@ -199,23 +198,37 @@ def decoded(word):
 
 def module():
     """The module for Python that came with the helpers: the repository's, or the package's."""
-    if "dexasm" in sys.modules:
-        return sys.modules["dexasm"]
+    return sys.modules["dexasm"] if "dexasm" in sys.modules else load(module_folder())
+
+
+def module_folder():
     if sys.version_info < (3, 10):
         raise Failed("the module dexasm for Python needs Python 3.10 or later")
     for way in (("..", "bindings", "python"), ("lib", "python3", "dist-packages")):
         folder = os.path.join(TOP, *way, "dexasm")
         if os.path.exists(os.path.join(folder, "__init__.py")):
-            return load(folder)
+            return folder
     raise Failed("the module dexasm for Python isn't there")
+
+
+def delivery():
+    """The part of that module that brings an answer to a file. It stands alone: it needs no library, and no command."""
+    name = "dexasm_deliver"
+    if name not in sys.modules:
+        load_file(name, os.path.join(module_folder(), "deliver.py"))
+    return sys.modules[name]
 
 
 def load(folder):
     # (where it finds no library it wants a command, which it isn't asked to run)
     os.environ.setdefault("DEXASM_COMMAND", command())
-    place = os.path.join(folder, "__init__.py")
-    spec = importlib.util.spec_from_file_location("dexasm", place, submodule_search_locations=[folder])
-    sys.modules["dexasm"] = made = importlib.util.module_from_spec(spec)
+    return load_file("dexasm", os.path.join(folder, "__init__.py"), [folder])
+
+
+def load_file(name, place, inner=None):
+    """Reads a module from its file, by whatever name others have it in other folders."""
+    spec = importlib.util.spec_from_file_location(name, place, submodule_search_locations=inner)
+    sys.modules[name] = made = importlib.util.module_from_spec(spec)
     try:
         spec.loader.exec_module(made)
     except (ImportError, OSError) as error:
