@@ -137,7 +137,7 @@ def mounted(at, *words):
 
 
 def says(what, seen, want, *truths):
-    check(f"deliver, {what}", seen == want and all(truths), (seen, want, truths))
+    check(f"deliver, {what}", seen == want and all(truth is True for truth in truths), (seen, want, truths))
 
 
 def only(at, *names):
@@ -291,7 +291,7 @@ def try_names():
         os.link(out, f"{at}/other")
         seen = ran(out, NEW * 2)
         whole = [name for name in os.listdir(at) if ".part" in name and get(at, name) == NEW * 2]
-        is_so = holds(out, OLD) is True and only(at, "out", "other") or whole
+        is_so = holds(out, OLD) is True and only(at, "out", "other") or bool(whole)
         says("two names, a full disk", seen.split()[0], "ENOSPC", is_so)
         os.remove(f"{at}/other")
         says("one name, a full disk", ran(out, NEW * 4), "ENOSPC", holds(out, OLD), only(at, "out"))

@@ -29,7 +29,8 @@ MORE = {
 MODE, NAME, BEGINS = 0o640, "n" * 255, '"/it begins"'
 # (MODULE, OUT, the answer, the user)
 DRIVER = """
-import importlib.util, os, sys
+import importlib.util, os, signal, sys
+signal.signal(signal.SIGINT, signal.SIG_DFL)
 spec = importlib.util.spec_from_file_location("dexasm_deliver", sys.argv[1])
 made = importlib.util.module_from_spec(spec)
 spec.loader.exec_module(made)
@@ -110,7 +111,8 @@ class Room:
 
     def run(self, injected=None):
         """How it ended, and its calls."""
-        words = ["strace", "-qq", "-f", "--seccomp-bpf", "-s", "0", "-o", f"{self.home}/log", "-e", f"trace={CALLS}"]
+        words = ["strace", "-qq", "-f", "-s", "0", "-o", f"{self.home}/log", "-e", f"trace={CALLS}"]
+        words += [] if "signal" in (injected or "") else ["--seccomp-bpf"]  # (no signal comes by that)
         words += ["-e", f"inject={injected}"] if injected else []
         words += [sys.executable, "-I", "-S", "-B", "-c", DRIVER, MODULE, self.out, f"{self.home}/given"]
         words += [str(self.setting.user)]
@@ -227,7 +229,9 @@ def try_calls():
             runs = {injected: pool.submit(tried, name, injected) for injected in faults_of(log)}
             for injected, ended in runs.items():
                 wrong, calls = ended.result()
-                check(f"deliver, {name}, {injected}", wrong is None, wrong)
+                signal_of = re.search("SIG[A-Z]+", injected)
+                is_met = signal_of is None or any(signal_of[0] in call for call in calls)
+                check(f"deliver, {name}, {injected}", wrong is None and is_met, wrong or "no signal came")
             check(f"deliver, {name}, calls are failed", len(runs) > 20, len(runs))
 
 

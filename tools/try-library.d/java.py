@@ -14,10 +14,10 @@ sys.path[:0] = [os.path.join(TOP, "bindings", "java"), os.path.join(TOP, "tools"
 
 import jars_of_dexasm  # noqa: E402
 import out_cases  # noqa: E402
+from java_outs import QUICK, try_java_outs  # noqa: E402
 
 JAVA = os.path.join(TOP, "bindings", "java")
 JOBS = ("check", "list", "assemble", "align", "strip")
-QUICK = ("-XX:TieredStopAtLevel=1", "-XX:+UseSerialGC", "-XX:-UsePerfData", "-Xshare:auto")  # for short runs
 LIMIT = 600  # seconds for a command
 SMALL = ("-Xmx8m", "-XX:MaxDirectMemorySize=16m")
 # Words, with the status that the command has for them; FILE is a file that is right.
@@ -28,7 +28,8 @@ WORDS = (
     ("check", "-"), ("check", "FILE/"), ("check", ""), ("check", "."), ("check", b"\xff"),
     ("check", "FILE", "--output", b"\xff"), ("check", "--", "FILE"), ("list", "FILE"), ("list", "--output=o", "FILE"),
     ("strip", "--", "FILE"), ("assemble", "FILE"), ("check",), ("strip",), ("list", "FILE", "--output", "/dev/full"),
-    ("list", "FILE", "--output", "new/"), ("--version",), ("-V", "check"), ("check", "FILE", "-V"),
+    ("list", "FILE", "--output", "new/"), ("list", "FILE", "--output", "tmp"),  # (there is a folder /tmp)
+    ("list", "FILE", "--output", "a+b %41"), ("--version",), ("-V", "check"), ("check", "FILE", "-V"),
 )  # fmt: skip
 HOSTILE = ("check", "--\x1b[31m\n\u202e\x07")
 COOKBOOK = "docs/COOKBOOK-JAVA.md"
@@ -87,7 +88,8 @@ class Java:
         os.makedirs(f"{self.folder}/alone/dexasm")
         for place, given in classes.items():
             put(f"{self.folder}/alone/{place}", given)
-        jars_of_dexasm.javac(self.classes, [f"{JAVA}/test/Tries.java"], self.jar)
+        tries = [f"{JAVA}/test/{name}.java" for name in ("Tries", "Outs")]
+        jars_of_dexasm.javac(self.classes, tries, f"{self.jar}{os.pathsep}{jars_of_dexasm.jna()}")
         script = f'#!/bin/sh\nexec java {" ".join(QUICK)} -jar {self.jar} "$@"\n'
         self.command = put(f"{self.folder}/command", script.encode())
         os.chmod(self.command, 0o755)
@@ -97,6 +99,12 @@ class Java:
 
     def path(self, *more: str) -> str:
         return os.pathsep.join([self.classes, self.jar, *more])
+
+    def compiled_c(self, name: str, text: str) -> str | None:
+        """A library of its own; None where there is no compiler."""
+        made = os.path.join(self.folder, name)
+        words = ["cc", "-w", "-shared", "-fPIC", "-o", made, put(f"{made}.c", text.encode())]
+        return made if shutil.which("cc") and run(*words)[0] == 0 else None
 
 
 def try_cases(java: Java, paths: list[str]) -> None:
@@ -171,10 +179,27 @@ def try_ends(java: Java, path: str) -> None:
     java.check("Java: standard input", got == (0, b"ok\n", ""), got)
 
 
-def compiled_c(java: Java, name: str, text: str) -> str | None:
-    made = os.path.join(java.folder, name)
-    words = ["cc", "-w", "-shared", "-fPIC", "-o", made, put(f"{made}.c", text.encode())]
-    return made if shutil.which("cc") and run(*words)[0] == 0 else None
+def try_streams(java: Java, path: str) -> None:
+    """Standard streams that are closed, and OUT that leads to one of them or to a pipe."""
+    folder = os.path.join(java.folder, "streams")
+    os.makedirs(folder)
+    os.symlink("/proc/self/fd/1", f"{folder}/link")
+    os.mkfifo(f"{folder}/pipe")
+    listing = run(java.program, "list", path)[1]
+    for words, want in (
+        ("check <&-", (3, b"", "dexasm: cannot read\n")),
+        ('check <"$1"', (0, b"ok\n", "")),
+        ('list "$1" >&-', (3, b"", "dexasm: cannot write\n")),
+        ('strip "$1" >&-', (3, b"", "dexasm: cannot write\n")),
+        ('list "$1" --output /dev/full 2>&-', (3, b"", "")),
+        ('list "$1" --output link | cat', (0, listing, "")),
+        ('list "$1" --output /dev/fd/3 && cat /dev/fd/3', (0, listing, "")),  # (a file that was removed)
+        ('list "$1" --output pipe & sleep 1; kill $!; wait $!', (143, b"", "")),  # (nobody reads it)
+    ):
+        got = run("bash", "-c", f'exec 3<>gone; rm gone; "$0" {words}', java.command, path, env=java.env, cwd=folder)
+        java.check(f"Java: {words}", got == want, f"{got} {want}")
+    left = sorted(os.listdir(folder)), os.path.islink(f"{folder}/link")
+    java.check("Java: a link to standard output stays", left == (["link", "pipe"], True), left)
 
 
 def try_libraries(java: Java, path: str) -> None:
@@ -185,14 +210,14 @@ def try_libraries(java: Java, path: str) -> None:
         ("lacks a call", VERSION_ELSE.replace("CALL(strip)", ""), "dexasm_strip"),
         ("has another version", VERSION_ELSE, "is of version 9.8.7"),
     ):
-        made = compiled_c(java, f"{name.replace(' ', '-')}.so", text)
+        made = java.compiled_c(f"{name.replace(' ', '-')}.so", text)
         libraries += [(name, made, line)] if made else []
     for name, library, line in libraries:
         for options, env in (([f"-Ddexasm.library={library}"], {}), ([], {"DEXASM_LIBRARY": library})):
             status, out, said = java.run(*QUICK, *options, "-jar", java.jar, "strip", path, env=env)
             is_so = said.startswith(f"dexasm: no libdexasm {number}: ") and said.count("\n") == 1 and line in said
             java.check(f"Java: a library that {name}", (status, out) == (70, b"") and is_so, f"{status} {said}")
-    long = compiled_c(java, "long.so", TOO_LONG % {"version": number, "length": len(number)})
+    long = java.compiled_c("long.so", TOO_LONG % {"version": number, "length": len(number)})
     for job in ("strip", "list") if long else ():
         got = java.run(*QUICK, "-jar", java.jar, job, path, env={"DEXASM_LIBRARY": long})
         java.check(f"Java: out of memory in {job}", got == (4, b"", "dexasm: out of memory\n"), got)
@@ -270,6 +295,8 @@ def try_java(check: Check, program: str, library: str, folder: str, paths: list[
     try_cases(java, [*paths, *session(java)])
     try_words(java, right)
     try_ends(java, right)
+    try_streams(java, right)
     try_libraries(java, right)
     try_examples(java, right)
     try_outs(java)
+    try_java_outs(java)

@@ -44,6 +44,7 @@ public final class Tries {
       tryTexts(words[1]);
       tryWrongArguments();
       tryPaths(folder);
+      tryEnding(folder);
       tryBig();
       tryThreads();
     }
@@ -187,9 +188,24 @@ public final class Tries {
     check("OUT", ended(() -> kept(given, out)), shown(HELLO_FILE));
     check("OUT's mode", PosixFilePermissions.toString(Files.getPosixFilePermissions(out)), "rw-r----x");
     check("OUT that is FILE", ended(() -> kept(out, out)), shown(HELLO_FILE));
+    check("OUT in no folder", ended(() -> kept(given, folder.resolve("no/out"))), "NoSuchFileException");
+    check("OUT that is a folder", ended(() -> kept(given, folder)), "FileSystemException");
+    Thread.currentThread().interrupt();
+    check("OUT of an interrupted thread", ended(() -> kept(given, out)), shown(HELLO_FILE));
+    check("the thread is interrupted", Thread.interrupted(), true);
     try (Stream<Path> names = Files.list(folder)) {
       check("what is left beside OUT", names.filter(name -> name.toString().endsWith(".part")).count(), 0L);
     }
+  }
+
+  /** Where Java is ending nothing waits for a file, so none is begun. */
+  private static void tryEnding(Path folder) {
+    Path given = folder.resolve("given.dex");
+    Runtime.getRuntime().addShutdownHook(new Thread(() -> {
+      if (!ended(() -> kept(given, folder.resolve("late"))).equals("IOException")) {
+        Runtime.getRuntime().halt(9);
+      }
+    }));
   }
 
   private static byte[] kept(Path given, Path out) throws Refused, IOException {

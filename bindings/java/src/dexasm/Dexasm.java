@@ -181,10 +181,12 @@ public final class Dexasm {
   /**
    * Writes a file's program again without what it doesn't need.
    *
-   * <p>{@code out} may be {@code file}. It is replaced by the whole answer, and keeps its mode; if the file is
-   * refused, or the disk is full, it stays as it was. The answer is written beside it ({@code OUT.0.part} and the
-   * like), as the manual page dexasm(1) says under FILES, also of an {@code out} that can't be replaced: a file
-   * with several names, a mount point, a device.
+   * <p>{@code out} may be {@code file}. It is replaced by the whole answer, and keeps its mode, its access control
+   * list, its attributes and, where the system allows it, its owner; if the file is refused, or the disk is full, it
+   * stays as it was. The answer is written beside it ({@code OUT.0.part} and the like), as the manual page dexasm(1)
+   * says under FILES, also of an {@code out} that can't be replaced: a file with several names, a mount point, a
+   * device. Where such a one doesn't take all of it, the whole answer stays beside: it is the other file of the {@link
+   * java.nio.file.FileSystemException}.
    *
    * @param file a .dex file
    * @param out where the .dex file goes

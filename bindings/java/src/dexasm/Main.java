@@ -5,12 +5,14 @@ import java.io.FileOutputStream;
 import java.io.IOException;
 import java.nio.ByteBuffer;
 import java.nio.charset.StandardCharsets;
+import java.nio.file.Files;
 import java.nio.file.InvalidPathException;
 import java.nio.file.Path;
 import java.util.Iterator;
 import java.util.List;
 import java.util.Locale;
 import java.util.stream.Collectors;
+import java.util.stream.Stream;
 
 /** {@code java -jar dexasm.jar check|list|assemble|strip ..}: as the command dexasm, with its lines and its status. */
 public final class Main {
@@ -172,7 +174,7 @@ public final class Main {
     }
     ByteBuffer given;
     try {
-      given = isStream(file) ? ByteBuffer.wrap(System.in.readAllBytes()) : Dexasm.read(path(file));
+      given = isStream(file) ? ByteBuffer.wrap(input()) : Dexasm.read(path(file));
     } catch (IOException | InvalidPathException why) {
       throw new Ended(FAILED, "dexasm: cannot read");
     }
@@ -199,6 +201,35 @@ public final class Main {
   /** Whether a word, or none, stands for a standard stream. */
   private static boolean isStream(String word) {
     return word == null || word.equals("-");
+  }
+
+  private static byte[] input() throws IOException {
+    if (isInputClosed()) {
+      throw new IOException("standard input is closed");
+    }
+    return System.in.readAllBytes();
+  }
+
+  /**
+   * Whether there was no standard input when Java began. Its number has then gone to the first file that Java opens and
+   * keeps open, that of its classes, which no other number leads to.
+   */
+  private static boolean isInputClosed() {
+    Path classes = Path.of(System.getProperty("java.home"), "lib", "modules");
+    try (Stream<Path> all = Files.list(Path.of("/proc/self/fd"))) {
+      Stream<Path> own = all.filter(one -> isSame(one, classes));
+      return own.map(one -> one.getFileName().toString()).collect(Collectors.toList()).equals(List.of("0"));
+    } catch (IOException unknown) {
+      return false; // (/proc isn't there)
+    }
+  }
+
+  private static boolean isSame(Path one, Path other) {
+    try {
+      return Files.isSameFile(one, other);
+    } catch (IOException absent) {
+      return false;
+    }
   }
 
   /** A path as the system takes it: Java drops the slash at the end, which says that a folder is meant. */
