@@ -66,6 +66,7 @@ STRINGS = {
     "\xa0\xad": "\\xa0\\xad",
     "\ud800": "\\ud800",
     "\udc00\ud800": "\\udc00\\ud800",
+    "\udc80": "\\udc80",
     "\ue000\U0010ffff": "\\ue000\\U0010ffff",
     "\u00e9\u4e2d\U0001f600": "\u00e9\u4e2d\U0001f600",
     "": "",
@@ -85,6 +86,8 @@ PARTS = (
     "CON con nul AUX a A \u00e9 e\u0301 index __proto__ constructor toString hasOwnProperty then script - -- --help $ "
     "\u2066x \u061cx \ufeffx \u00adx \ue000x \u3164 \U000e0001x"
 ).split() + ["b" * 255, "c" * 60000]
+# What can be printed and isn't seen, or looks as another name.
+SHOWN = {"\u3164": "\\u3164", "e\u0301": "e\\u0301"}
 
 
 def spelled(text):
@@ -145,20 +148,22 @@ class Page(html.parser.HTMLParser):
 
 ELEMENTS = set(
     "html head meta title link script body a header nav div label input section p ol li main h1 h2 h3 dl dt dd code "
-    "details summary ul svg g rect text table caption thead tr th tbody td strong q polygon path b i small".split()
+    "details summary ul svg g rect text table caption thead tr th tbody td strong q polygon path b i small bdi".split()
+    + ["tspan"]
 )
 ATTRIBUTES = set(
     "lang charset http-equiv content name rel href src defer data-root data-shards class aria-label hidden for id type "
     "autocomplete spellcheck placeholder role tabindex viewbox aria-hidden width height fill x y stroke scope open "
-    "points d transform text-anchor font-size".split()
+    "points d transform text-anchor font-size dir start".split()
 )
 POLICY = "default-src 'none'; style-src 'self'; script-src 'self'; img-src 'self'; base-uri 'none'; form-action 'none'"
 LINK = re.compile(
-    r"(?:(?:\.\./)?(?:(?:class|package|strings)/)?(?:\d+|index|help)\.html)?(?:#(?:\d+(?:\.\d+)?|main|graphs))?"
+    r"(?:(?:\.\./)?(?:(?:class|package|strings)/)?(?:\d+(?:-\d+)?|index|help)\.html)?"
+    r"(?:#(?:\d+(?:\.\d+)?|main|graphs))?"
 )
 OWN = re.compile(r"(?:\.\./)?(?:style\.css|script\.js|icon\.svg)")
 FILES = re.compile(
-    r"(?:index|help)\.html|style\.css|script\.js|icon\.svg|(?:class|package|strings)/\d+\.html|search/\d+\.js"
+    r"(?:index|help)\.html|style\.css|script\.js|icon\.svg|(?:class|package|strings)/\d+(?:-\d+)?\.html|search/\d+\.js"
 )
 
 
@@ -194,10 +199,14 @@ def code_lines(listing):
     return [line for line in listing.decode("ascii").splitlines() if not line.startswith(heads)]
 
 
+def numbers_of(name):
+    return [int(number) for number in re.findall(r"\d+", name)]
+
+
 def says_listing(what, found, file):
-    """Whether the pages of the classes have the lines of the listing."""
-    rows = [found[f"class/{row}.html"].lines for row in range(sum(name.startswith("class/") for name in found))]
-    lines = [line for row in rows for line in row]
+    """Whether the pages of the classes have the lines of the listing; a page that is cut goes on in others."""
+    names = sorted((name for name in found if name.startswith("class/")), key=numbers_of)
+    lines = [line for name in names for line in found[name].lines]
     want = code_lines(dexasm("list", given=file))
     wrong = next(((a[:99], b[:99]) for a, b in zip(lines, want) if a != b), (len(lines), len(want)))
     check(f"dexasm-browse, {what}: the code is the listing's", lines == want and len(lines) > 0, wrong)
@@ -220,7 +229,7 @@ def try_hostile():
     check("dexasm-browse, a long string is cut", f'"{"<" * 1000}" ... (65,535 characters)' in strings)
     text = "".join(text for page in found.values() for text in page.texts)
     for part in PARTS[:-1]:
-        shown = "".join(char if char.isprintable() else ascii(char)[1:-1] for char in part)
+        shown = SHOWN.get(part) or "".join(char if char.isprintable() else ascii(char)[1:-1] for char in part)
         check(f"dexasm-browse, the name {ascii(part)[:60]}", f"{shown[:100]}" in text)
     longest = max(len(one) for name, page in found.items() for one in page.texts if not name.startswith("class/"))
     check("dexasm-browse, no other page has a long name whole", longest < 1200, longest)

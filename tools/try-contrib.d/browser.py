@@ -1,4 +1,5 @@
 """A browser that is driven through a pipe, by Python's standard library alone (Chrome DevTools Protocol)."""
+import base64
 import json
 import os
 import select
@@ -124,11 +125,26 @@ class Browser:
     def type(self, text):
         self.call("Input.insertText", text=text)
 
-    def picture(self, width, height, is_dark):
-        """What the page looks like, as PNG."""
-        import base64
+    def wheel(self, of, turns):
+        """Turns the wheel over the middle of an element, with Ctrl held."""
+        script = f"(({{left, top, right, bottom}}) => [left + right, top + bottom])({of}.getBoundingClientRect())"
+        x, y = self.run(f"{of}.scrollIntoView(), {script}")
+        given = {"x": x / 2, "y": min(y / 2, 600), "deltaX": 0, "deltaY": turns, "modifiers": 2}
+        self.call("Input.dispatchMouseEvent", type="mouseWheel", **given)
 
+    def scheme(self, is_dark):
         media = [{"name": "prefers-color-scheme", "value": "dark" if is_dark else "light"}]
         self.call("Emulation.setEmulatedMedia", features=media)
-        self.call("Emulation.setDeviceMetricsOverride", width=width, height=height, deviceScaleFactor=1, mobile=False)
-        return base64.b64decode(self.call("Page.captureScreenshot", format="png")["data"])
+
+    def keep(self, name):
+        """Keeps what the page looks like in light and in dark, as PNG, in the folder that TRY_PICTURES names."""
+        folder = os.environ.get("TRY_PICTURES")
+        if not folder:
+            return
+        os.makedirs(folder, exist_ok=True)
+        for is_dark in (False, True):
+            self.scheme(is_dark)
+            given = self.call("Page.captureScreenshot", format="png", captureBeyondViewport=False)["data"]
+            at = os.path.join(folder, f"{name.replace('/', '-')}-{'dark' if is_dark else 'light'}.png")
+            with open(at, "wb") as file:
+                file.write(base64.b64decode(given))

@@ -16,6 +16,7 @@ from trying import (
     TOP,
     assembled,
     check,
+    classes,
     dexasm,
     get,
     is_one_line,
@@ -156,15 +157,15 @@ def try_page():
         put(at, name, assembled(LISTING))
         seen = tool("dexasm-size", "--html", "out.html", "--", name, at=at)
         text = get(at, "out.html").decode()
-        page, svg = Page(text), re.search(r"<svg.*?</svg>", text, re.S)[0]
+        page, svg = Page(text), re.search(r'<svg class="map".*</svg>(?=</div><ul)', text, re.S)[0]
         check(
             f"dexasm-size --html, a file of the name {name!r}",
             seen[0] == 0 and seen[2] == "" and ESC not in text and "\u202e" not in text,
             seen,
         )
         is_ours = not page.leads and page.elements <= set(
-            "html head meta title style body h1 p span i svg g rect text h2 table thead tr th tbody td tfoot".split()
-            + ["script", "code"]
+            "html head meta title style body h1 p svg g rect text div ul li h2 table caption thead tr th tbody td tfoot"
+            " script code".split()
         )
         check(
             f"dexasm-size --html, nothing of the name {name!r} is obeyed",
@@ -184,6 +185,20 @@ def try_page():
     put(at, "deep.dex", assembled(deep))
     seen = tool("dexasm-size", "--html", "deep.html", "deep.dex", at=at)
     check("dexasm-size --html, packages in packages", seen[0] == 0 and seen[2] == "", seen[2])
+
+
+def try_many():
+    """A table of more rows than a page can have: those that are left out are one."""
+    at, file = room("size many"), assembled(classes(*(f"Lc{n}/D;" for n in range(2100))))
+    put(at, "a.dex", file)
+    seen = tool("dexasm-size", "--html", "out.html", "a.dex", at=at)
+    bodies = re.findall(r"<tbody>(.*?)</tbody>", get(at, "out.html").decode(), re.S)
+    rows = [re.findall(r"<tr><td>([\d,]+)</td>.*<td>(.*?)</td></tr>", body) for body in bodies]
+    totals = [sum(int(total.replace(",", "")) for total, _ in some) for some in rows]
+    # (2,100 classes or their packages, and three rows of what is no class's)
+    is_so = [len(some) for some in rows] == [2001, 2001] and all(some[-1][1] == "(103 more)" for some in rows)
+    check("dexasm-size --html, many rows", seen[0] == 0 and is_so, (seen, [some[-1] for some in rows]))
+    check("dexasm-size --html, many rows add up", totals == [len(file)] * 2, (totals, len(file)))
 
 
 def try_ends():
@@ -262,4 +277,4 @@ def try_out():
     )
 
 
-TRIES = (try_sums, try_opcodes, try_by_hand, try_unneeded, try_page, try_ends, try_sorted, try_out)
+TRIES = (try_sums, try_opcodes, try_by_hand, try_unneeded, try_page, try_many, try_ends, try_sorted, try_out)

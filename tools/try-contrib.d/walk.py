@@ -15,20 +15,20 @@ HTTP = "http://localhost:"
 
 def try_contrast():
     """The colours of the style by WCAG 2: 4.5 to 1 of what is read, 3 to 1 of lines."""
-    style = get(TOP, "contrib/share/dexasm/browse.css").decode("ascii")
+    style = "".join(get(TOP, "contrib/share/dexasm", name).decode("ascii") for name in ("pages.css", "browse.css"))
     blocks = re.findall(r":root \{(.*?)\}", style, re.S)
     colors = [dict(re.findall(r"--(\w+): (#[0-9a-f]{6});", block)) for block in blocks]
     others = (
         set(re.findall(r"#[0-9a-f]{3,8}\b", style)) - {color for one in colors for color in one.values()} - {"#111111"}
     )
-    check("browse.css, colours stand in one place", len(colors) == 2 and not others, others)
+    check("the pages, colours stand in one place", len(colors) == 2 and not others, others)
     for which, color in zip(("light", "dark"), colors):
         for ground in ("page", "box", "mark"):
             for ink in ("ink", "soft", "link", "word", "number", "string", "label"):
                 ratio = contrast(color[ink], color[ground])
-                check(f"browse.css, {which}: {ink} on {ground}", ratio >= 4.5, ratio)
+                check(f"the pages, {which}: {ink} on {ground}", ratio >= 4.5, ratio)
         for line in ("soft", "flow", "word", "number"):
-            check(f"browse.css, {which}: a line of {line}", contrast(color[line], color["box"]) >= 3)
+            check(f"the pages, {which}: a line of {line}", contrast(color[line], color["box"]) >= 3)
     sys.path.append(os.path.join(TOP, "contrib/share/dexasm"))
     from dexasm_page import KINDS
 

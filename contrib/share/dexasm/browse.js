@@ -1,7 +1,10 @@
-// The search of dexasm-browse's pages. The index is a list of scripts, since a page that is opened from the disk may
-// read nothing else; they are loaded when somebody searches. What is found is put in as text, never as HTML.
+// The search of dexasm-browse's pages, and the pictures of flows. The index of the search is a list of scripts, since a
+// page that is opened from the disk may read nothing else; they are loaded when somebody searches. What is found is
+// put in as text, never as HTML.
 (() => {
   const MOST = 100;
+  const RIGHT_TO_LEFT =
+    /([\u0590-\u06ef\u06fa-\u08ff\ufb1d-\ufdff\ufe70-\ufeff\u{10800}-\u{10fff}\u{1e800}-\u{1efff}]+)/u;
   const { root, shards } = document.body.dataset;
   const asked = document.getElementById('search'), found = document.getElementById('found');
   const said = document.getElementById('said'), list = document.getElementById('hits');
@@ -11,9 +14,9 @@
   const add = (owner, name, to) => entries.push([owner, name, to, owner.toLowerCase(), name.toLowerCase()]);
 
   window.dexasmIndex = (classes, strings) => {
-    for (const [owner, row, names] of classes) {
-      add(owner, '', `class/${row}.html`);
-      names.forEach((name, at) => add(owner, name, `class/${row}.html#${at}`));
+    for (const [owner, page, first, names] of classes) {
+      if (first === 0) add(owner, '', `class/${page}`);
+      names.forEach((name, at) => add(owner, name, `class/${page}#${first + at}`));
     }
     for (const [text, place] of strings) add('', text, `strings/${place}`);
     loaded += 1;
@@ -44,12 +47,21 @@
     .replace(/^\[*l([^;\s]+);(?:->([^(:\s]+).*)?$/, (_, owner, name) => (name ? `${owner} ${name}` : owner))
     .split(/\s+/).filter(Boolean);
 
+  // The parts of a name in the order of the file, also where letters run from right to left.
+  const inOrder = (text) => text.split(RIGHT_TO_LEFT).map((part, at) => {
+    if (at % 2 === 0) return part;
+    const isolated = document.createElement('bdi');
+    isolated.dir = 'ltr';
+    isolated.textContent = part;
+    return isolated;
+  });
+
   const shown = (owner, name, to) => {
     const item = document.createElement('li'), link = document.createElement('a');
     const more = document.createElement('small');
     link.href = root + to;
-    link.textContent = name || owner;
-    more.textContent = owner === '' ? ' (a string)' : name === '' ? ' (a class)' : ` in ${owner}`;
+    link.append(...inOrder(name || owner));
+    more.append(...owner === '' ? [' (a string)'] : name === '' ? [' (a class)'] : [' in ', ...inOrder(owner)]);
     item.append(link, more);
     return item;
   };
@@ -94,3 +106,56 @@
   open();
   search();
 })();
+
+// The pictures of flows open whole, or where letters would be too small with the first block in sight; buttons, keys
+// and the wheel make them larger and smaller.
+for (const box of document.querySelectorAll('.flow')) {
+  const LEGIBLE = 0.7, LEAST = 0.002, MOST = 4, STEP = 1.25; // pixels for a unit of the picture (a letter has 10)
+  const svg = box.firstElementChild, { width, height } = svg.viewBox.baseVal;
+  let scale = 1;
+
+  // Draws the picture so large that what is at a point of the box stays there.
+  const zoom = (to, x = box.clientWidth / 2, y = box.clientHeight / 2) => {
+    const was = svg.getBoundingClientRect(), edge = box.getBoundingClientRect();
+    const left = (x + edge.left + box.clientLeft - was.left) / scale;
+    const top = (y + edge.top + box.clientTop - was.top) / scale;
+    scale = Math.min(Math.max(to, LEAST), MOST);
+    svg.style.width = `${width * scale}px`;
+    svg.style.height = `${height * scale}px`;
+    box.scrollTo(left * scale - x, top * scale - y);
+  };
+  const fitting = () => Math.min((box.clientWidth - 1) / width, innerHeight * 0.75 / height, 4 / 3);
+  const whole = () => zoom(fitting());
+  const first = () => {
+    zoom(1);
+    const block = svg.querySelector('.node').getBoundingClientRect(), edge = box.getBoundingClientRect();
+    const middle = (block.left + block.right - edge.left - edge.right) / 2;
+    box.scrollBy(Math.min(middle, block.left - edge.left - 10), block.top - edge.top - 10);
+  };
+  const larger = () => zoom(scale * STEP), smaller = () => zoom(scale / STEP);
+
+  const bar = document.createElement('p');
+  bar.className = 'zoom';
+  for (const [said, act] of [['Larger', larger], ['Smaller', smaller], ['Whole', whole], ['First block', first]]) {
+    const button = document.createElement('button');
+    button.type = 'button';
+    button.textContent = said;
+    button.addEventListener('click', act);
+    bar.append(button);
+  }
+  box.before(bar);
+  box.classList.add('zooms');
+  box.addEventListener('keydown', (event) => {
+    const act = { '+': larger, '=': larger, '-': smaller, 0: whole, 1: first }[event.key];
+    if (!act || event.ctrlKey || event.metaKey || event.altKey) return;
+    event.preventDefault();
+    act();
+  });
+  box.addEventListener('wheel', (event) => {
+    if (!event.ctrlKey) return;
+    event.preventDefault();
+    const edge = box.getBoundingClientRect();
+    zoom(scale * STEP ** (-event.deltaY / 100), event.clientX - edge.left, event.clientY - edge.top);
+  }, { passive: false });
+  if (fitting() < LEGIBLE) first(); else whole();
+}

@@ -1,19 +1,20 @@
 """Makes the pages of dexasm-browse: each member's lines first, with what they use, and then the pages."""
 from __future__ import annotations
 
-import os
 import zlib
-from collections.abc import Iterator
+from collections.abc import Iterable, Iterator
 
 from dexasm_browse_class import Classes
-from dexasm_browse_code import STRINGS_A_PAGE, Coder
-from dexasm_browse_pages import Packages, overview, reading, shards, strings
-from dexasm_browse_text import Frame, counted, text
+from dexasm_browse_code import Coder
+from dexasm_browse_cut import Cuts, Part, file_of, others
+from dexasm_browse_pages import Packages, overview, reading, shards, strings, strings_cut
+from dexasm_browse_text import Frame, counted
 from dexasm_contrib import Failed, answer, dexasm, module, say
 from dexasm_file import Dex, code_sizes
 from dexasm_flow import MOST_DRAWN, as_dot, drawn, flow, for_page, graphviz
 from dexasm_folder import Folder, Progress
-from dexasm_page import SCRIPT
+from dexasm_html import plain, text
+from dexasm_page import SCRIPT, read
 from dexasm_sizes import KINDS, rows_of
 from dexasm_uses import Uses, method_of
 
@@ -21,7 +22,8 @@ ICON = (
     '<svg xmlns="http://www.w3.org/2000/svg" viewBox="0 0 8 8"><path fill="#8ab6e0" d="M0 0h5v8H0z"/>'
     '<path fill="#f6b26b" d="M5 0h3v5H5z"/><path fill="#a8dba0" d="M5 5h3v3H5z"/></svg>\n'
 )
-HERE = os.path.dirname(os.path.abspath(__file__))
+TOO_LARGE = '<p class="soft">No picture of its flow: it is too large.</p>'
+MOST_OF_PICTURE = 500_000  # bytes of a picture on a page
 
 
 class Sizes:
@@ -52,13 +54,19 @@ def lines_of(uses: Uses, coder: Coder, row: int) -> Iterator[str]:
             yield coder.field(first + at, word, member)
 
 
-def packed(lines) -> bytes:
-    """(The lines are ASCII without a zero.)"""
-    return zlib.compress("\0".join(lines).encode("ascii"), 1)
+def packed(texts: Iterable[str]) -> bytes:
+    """(The texts have no zero.)"""
+    return zlib.compress("\0".join(texts).encode("utf8"), 1)
 
 
 def unpacked(given: bytes) -> list[str]:
-    return zlib.decompress(given).decode("ascii").split("\0")
+    return zlib.decompress(given).decode("utf8").split("\0")
+
+
+def first_of(parts: list[Part]) -> int:
+    """The first member that has its heading on a page."""
+    first = next(iter(parts), None)
+    return 0 if first is None else first.at + (first.place >= 0)
 
 
 class Browse:
@@ -89,29 +97,47 @@ class Browse:
 
     def write(self, folder: Folder) -> None:
         count = len(self.uses.classes)
-        lines = []
+        made = []
         with Progress("reading", count) as progress:
             for row in range(count):
-                lines.append(packed(lines_of(self.uses, self.coder, row)))
+                made.append(packed(lines_of(self.uses, self.coder, row)))
+                progress.step()
+        cuts, firsts = Cuts(), []
+        with Progress("laying out", count) as progress:
+            for row in range(count):
+                made[row] = self.laid_out(row, unpacked(made[row]), cuts, firsts)
                 progress.step()
         found = [*self.coder.strings]
-        index = [*shards(self.classes, found)]
+        texts = strings_cut(self.classes, found, cuts)
+        index = [*shards(self.classes, firsts, found, cuts)]
         frame = Frame(self.shown, len(index))
         for at, script in enumerate(index):
             folder.put(f"search/{at}.js", script)
         with Progress("writing", count) as progress:
             for row in range(count):
-                title, body = self.class_page(row, unpacked(lines[row]))
-                folder.put(f"class/{row}.html", frame.page(title, body))
+                self.put_class(folder, frame, cuts, row, unpacked(made[row]))
                 progress.step()
-        self.write_others(folder, frame, found)
+        self.put_strings(folder, frame, cuts, texts, len(found))
+        self.put_others(folder, frame, cuts)
 
-    def class_page(self, row: int, lines: list[str]):
+    def laid_out(self, row: int, lines: list[str], cuts: Cuts, firsts: list[list[int]]) -> bytes:
+        """What the pages of a class have. Where it is cut is noted, and with which member each page begins."""
         name = self.uses.classes[row].name
         at = self.packages.of_class.get(name)
         package = self.packages.link(at) if at is not None else ""
-        body = self.classes.page(row, lines, package, self.sizes.of_class(name), self.extra)
-        return text(name.pretty, 80), body
+        methods = range(self.uses.first[row], self.uses.first[row] + len(self.uses.members[row]))
+        hint = self.pictured.isdisjoint(methods) and not self.coder.insns.keys().isdisjoint(methods)
+        pages = [*self.classes.pages(row, lines, package, self.sizes.of_class(name), self.extra, hint)]
+        cut = [parts for parts, _ in pages]
+        cuts.add("class", row, cut)
+        firsts.append([first_of(parts) for parts in cut])
+        return packed(body for _, body in pages)
+
+    def put_class(self, folder: Folder, frame: Frame, cuts: Cuts, row: int, bodies: list[str]) -> None:
+        title = plain(self.uses.classes[row].name.pretty, 80)
+        for at, body in enumerate(bodies):
+            name = file_of(row, at)
+            folder.put(f"class/{name}", frame.page(title, [cuts.turned(body, "class", row, name)]))
 
     def extra(self, number: int) -> str:
         """What is said of a method, besides who uses it."""
@@ -126,34 +152,40 @@ class Browse:
         if len(graph.nodes) < 2:
             return '<p class="soft">Its flow is a single block.</p>'
         if len(graph.edges) > MOST_DRAWN:
-            return '<p class="soft">No picture of its flow: it is too large.</p>'
+            return TOO_LARGE
         try:
-            svg = drawn("\n".join(as_dot(graph, f"#{self.uses.place(number)[1]}.")))
+            svg = for_page(drawn("\n".join(as_dot(graph, f"#{self.uses.place(number)[1]}."))))
         except Failed as failed:
             return f'<p class="soft">No picture of its flow: {text(failed.line)}.</p>'
+        if len(svg) > MOST_OF_PICTURE:
+            return TOO_LARGE
         count = counted(len(graph.nodes), "block")
-        said = f"The flow of {self.classes.title(number)}: {count}"
+        said = f"The flow of {self.classes.titled(number, plain)}: {count}"
         return (
             f"<details open><summary>Its flow, {count}: a thin line leads to the next block, a thick one where a branch"
             " goes, one with numbers where a switch does, a dashed one to a handler</summary>"
             f'<div class="flow" tabindex="0" role="region" aria-label="{said}">'
-            f"{for_page(svg)}</div></details>"
+            f"{svg}</div></details>"
         )
 
-    def write_others(self, folder: Folder, frame: Frame, found: list[str]) -> None:
-        for at in range(max(1, -(-len(found) // STRINGS_A_PAGE))):
-            part = found[at * STRINGS_A_PAGE : (at + 1) * STRINGS_A_PAGE]
-            body = strings(self.classes, at, part, len(found))
-            folder.put(f"strings/{at}.html", frame.page("Strings", body))
+    def put_strings(
+        self, folder: Folder, frame: Frame, cuts: Cuts, pages: list[tuple[str, list[Part]]], count: int
+    ) -> None:
+        names = [name for name, _ in pages]
+        for at, (name, parts) in enumerate(pages):
+            body = strings(parts, count, others("Pages of strings", names, at))
+            folder.put(f"strings/{name}", frame.page("Strings", (cuts.turned(one, "strings") for one in body)))
+
+    def put_others(self, folder: Folder, frame: Frame, cuts: Cuts) -> None:
         for at in range(len(self.packages.nodes)):
-            folder.put(f"package/{at}.html", frame.page(text(self.packages.path(at), 80), self.packages.page(at)))
+            title = plain(self.packages.path(at), 80)
+            for page, body in enumerate(self.packages.pages(at)):
+                folder.put(f"package/{file_of(at, page)}", frame.page(title, [body]))
         body = overview(self.shown, self.numbers(), self.packages, self.classes, self.sizes.code)
-        folder.put("index.html", frame.page("Overview", body, ""))
+        folder.put("index.html", frame.page("Overview", (cuts.turned(one, "") for one in body), ""))
         folder.put("help.html", frame.page("How to read it", reading(), ""))
-        with open(os.path.join(HERE, "browse.css"), encoding="ascii") as file:
-            folder.put("style.css", file.read())
-        with open(os.path.join(HERE, "browse.js"), encoding="ascii") as file:
-            folder.put("script.js", SCRIPT.lstrip() + file.read())
+        folder.put("style.css", read("pages.css") + read("browse.css"))
+        folder.put("script.js", SCRIPT.lstrip() + read("browse.js"))
         folder.put("icon.svg", ICON)
 
     def numbers(self):

@@ -6,21 +6,17 @@ from collections import Counter
 from collections.abc import Callable, Iterator
 
 from dexasm_browse_code import Coder
-from dexasm_browse_text import counted, facts, folded, link, text
+from dexasm_browse_cut import Part, file_of, member, others, paged
+from dexasm_browse_text import counted, facts, folded, link, some
+from dexasm_html import text
 from dexasm_uses import CLASS_FLAGS, Uses, flag_words, heading, title
 
-MOST_USERS = 1000  # of a member, and heirs of a class, on its page
 LONG = 300  # characters of a heading
 RUNS_IT = "The runtime calls it when the class is first used."
 GRAPHS = (
     '<p class="soft">For a picture of a method\'s flow: <code>dexasm-browse --graphs METHOD</code>, as '
     '<a href="../help.html#graphs">How to read it</a> says.</p>'
 )
-
-
-def some(items: list[str]) -> list[str]:
-    more = len(items) - MOST_USERS
-    return items if more <= 0 else [*items[:MOST_USERS], f"and {more:,} more"]
 
 
 class Classes:
@@ -36,10 +32,13 @@ class Classes:
     def title(self, number: int) -> str:
         """A member with its class, as HTML, cut where it is long."""
         if number not in self.titles:
-            row, at = self.uses.place(number)
-            name = text(self.uses.classes[row].name.pretty, 80)
-            self.titles[number] = f"{name}.{text(title(self.uses.members[row][at]), 80)}"
+            self.titles[number] = self.titled(number, text)
         return self.titles[number]
+
+    def titled(self, number: int, said: Callable[[str, int], str]) -> str:
+        """The same by `text`, or by `plain` where no element may stand."""
+        row, at = self.uses.place(number)
+        return f"{said(self.uses.classes[row].name.pretty, 80)}.{said(title(self.uses.members[row][at]), 80)}"
 
     def member_link(self, number: int, place: int | None = None, root: str = "") -> str:
         row, at = self.uses.place(number)
@@ -52,11 +51,11 @@ class Classes:
         first: dict[int, int] = {}
         for use in found or ():
             first.setdefault(use >> 32, use & 0xFFFFFFFF)
-        said = [
+        said = (
             self.member_link(user, self.line_of(user, first[user]), root) + (f" ({times} times)" if times > 1 else "")
-            for user, times in [*count.items()][:MOST_USERS]
-        ]
-        return said + ([f"and {len(count) - len(said):,} more"] if len(count) > len(said) else [])
+            for user, times in count.items()
+        )
+        return some(said, len(count))
 
     def line_of(self, user: int, place: int) -> int | None:
         return place if hasattr(self.uses.member(user), "proto") else None
@@ -73,8 +72,8 @@ class Classes:
 
     def facts(self, row: int, package: str, taken: str) -> str:
         one = self.uses.classes[row]
-        heirs = some([self.class_link(heir) for heir in self.uses.heirs.get(row, [])])
-        interfaces = some([self.type_link(name) for name in one.interfaces])
+        heirs = self.uses.heirs.get(row, [])
+        interfaces = some(map(self.type_link, one.interfaces), len(one.interfaces))
         return facts(
             (
                 ("name in the file", f"<code>{text(one.name, LONG)}</code>"),
@@ -83,29 +82,53 @@ class Classes:
                 ("interfaces", ", ".join(interfaces)),
                 ("source file", text(one.source) if one.source is not None else ""),
                 ("bytes", taken),
-                ("inherited by", ", ".join(heirs)),
+                ("inherited by", ", ".join(some(map(self.class_link, heirs), len(heirs)))),
             )
         )
 
-    def page(self, row: int, lines: list[str], package: str, taken: str, extra: Callable[[int], str]) -> Iterator[str]:
-        """The parts of a page. `lines` has the HTML of each member's lines, `extra` what is added to a method."""
-        one, first = self.uses.classes[row], self.uses.first[row]
+    def pages(
+        self, row: int, lines: list[str], package: str, taken: str, extra: Callable[[int], str], hint: bool
+    ) -> Iterator[tuple[list[Part], str]]:
+        """What each page of a class has. `lines` has the HTML of each member's lines, `extra` what is added to a
+        method, and `hint` is whether something is said of pictures.
+        """
+        cut = paged(self.parts(row, lines, extra))
+        names = [file_of(row, at) for at in range(len(cut))]
+        for at, parts in enumerate(cut):
+            lead = others("Pages of this class", names, at)
+            head = "" if at else "\n".join(self.head(row, package, taken))
+            where = " on this page" if lead else ""
+            body = "\n".join(self.body(parts, len(self.uses.classes[row].fields), where, hint))
+            yield parts, f"<h1>{self.heading(row)}</h1>{lead}{head}{body}{lead}"
+
+    def heading(self, row: int) -> str:
+        one = self.uses.classes[row]
         kind = "interface" if one.flags & 0x200 else "class"
         words = flag_words(one.flags & ~0x200, CLASS_FLAGS)
-        yield f"<h1>{text(f'{words} {kind} {one.name.pretty}'.strip(), LONG)}</h1>"
+        return text(f"{words} {kind} {one.name.pretty}".strip(), LONG)
+
+    def head(self, row: int, package: str, taken: str) -> Iterator[str]:
+        """What stands on a class's first page, before its members."""
         yield self.facts(row, package, taken)
         yield self.used_by(self.coder.of_class.get(row), "Named in code or values by")
-        names = [f"{link(f'#{at}', text(title(member)))}" for at, member in enumerate(self.uses.members[row])]
-        fields = len(one.fields)
-        yield folded(counted(fields, "field"), names[:fields], 20) + folded(
-            counted(len(names) - fields, "method"), names[fields:], 20
-        )
-        for at, member in enumerate(self.uses.members[row]):
-            if at in (0, fields):
-                yield "<h2>Fields</h2>" if at < fields else f"<h2>Methods</h2>{GRAPHS}"
-            yield f'<h3 id="{at}">{text(heading(member), LONG)}</h3>'
-            yield from self.about(first + at, extra)
-            yield f'<ol class="code">{lines[at]}</ol>'
+
+    def parts(self, row: int, lines: list[str], extra: Callable[[int], str]) -> Iterator[Part]:
+        first = self.uses.first[row]
+        for at, one in enumerate(self.uses.members[row]):
+            listed = link(f"#{at}", text(title(one)))
+            yield from member(at, listed, text(heading(one), LONG), "".join(self.about(first + at, extra)), lines[at])
+
+    def body(self, parts: list[Part], fields: int, where: str, hint: bool) -> Iterator[str]:
+        """The members of a page: their names first."""
+        for is_method, said in ((False, "field"), (True, "method")):
+            names = [part.listed for part in parts if part.listed and (part.at >= fields) == is_method]
+            yield folded(counted(len(names), said) + where, names, 20)
+        shown = -1
+        for part in parts:
+            if (part.at >= fields) > shown:
+                shown = part.at >= fields
+                yield f"<h2>Methods</h2>{GRAPHS if hint else ''}" if shown else "<h2>Fields</h2>"
+            yield part.html
 
     def about(self, number: int, extra: Callable[[int], str]) -> Iterator[str]:
         """What stands between a member's heading and its lines."""
@@ -114,10 +137,8 @@ class Classes:
         used = self.used_by(self.coder.of_member.get(number))
         is_first = self.uses.member(number).name == "<clinit>"
         yield used or f'<p class="soft">{RUNS_IT if is_first else "Nothing in this file uses it by name."}</p>'
-        called = [
-            self.member_link(to) + (f" ({times} times)" if times > 1 else "")
-            for to, times in self.coder.calls.get(number, {}).items()
-        ]
+        calls = self.coder.calls.get(number, {})
+        called = (self.member_link(to) + (f" ({times} times)" if times > 1 else "") for to, times in calls.items())
         outside = self.coder.calls_outside.get(number, 0)
         more = f", and {outside:,} outside this file" if outside else ""
-        yield folded(f"Calls {counted(len(called), 'method')} of this file{more}", called)
+        yield folded(f"Calls {counted(len(calls), 'method')} of this file{more}", some(called, len(calls)))

@@ -6,13 +6,14 @@ from collections.abc import Iterator
 
 from dexasm_browse_class import Classes
 from dexasm_browse_code import STRINGS_A_PAGE
-from dexasm_browse_text import LONGEST, counted, cut, facts, folded, in_quotes, link, number, quoted, table, text
-from dexasm_contrib import escaped
-from dexasm_page import HEIGHT, KINDS, WIDTH, drawn, tree_of
+from dexasm_browse_cut import Cuts, Part, file_of, others, paged
+from dexasm_browse_text import counted, facts, folded, in_quotes, link, quoted
+from dexasm_html import LONGEST, number, row, seen, table, text
+from dexasm_page import Node, picture, tree_of
 from dexasm_sizes import COLUMNS
 from dexasm_uses import title
 
-LARGEST = 50  # classes, and methods, that the overview shows
+LARGEST = 50  # classes, methods and packages that the overview shows
 SHARD = 4000  # names in a script of the index
 
 # Mnemonics by families, for those who never saw a listing.
@@ -83,24 +84,21 @@ class Packages:
 
         return to
 
-    def picture(self, node, root: str) -> Iterator[str]:
-        yield f'<svg class="map" viewBox="0 0 {WIDTH} {HEIGHT}" role="img" aria-label="Classes by their bytes">'
-        yield from drawn(node, 0, 0, WIDTH, HEIGHT, self.lead(root))
-        yield "</svg>"
-        yield '<ul class="key">'
-        for color, said in KINDS.values():
-            square = f'<svg viewBox="0 0 1 1" aria-hidden="true"><rect width="1" height="1" fill="{color}"/></svg>'
-            yield f"<li>{square}{said}"
-        yield "</ul>"
-
     def name(self, node, root: str) -> str:
         to = self.lead(root)(node)
         said = text(node.name.replace("/", ".") + (".*" if node.kinds is None else ""))
         return link(to, said) if to else said
 
-    def table(self, node, root: str) -> str:
-        rows = (((inner.total,), self.name(inner, root)) for inner in node.rows())
-        return table("What it holds, by bytes", ("bytes", "package or class"), rows)
+    def lines(self, node: Node, root: str) -> Iterator[str]:
+        for inner in node.rows():
+            yield row((inner.total,), self.name(inner, root))
+
+    def largest(self) -> str:
+        """The largest rows of the overview, which leads to the others."""
+        rows = [*self.lines(self.tree, "")]
+        if len(rows) <= LARGEST:
+            return holds(rows)
+        return f'{holds(rows[:LARGEST])}<p>{link("package/0.html", f"All {len(rows):,} rows")}</p>'
 
     def path(self, at: int) -> str:
         return self.nodes[at][1].replace("/", ".") or "(all packages)"
@@ -108,25 +106,36 @@ class Packages:
     def link(self, at: int, root: str = "../") -> str:
         return link(f"{root}package/{at}.html", text(self.path(at)))
 
-    def page(self, at: int) -> Iterator[str]:
+    def pages(self, at: int) -> Iterator[str]:
+        """What each page of a package has."""
         node, _, outer = self.nodes[at]
-        yield f"<h1>{f'Package {text(self.path(at))}' if at else 'All packages'}</h1>"
-        yield f"<p>{counted(node.total, 'byte')}{f', in {self.link(outer)}' if at else ''}.</p>"
-        yield from self.picture(node, "../")
-        yield self.table(node, "../")
+        said = f"<p>{counted(node.total, 'byte')}{f', in {self.link(outer)}' if at else ''}.</p>"
+        shown = Part(0, -1, "\n".join([said, *picture(node, self.lead("../"))]))
+        cut = paged([shown, *(Part(place, -1, one) for place, one in enumerate(self.lines(node, "../"), 1))])
+        names = [file_of(at, page) for page in range(len(cut))]
+        for page, parts in enumerate(cut):
+            lead = others("Pages of this package", names, page)
+            head = f"<h1>{f'Package {text(self.path(at))}' if at else 'All packages'}</h1>{lead}"
+            html = [part.html for part in parts]
+            top = html.pop(0) if page == 0 else ""
+            yield f"{head}{top}{holds(html)}{lead}"
+
+
+def holds(rows: list[str]) -> str:
+    return table("What it holds, by bytes", ("bytes", "package or class"), rows)
 
 
 def overview(name: str, numbers, packages: Packages, classes: Classes, code_sizes: dict[int, int]) -> Iterator[str]:
     yield f"<h1>{text(name)}</h1>"
     yield facts((said, number(count)) for said, count in numbers)
     yield "<h2>What takes the space</h2><p>Click a package or a class; the tables below lead there too.</p>"
-    yield from packages.picture(packages.tree, "")
+    yield from picture(packages.tree, packages.lead(""))
     yield "<h2>The largest methods</h2>"
     yield largest_methods(classes, code_sizes)
     yield "<h2>The largest classes</h2>"
     yield largest_classes(packages, classes)
     yield "<h2>Packages</h2>"
-    yield packages.table(packages.tree, "")
+    yield packages.largest()
 
 
 def largest_methods(classes: Classes, code_sizes: dict[int, int]) -> str:
@@ -136,7 +145,7 @@ def largest_methods(classes: Classes, code_sizes: dict[int, int]) -> str:
         order = sorted(code_sizes, key=lambda method: (-code_sizes[method], method))
         for method in order[:LARGEST]:
             users = len({use >> 32 for use in uses.get(method, ())})
-            yield (code_sizes[method], insns[method], users), classes.member_link(method, root="class/")
+            yield row((code_sizes[method], insns[method], users), classes.member_link(method, root="class/"))
 
     return table("By the bytes of their code", ("bytes", "instructions", "used by", "method"), rows())
 
@@ -147,27 +156,36 @@ def largest_classes(packages: Packages, classes: Classes) -> str:
 
     def rows():
         for name, taken in known[:LARGEST]:
-            yield taken, classes.class_link(packages.class_rows[name], "class/")
+            yield row(taken, classes.class_link(packages.class_rows[name], "class/"))
 
     return table("By their bytes; strip is what dexasm strip takes away", (*COLUMNS, "class"), rows())
 
 
-def strings(classes: Classes, at: int, found: list[str], count: int) -> Iterator[str]:
-    """The page of so many strings: each with where it is used."""
-    first = at * STRINGS_A_PAGE
-    yield f"<h1>Strings {first:,} to {first + len(found) - 1:,} of {count:,}</h1>" if found else "<h1>No strings</h1>"
+def strings_cut(classes: Classes, found: list[str], cuts: Cuts) -> list[tuple[str, list[Part]]]:
+    """The pages of strings: each string with where it is used."""
+    pages = []
+    for first in range(0, max(1, len(found)), STRINGS_A_PAGE):
+        part = enumerate(found[first : first + STRINGS_A_PAGE], first)
+        cut = paged(Part(at, -1, string_row(classes, at, string)) for at, string in part)
+        cuts.add("strings", first // STRINGS_A_PAGE, cut)
+        pages += [(file_of(first // STRINGS_A_PAGE, at), parts) for at, parts in enumerate(cut)]
+    return pages
+
+
+def string_row(classes: Classes, at: int, string: str) -> str:
+    users = classes.users(classes.coder.of_string[at], "../class/")
+    said = ", ".join(users) if len(users) < 5 else folded(counted(len(users), "member"), users, 0)
+    return f'<tr id="{at}"><td><code>{quoted(string, 1000)}</code></td><td>{said}</td></tr>'
+
+
+def strings(parts: list[Part], count: int, lead: str) -> Iterator[str]:
+    """A page of strings."""
+    yield f"<h1>Strings {parts[0].at:,} to {parts[-1].at:,} of {count:,}</h1>" if parts else "<h1>No strings</h1>"
     yield '<p class="soft">Those of code and of initial values, in the order in which the file uses them.</p>'
-    pages = range(-(-count // STRINGS_A_PAGE))
-    if len(pages) > 1:
-        links = [f"<strong>{page}</strong>" if page == at else link(f"{page}.html", str(page)) for page in pages]
-        yield f'<nav aria-label="Pages of strings"><p>{" ".join(links)}</p></nav>'
-    yield '<div class="wide"><table class="strings"><thead><tr><th scope="col">string</th>'
+    yield f'{lead}<div class="wide"><table class="strings"><thead><tr><th scope="col">string</th>'
     yield '<th scope="col">used by</th></tr></thead><tbody>'
-    for place, string in enumerate(found, first):
-        users = classes.users(classes.coder.of_string[place], "../class/")
-        said = ", ".join(users) if len(users) < 5 else folded(counted(len(users), "member"), users, 0)
-        yield f'<tr id="{place}"><td><code>{quoted(string, 1000)}</code></td><td>{said}</td></tr>'
-    yield "</tbody></table></div>"
+    yield from (part.html for part in parts)
+    yield f"</tbody></table></div>{lead}"
 
 
 def reading() -> Iterator[str]:
@@ -182,26 +200,36 @@ def reading() -> Iterator[str]:
     yield f"<h2>Types and names</h2>{facts((f'<code>{word}</code>', said) for word, said in TYPES)}"
     yield "<h2>The search</h2><p>/ goes to it, Escape leaves it, Tab goes from link to link. It finds classes, members"
     yield f"and strings, of these the first {LONGEST} characters; several words must all be there.</p>"
+    yield "<h2>Names</h2><p>What nobody sees in a name stands as an escape, as <code>\\u3164</code>, and so does all"
+    yield "but ASCII of a name that has another form in the Unicode standard (NFC). The parts of a name stand from left"
+    yield "to right, as in the file, also where the letters of a part run from right to left. The code has names as a"
+    yield "listing has them, all in ASCII.</p>"
     yield '<h2 id="graphs">Pictures of the flow</h2><p><code>dexasm-browse --graphs METHOD</code> puts a picture of a'
     yield "method's flow on the page of its class; <code>dexasm-graph FILE METHOD</code> draws it by itself. Both need"
-    yield "graphviz.</p>"
+    yield "graphviz. On a page it opens whole, or where that would be too small at its first block. Buttons make it"
+    yield "larger and smaller, or the wheel with Ctrl held, or keys: +, -, 0 (all of it) and 1 (its first block).</p>"
 
 
-def shards(classes: Classes, found: list[str]) -> Iterator[str]:
-    """The index as scripts: names of classes with those of their members, and strings."""
+def shards(classes: Classes, pages: list[list[int]], found: list[str], cuts: Cuts) -> Iterator[str]:
+    """The index as scripts: of each page of a class the class's name, the page's, the number of its first member and
+    the members' names; and strings. `pages` has of each class the numbers of the members with which its pages begin.
+    """
     uses = classes.uses
     rows, count = [], 0
-    for row, one in enumerate(uses.classes):
-        names = [escaped(cut(title(member))) for member in uses.members[row]]
-        rows.append([escaped(cut(one.name.pretty)), row, names])
-        count += 1 + len(names)
-        if count >= SHARD:
-            yield script(rows, [])
-            rows, count = [], 0
+    for at, one in enumerate(uses.classes):
+        ends = [*pages[at][1:], len(uses.members[at])]
+        for page, (first, end) in enumerate(zip(pages[at], ends)):
+            names = [seen(title(member)) for member in uses.members[at][first:end]]
+            rows.append([seen(one.name.pretty), file_of(at, page), first, names])
+            count += 1 + len(names)
+            if count >= SHARD:
+                yield script(rows, [])
+                rows, count = [], 0
     yield script(rows, [])
     for first in range(0, len(found), SHARD):
         part = enumerate(found[first : first + SHARD], first)
-        yield script([], [[in_quotes(one), f"{at // STRINGS_A_PAGE}.html#{at}"] for at, one in part])
+        place = lambda at: f"{cuts.file('strings', at // STRINGS_A_PAGE, at)}#{at}"
+        yield script([], [[in_quotes(one), place(at)] for at, one in part])
 
 
 def script(rows: list, found: list) -> str:

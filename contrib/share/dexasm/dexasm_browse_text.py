@@ -1,30 +1,26 @@
-"""What dexasm-browse's pages have in common: names as text, links, tables, and the frame of a page."""
+"""What dexasm-browse's pages have in common: strings as text, links, lists, and the frame of a page."""
 from __future__ import annotations
 
 import html
 from collections.abc import Iterable
+from itertools import islice
 
 from dexasm_contrib import escaped
+from dexasm_html import LONGEST, plain, unpiled
 
-LONGEST = 120  # characters of a name or a string where it isn't the listing's own line
+MOST_OF_LIST = 1000  # items of a list
+BYTES_OF_LIST = 200_000
 # Style, script and icon of the folder alone. (Of file: too, 'self' is what a browser takes from there.)
 POLICY = "default-src 'none'; style-src 'self'; script-src 'self'; img-src 'self'; base-uri 'none'; form-action 'none'"
-
-
-def cut(text: str, most: int = LONGEST) -> str:
-    return text if len(text) <= most else f"{text[:most]}... ({len(text):,} characters)"
-
-
-def text(name: str, most: int = LONGEST) -> str:
-    """A name as HTML: nothing in it is obeyed, what can't be seen stands as an escape, and what is long is cut."""
-    return html.escape(escaped(cut(name, most)))
+# Of a string in quotes: what a listing escapes, and surrogates that `escaped` would take for bytes of a file's name.
+QUOTED = {34: '\\"', 92: "\\\\"} | {unit: f"\\u{unit:04x}" for unit in range(0xDC80, 0xDD00)}
 
 
 def in_quotes(string: str, most: int = LONGEST) -> str:
     """A string in quotes and escaped as in a listing, but with the characters that can be seen; no HTML yet."""
-    said = string[:most].translate({34: '\\"', 92: "\\\\"})
+    said = string[:most].translate(QUOTED)
     more = f" ... ({len(string):,} characters)" if len(string) > most else ""
-    return f'"{escaped(said)}"{more}'
+    return f'"{unpiled(escaped(said))}"{more}'
 
 
 def quoted(string: str, most: int = LONGEST) -> str:
@@ -35,24 +31,8 @@ def link(to: str, said: str) -> str:
     return f'<a href="{to}">{said}</a>'
 
 
-def number(count: int | None) -> str:
-    return "-" if count is None else f"{count:,}"
-
-
 def counted(count: int, one: str, many: str = "") -> str:
     return f"{count:,} {one if count == 1 else many or one + 's'}"
-
-
-def table(caption: str, heads: Iterable[str], rows: Iterable[tuple[Iterable[int | None], str]]) -> str:
-    """Rows of numbers with a name, which is HTML, at the end."""
-    head = "".join(f'<th scope="col" tabindex="0">{one}</th>' for one in heads)
-    body = "\n".join(
-        f"<tr>{''.join(f'<td>{number(one)}</td>' for one in cells)}<td>{name}</td>" for cells, name in rows
-    )
-    return (
-        f'<div class="wide"><table><caption class="soft">{caption}</caption><thead><tr>{head}</tr></thead>'
-        f"<tbody>{body}</tbody></table></div>"
-    )
 
 
 def facts(rows: Iterable[tuple[str, str]]) -> str:
@@ -67,6 +47,17 @@ def folded(said: str, items: list[str], most_open: int = 10) -> str:
     return f"<details{is_open}><summary>{said}</summary><ul><li>{'<li>'.join(items)}</ul></details>"
 
 
+def some(items: Iterable[str], count: int) -> list[str]:
+    """As many of so many items as a page has room for, and how many more there are."""
+    said, size = [], 0
+    for item in islice(items, MOST_OF_LIST):
+        size += len(item.encode("utf8"))
+        if size > BYTES_OF_LIST:
+            break
+        said.append(item)
+    return said if len(said) == count else [*said, f"and {count - len(said):,} more"]
+
+
 class Frame:
     """What stands around each page of a folder."""
 
@@ -74,13 +65,13 @@ class Frame:
         self.name, self.shards = name, shards
 
     def page(self, title: str, body: Iterable[str], root: str = "../") -> str:
-        """A page whose title is HTML; `root` leads to the top of the folder."""
+        """A page whose title is plain HTML; `root` leads to the top of the folder."""
         return "\n".join(
             [
                 '<!DOCTYPE html><html lang="en"><head><meta charset="utf-8">',
                 f'<meta http-equiv="Content-Security-Policy" content="{POLICY}">',
                 '<meta name="viewport" content="width=device-width, initial-scale=1">',
-                f'<meta name="generator" content="dexasm-browse"><title>{title} - {text(self.name, 60)}</title>',
+                f'<meta name="generator" content="dexasm-browse"><title>{title} - {plain(self.name, 60)}</title>',
                 f'<link rel="stylesheet" href="{root}style.css"><link rel="icon" href="{root}icon.svg">',
                 f'<script src="{root}script.js" defer></script></head>',
                 f'<body data-root="{root}" data-shards="{self.shards}">',

@@ -15,6 +15,14 @@ TOP = os.path.dirname(os.path.dirname(os.path.dirname(os.path.realpath(__file__)
 REFUSAL = re.compile(r".*\brefused (\d{1,5}) (\w+) at (\d{1,20})(?:: .*)?$")
 REFUSED, USAGE, FAILED, MEMORY = 1, 2, 3, 4  # exit statuses, as those of dexasm
 DEX, ZIP = b"dex\n", b"PK"
+# What nobody sees though it counts as printable: Default_Ignorable_Code_Point of the Unicode Character Database
+# (DerivedCoreProperties.txt; unicodedata doesn't have it), and signs that are blank: a Braille pattern without dots, a
+# filler of Khitan, blanks of Egyptian, a notehead that isn't drawn.
+UNSEEN = re.compile(
+    "[\u00ad\u034f\u061c\u115f\u1160\u17b4\u17b5\u180b-\u180f\u200b-\u200f\u202a-\u202e\u2060-\u206f\u2800\u3164"
+    "\ufe00-\ufe0f\ufeff\uffa0\ufff0-\ufff8\U00013441\U00013442\U00016fe4\U0001bca0-\U0001bca3\U0001d159"
+    "\U0001d173-\U0001d17a\U000e0000-\U000e0fff]"
+)
 
 
 class Failed(Exception):
@@ -30,12 +38,14 @@ class Usage(Failed):
 
 
 def escaped(text):
-    """The text without what a terminal obeys: escapes, other control characters, and marks that turn its direction."""
+    """The text without what a terminal obeys: escapes, other control characters, and marks that turn its direction; and
+    without what nobody sees.
+    """
     if isinstance(text, bytes):
         text = text.decode("utf8", "surrogateescape")
-    if text.isprintable():
+    if text.isprintable() and not UNSEEN.search(text):
         return text
-    return "".join(char if char.isprintable() else shown(char) for char in text)
+    return "".join(char if char.isprintable() and not UNSEEN.match(char) else shown(char) for char in text)
 
 
 def shown(char):

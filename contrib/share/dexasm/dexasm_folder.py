@@ -16,7 +16,7 @@ from dexasm_contrib import Failed, deliver, delivery, escaped, reason
 
 # All that dexasm-browse writes into a folder. What holds anything else isn't its own.
 FILES = re.compile(
-    r"(?:index|help)\.html|style\.css|script\.js|icon\.svg|(?:class|package|strings)/\d+\.html|search/\d+\.js"
+    r"(?:index|help)\.html|style\.css|script\.js|icon\.svg|(?:class|package|strings)/\d+(?:-\d+)?\.html|search/\d+\.js"
 )
 INNER = ("class", "package", "strings", "search")
 MARK = b'<meta name="generator" content="dexasm-browse">'

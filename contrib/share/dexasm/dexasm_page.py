@@ -1,16 +1,23 @@
 """The page of dexasm-size: a treemap as SVG, and tables that sort. Nothing on it comes from elsewhere, and each name is
 escaped.
 """
-import html
+from __future__ import annotations
 
-from dexasm_contrib import escaped
+import os
+import unicodedata
+from collections.abc import Callable, Iterator
 
+from dexasm_html import drawn_text, plain, row, seen, table, text
+
+HERE = os.path.dirname(os.path.abspath(__file__))
 WIDTH, HEIGHT = 1200, 720
 DEEPEST = 8  # levels of packages: what lies deeper is drawn in the deepest one, by its whole name
-LEAST = 24  # pixels of a rectangle that is drawn
+LEAST = 24  # pixels of a rectangle that is drawn, or more where the picture would have more bytes than MOST
+MOST = 900_000
+SLICED = 400  # pixels of a class that has a slice for each kind; a smaller one has the colour of its largest kind
 EDGE = ' stroke="#fff"'
-LONGEST = 120  # characters of a name in the picture
-HEAD = 15  # pixels of a package's name
+MOST_ROWS = 2000  # of a table, which has a row for all that are smaller
+HEAD, LETTER = 15, 7  # pixels: the height of a label, the width of a letter
 KINDS = {
     "code": ("#8ab6e0", "code"),
     "strings": ("#f6b26b", "strings"),
@@ -19,19 +26,6 @@ KINDS = {
     "debug": ("#ef8a8c", "debug information and annotations"),
     "unused": ("#bdbdbd", "unused"),
 }
-STYLE = """
-body { font: 14px/1.4 system-ui, sans-serif; margin: 1.5em auto; max-width: 1240px; padding: 0 1em }
-body { color: #222; background: #fff }
-h1 { font-size: 1.3em; overflow-wrap: anywhere } h2 { font-size: 1.1em; margin-top: 1.6em }
-svg { width: 100%; height: auto; font: 11px system-ui, sans-serif } svg text { pointer-events: none; fill: #111 }
-.key span { display: inline-block; margin-right: 1.2em }
-.key i { display: inline-block; width: .8em; height: .8em; margin-right: .4em }
-table { border-collapse: collapse; font-variant-numeric: tabular-nums } td, th { padding: .15em .6em }
-td, th { text-align: right } td:last-child, th:last-child { text-align: left; overflow-wrap: anywhere }
-th { cursor: pointer; border-bottom: 1px solid #999 }
-th:focus-visible { outline: 2px solid #4e79a7 } tfoot td { border-top: 1px solid #999; font-weight: 600 }
-tbody tr:nth-child(even) { background: #f4f4f4 }
-"""
 SCRIPT = """
 for (const head of document.querySelectorAll('th')) {
   const sort = () => {
@@ -51,15 +45,6 @@ for (const head of document.querySelectorAll('th')) {
   head.addEventListener('keydown', (event) => { if (event.key === 'Enter') sort(); });
 }
 """
-
-
-def text(name):
-    return html.escape(escaped(name))
-
-
-def short(name):
-    """A name where it isn't a table's: what is long is cut."""
-    return text(name if len(name) <= LONGEST else f"{name[:LONGEST]}... ({len(name):,} characters)")
 
 
 class Node:
@@ -134,13 +119,18 @@ def rect(x, y, width, height, fill, more=""):
     return f'<rect x="{x:.1f}" y="{y:.1f}" width="{width:.1f}" height="{height:.1f}" fill="{fill}"{more}/>'
 
 
-def label(name, x, y, width):
-    most = int(width / 7)
-    return (
-        f'<text x="{x + 3:.1f}" y="{y + 11:.1f}">{text(name if len(name) <= most else name[: most - 1] + "…")}</text>'
-        if most > 3
-        else ""
-    )
+def label(name: str, x: float, y: float, width: float) -> str:
+    """A name in its rectangle: it is cut by an estimate of its width, and nothing of it stands beyond the edge."""
+    if width < 4 * LETTER:
+        return ""
+    said, most = seen(name), int(width / LETTER)
+    for at, char in enumerate(said):
+        most -= 2 if unicodedata.east_asian_width(char) in "WF" else 1
+        if most < 0:
+            said = f"{said[: max(at - 1, 1)]}…"
+            break
+    place = f'x="{x:.1f}" y="{y:.1f}" width="{width - 1:.1f}" height="{HEAD}"'
+    return f'<svg {place}><text x="3" y="11">{drawn_text(said)}</text></svg>'
 
 
 def led(node, lead, *parts):
@@ -152,7 +142,11 @@ def led(node, lead, *parts):
 def drawn_class(node, x, y, width, height):
     """A class: a slice for each kind."""
     said = ", ".join(f"{kind} {number:,}" for kind, number in zip(KINDS, node.kinds) if number)
-    yield f"<g><title>{short(node.full)}: {node.total:,} bytes ({said})</title>"
+    yield f"<g><title>{plain(node.full)}\n{node.total:,} bytes ({said})</title>"
+    if width * height < SLICED:
+        largest = node.kinds.index(max(node.kinds))
+        yield f"{rect(x, y, width, height, [*KINDS.values()][largest][0], EDGE)}</g>"
+        return
     at = 0
     for (color, _), number in zip(KINDS.values(), node.kinds):
         share = number / node.total
@@ -167,50 +161,78 @@ def drawn_class(node, x, y, width, height):
     yield "</g>"
 
 
-def drawn(node, x, y, width, height, lead=None):
-    """A node and those in it. `lead` tells the page of a node, if there is one."""
-    if width * height < LEAST:
+def drawn(node, x, y, width, height, lead, least):
+    """A node and those in it, but for rectangles of fewer pixels than `least`."""
+    if width * height < least:
         return
     if node.kinds is not None:
         yield led(node, lead, *drawn_class(node, x, y, width, height))
         return
     has_head = bool(node.name) and height > 3 * HEAD and width > 40
     if node.name:
-        title = f"<title>{short(node.name)}: {node.total:,} bytes</title>"
+        title = f"<title>{plain(node.name)}\n{node.total:,} bytes</title>"
         head = label(node.name, x, y, width) if has_head else ""
         yield led(node, lead, f"<g>{title}{rect(x, y, width, height, '#dddddd', EDGE)}{head}</g>")
     head, edge = (HEAD, 2) if has_head else (0, 0)
     for inner, place in squares(node.rows(), x + edge, y + head, width - 2 * edge, height - head - edge):
-        yield from drawn(inner, *place, lead)
+        yield from drawn(inner, *place, lead, least)
 
 
-def table(title, columns, rows):
-    heads = "".join(f'<th tabindex="0">{column}</th>' for column in (*columns, "name"))
-    cell = lambda number: f"<td>{'-' if number is None else format(number, ',')}</td>"
-    yield f"<h2>{title}</h2><table><thead><tr>{heads}</tr></thead><tbody>"
-    for name, numbers in sorted(rows.items(), key=lambda row: (-row[1][0], row[0])):
-        yield f"<tr>{''.join(map(cell, numbers))}<td>{text(name)}</td></tr>"
-    total = [None if None in column else sum(column) for column in zip(*rows.values())]
-    yield f"</tbody><tfoot><tr>{''.join(map(cell, total))}<td>all</td></tr></tfoot></table>"
+def picture(node: Node, lead: Callable[[Node], str] | None = None) -> Iterator[str]:
+    """The treemap of a node, and what its colours mean. `lead` tells the page of a node, if there is one."""
+    least = LEAST
+    parts = [*drawn(node, 0, 0, WIDTH, HEIGHT, lead, least)]
+    while sum(len(part.encode("utf8")) for part in parts) > MOST:
+        least *= 1.5
+        parts = [*drawn(node, 0, 0, WIDTH, HEIGHT, lead, least)]
+    if least > LEAST:
+        yield f'<p class="soft">What would have fewer than {least:,.0f} square pixels isn\'t drawn.</p>'
+    yield '<p class="soft narrow">The picture is wider than this window: it scrolls sideways.</p>'
+    yield '<div class="wide" tabindex="0" role="region" aria-label="The picture">'
+    yield f'<svg class="map" viewBox="0 0 {WIDTH} {HEIGHT}" role="img" aria-label="Classes by their bytes">'
+    yield rect(0, 0, WIDTH, HEIGHT, "#dddddd")
+    yield from parts
+    yield '</svg></div><ul class="key">'
+    for color, said in KINDS.values():
+        square = f'<svg viewBox="0 0 1 1" aria-hidden="true"><rect width="1" height="1" fill="{color}"/></svg>'
+        yield f"<li>{square}{said}"
+    yield "</ul>"
 
 
-def html_page(name, columns, rows, packages):
+def read(name: str) -> str:
+    """A file that stands beside: a style or a script."""
+    with open(os.path.join(HERE, name), encoding="ascii") as file:
+        return file.read()
+
+
+def total_of(rows) -> list[int | None]:
+    return [None if None in column else sum(column) for column in zip(*rows)]
+
+
+def sums(title: str, columns, rows) -> Iterator[str]:
+    """A table of rows by their names, with a row that adds them up; those that are too many are one."""
+    order = sorted(rows.items(), key=lambda one: (-one[1][0], one[0]))
+    lines = [row(numbers, text(name)) for name, numbers in order[:MOST_ROWS]]
+    if rest := [numbers for _, numbers in order[MOST_ROWS:]]:
+        lines.append(row(total_of(rest), f"({len(rest):,} more)"))
+    yield f"<h2>{title}</h2>"
+    yield table("By their bytes", (*columns, "name"), lines, row(total_of(rows.values()), "all"))
+
+
+def html_page(name: str, columns, rows, packages) -> str:
     total = sum(numbers[0] for numbers in rows.values())
-    key = "".join(f'<span><i style="background:{color}"></i>{said}</span>' for color, said in KINDS.values())
-    picture = "\n".join(drawn(tree_of(rows), 0, 0, WIDTH, HEIGHT))
     policy = "default-src 'none'; style-src 'unsafe-inline'; script-src 'unsafe-inline'"
     return "\n".join(
         [
             '<!DOCTYPE html><html lang="en"><head><meta charset="utf-8">',
             f'<meta http-equiv="Content-Security-Policy" content="{policy}">',
-            f'<meta name="viewport" content="width=device-width"><title>{text(name)}</title>',
-            f"<style>{STYLE}</style></head><body>",
+            '<meta name="viewport" content="width=device-width, initial-scale=1">',
+            f"<title>{plain(name)}</title><style>{read('pages.css')}</style></head><body>",
             f"<h1>What takes the space of {text(name)}: {total:,} bytes</h1>",
-            f'<p class="key">{key}</p>',
-            f'<svg viewBox="0 0 {WIDTH} {HEIGHT}" role="img" aria-label="Classes by their bytes">{picture}</svg>',
+            *picture(tree_of(rows)),
             "<p>Click a column to sort by it. The column strip is what <code>dexasm strip</code> takes away.</p>",
-            *table("Packages", columns, packages),
-            *table("Classes", columns, rows),
+            *sums("Packages", columns, packages),
+            *sums("Classes", columns, rows),
             f"<script>{SCRIPT}</script></body></html>\n",
         ]
     )
