@@ -21,7 +21,7 @@ _dexasm_helper() {
     dexasm-apk) first='check list strip' options='--help --close' ;;
     dexasm-browse) first='' options='--help --output --graphs' ;;
     dexasm-close) first='' options='--help --output --check' ;;
-    dexasm-corpus) first='add refused same classes callers strings libraries merge sum' options='--help --processes --seconds --memory --again --strict --scheduler --send --json --csv --pattern --classes --known' ;;
+    dexasm-corpus) first='add refused same classes callers strings libraries merge sum' options='--help --processes --seconds --memory --again --strict --scheduler --trust --send --json --csv --pattern --classes --known --verify' ;;
     dexasm-diff) first='' options='--help --names --color --textconv' ;;
     dexasm-explain) first='' options='--help --json' ;;
     dexasm-graph) first='' options='--help --format --calls --from --depth' ;;

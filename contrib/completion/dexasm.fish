@@ -27,12 +27,14 @@ complete -c dexasm-corpus -l memory
 complete -c dexasm-corpus -l again
 complete -c dexasm-corpus -l strict
 complete -c dexasm-corpus -l scheduler
+complete -c dexasm-corpus -l trust
 complete -c dexasm-corpus -l send
 complete -c dexasm-corpus -l json
 complete -c dexasm-corpus -l csv
 complete -c dexasm-corpus -l pattern
 complete -c dexasm-corpus -l classes
 complete -c dexasm-corpus -l known
+complete -c dexasm-corpus -l verify
 complete -c dexasm-diff -l help
 complete -c dexasm-diff -l names
 complete -c dexasm-diff -l color -x -a 'auto always never'

@@ -395,7 +395,7 @@ def try_page():
     programs(at)
     put(at, "g.dex", padded(get(at, "f/a.dex")))
     added("for RECIPES", at, "corpus.db", "f", "g.dex")
-    found = re.findall(r"^sqlite3 -readonly corpus\.db \"([^\"]*)\"", blocks("docs/RECIPES.md")["A corpus"][1], re.M)
+    found = re.findall(r"^ask \"([^\"]*)\"", blocks("docs/RECIPES.md")["A corpus"][1], re.M)
     check("RECIPES: queries of a corpus", len(found) == 12, len(found))
     for words in found:
         check(f"RECIPES: {words[:60]}", len(rows(at, words, "corpus.db")) > 0)
@@ -417,8 +417,9 @@ def try_recipes():
     check("RECIPES: a corpus", (status, said) == (0, "") and all(word in out for word in wants), (status, out, said))
     check("RECIPES: a corpus, no name is obeyed", "PWNED" not in os.listdir(at) and ESC not in out)
     want = sums(at, "corpus.db")
-    for name in ("corpus.db", "known.db"):
-        os.remove(os.path.join(at, name))
+    for name in os.listdir(at):
+        if name.startswith(("corpus.db", "known.db")):
+            os.remove(os.path.join(at, name))
     put(room("corpus slurm"), "sbatch", SBATCH)
     os.chmod(os.path.join(Tries.folder, "corpus slurm", "sbatch"), 0o755)
     few = recipes[3].replace("0-63", "0-2").replace("~64p", "~3p")

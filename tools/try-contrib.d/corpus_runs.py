@@ -191,7 +191,8 @@ def try_memory():
 def try_names():
     """A database is the file of that very name."""
     at = room("corpus names")
-    names = ":memory:", "file:c.db?mode=memory", f"new\nline{ESC}[31m.db", os.fsdecode(b"b\xff.db")
+    names = ":memory:", "file:c.db?mode=memory", "%41?mode=memory#.db", f"new\nline{ESC}[31m.db"
+    names += (os.fsdecode(b"b\xff.db"),)
     put(at, "a.dex", assembled(LISTING))
     for name in names:
         added(f"to {name!r}", at, name, "a.dex")
@@ -282,23 +283,23 @@ def dask():
 class Cluster:
     """A scheduler of Dask and its workers, each with a nanny, in a folder."""
 
-    def __init__(self, python, at, workers):
+    def __init__(self, python, at, workers, protocol="tcp", **env):
         self.python, self.at, self.begun = python, at, []
+        self.env = {**Tries.env, "PYTHONPATH": os.path.join(TOP, "bindings", "python"), **env}
         file = os.path.join(at, "address.json")
         if os.path.exists(file):
             os.remove(file)
-        self.begin("scheduler", "--host", "127.0.0.1", "--port", "0")
+        self.begin("scheduler", "--host", "127.0.0.1", "--port", "0", "--protocol", protocol)
         for _ in range(workers):
             self.begin("worker", "--nthreads", "1", "--local-directory", "w")
         waited(lambda: os.path.exists(file) and get(file).endswith(b"}"))
         self.address = json.loads(get(file))["address"]
 
     def begin(self, who, *words):
-        env = {**Tries.env, "PYTHONPATH": os.path.join(TOP, "bindings", "python")}
         words = [*words, "--no-dashboard", "--scheduler-file", "address.json"]
         quiet = {"stdout": subprocess.DEVNULL, "stderr": subprocess.DEVNULL, "start_new_session": True}
         words = [self.python, "-m", f"distributed.cli.dask_{who}", *words]
-        self.begun.append(subprocess.Popen(words, cwd=self.at, env=env, **quiet))
+        self.begun.append(subprocess.Popen(words, cwd=self.at, env=self.env, **quiet))
 
     def add(self, *words, **streams):
         return begun(self.at, "add", "--scheduler", self.address, *words, python=self.python, **streams)
@@ -339,6 +340,30 @@ def try_dask():
             check(f"dexasm-corpus, by Dask {words}", is_so, (running.returncode, said, sums(at, file), want))
 
 
+def try_dask_tls():
+    """Over TLS, with the certificates of Dask's own configuration; who has none isn't let in."""
+    python = dask()
+    if python is None or not shutil.which("openssl"):
+        return
+    at = room("corpus dask tls")
+    programs(at)
+    new = "openssl req -x509 -newkey rsa:2048 -nodes -keyout key.pem -out cert.pem -days 2 -subj /CN=dask"
+    check("openssl makes a certificate", run(["bash", "-c", new], at=at)[0] == 0)
+    prefix, key, cert = "DASK_DISTRIBUTED__COMM__TLS__", os.path.join(at, "key.pem"), os.path.join(at, "cert.pem")
+    has = {f"{prefix}CA_FILE": cert}
+    for who in ("SCHEDULER", "WORKER", "CLIENT"):
+        has |= {f"{prefix}{who}__KEY": key, f"{prefix}{who}__CERT": cert}
+    added("here", at, "here.db", "f")
+    with Cluster(python, at, 1, "tls", **has) as cluster:
+        check("Dask over TLS", cluster.address.startswith("tls://"), cluster.address)
+        for what, env, status, says in (("them", has, 0, ""), ("none", {}, 3, f"dexasm-corpus: {cluster.address}: ")):
+            words = [python, CORPUS, "add", "--scheduler", cluster.address, f"{what}.db", "f"]
+            seen = run(words, at=at, **env)
+            is_so = seen[0] == status and (is_one_line(seen[2], says) if says else seen[2] == "")
+            check(f"dexasm-corpus, Dask over TLS, with {what}", is_so, seen)
+        check("dexasm-corpus, Dask over TLS, the sum", sums(at, "them.db") == sums(at, "here.db"))
+
+
 def try_dask_killed():
     """A worker of Dask is killed, then the scheduler, each while it looks at a file and others wait."""
     python = dask()
@@ -376,5 +401,6 @@ TRIES = (
     try_interrupted,
     try_terminal,
     try_dask,
+    try_dask_tls,
     try_dask_killed,
 )

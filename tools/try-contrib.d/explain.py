@@ -248,7 +248,7 @@ def try_names():
     )
     check(
         "dexasm-explain, a closed pipe",
-        seen[1] == "dexasm: refused 8 Checksum at 8\n3\n3\n3\n" and "Traceback" not in seen[2],
+        seen[1] == "dexasm: refused 8 Checksum at 8\n0\n3\n3\n" and "Traceback" not in seen[2],
         seen,
     )
 

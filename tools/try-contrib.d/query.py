@@ -153,7 +153,7 @@ def try_commands():
     )
     check(
         "dexasm-query, a closed pipe",
-        seen[1] == "{ 3\n3\n3\n" and seen[2].count("\n") == 3 and "Traceback" not in seen[2],
+        seen[1] == "{ 0\n3\n3\n" and seen[2].count("\n") == 2 and "Traceback" not in seen[2],
         seen,
     )
 

@@ -1,6 +1,4 @@
-"""The recipes of README and docs/RECIPES.md and the files of docs/ci, as they stand there, on files whose names are
-meant to do harm.
-"""
+"""The recipes of README and docs/RECIPES.md, as they stand there, on files whose names are meant to do harm."""
 import hashlib
 import os
 import re
@@ -12,7 +10,7 @@ import sys
 from apk import archive
 from close import resigned
 from logins import Logins, are_there
-from trying import ESC, HEAD, NAMES, TOP, Tries, assembled, check, dexasm, get, put, room, run, seen_in, shell
+from trying import ESC, HEAD, NAMES, TOP, Tries, assembled, check, dexasm, get, put, room, seen_in, shell
 
 TEXT = (
     HEAD
@@ -37,6 +35,7 @@ end class
 )
 # All of these at once, for where a recipe has one file.
 EVIL = f"sp ace'q\"$(touch PWNED)`touch PWNED`&a|;e touch PWNED #\nnew{ESC}[31m*"
+TURNED = "a\u202exed."  # what follows such a mark is shown from right to left
 LOGGED = re.compile(r"^\d+\t\S+\t[\d.]+\t.*dexasm check .*\.dex", re.M)  # a row of parallel's log
 # Git's cache of texts wants a name too.
 IDENTITY = {f"GIT_{who}_{what}": "a" for who in ("AUTHOR", "COMMITTER") for what in ("NAME", "EMAIL")}
@@ -198,7 +197,7 @@ def try_split():
 def many(at):
     """Files of evil names, every other one refused; answers how many are."""
     for number, name in enumerate(
-        ("ok", *NAMES, "{}", "{= touch PWNED =}", "t\ta\t0\t0", EVIL, f"\n1\t:\t1\t1\t0\t0\t0\t0\t{ESC}x")
+        ("ok", *NAMES, "{}", "{= touch PWNED =}", "t\ta\t0\t0", EVIL, f"\n1\t:\t1\t1\t0\t0\t0\t0\t{ESC}x", "b", TURNED)
     ):
         put(at, f"{name}.dex", assembled(TEXT)[: -1 if number % 2 else None])
     os.symlink("/dev/zero", os.path.join(at, "link.dex"))
@@ -289,74 +288,6 @@ def try_logins(home):
         print(f"tools/try-contrib: logins by sshd aren't tried here: {error}", file=sys.stderr)
 
 
-def try_hook():
-    """The hook looks at what is staged."""
-    for name in ("a", EVIL, "-x", "0:a", "/b", "./c", ":(top)d"):
-        at = room(f"hook {name!r}".replace("/", "_"))
-        shell(
-            "git init -q . && cp " + shlex.quote(os.path.join(TOP, "docs/ci/pre-commit")) + " .git/hooks/pre-commit", at
-        )
-        commit = ["git", "commit", "-qm", "a"]
-        path = name.lstrip("./") + ".dex" if name in ("./c", "/b") else f"{name}.dex"
-        put(at, path, assembled(TEXT))
-        seen = run(["git", "add", "-A"], at=at), run(commit, at=at, **IDENTITY)
-        check(f"hook, {path!r} is accepted", seen[1][0] == 0, seen)
-        put(at, path, b"no file")
-        run(["git", "add", "-A"], at=at)
-        put(at, path, assembled(TEXT))
-        seen = run(commit, at=at, **IDENTITY)
-        is_so = (
-            seen[0] == 1
-            and "refused" in seen[2]
-            and "TooShort" in seen[2]
-            and seen[2].count("\n") == 1
-            and seen[2][:-1].isprintable()
-        )
-        check(f"hook, {path!r} is refused as it is staged", is_so and "PWNED" not in os.listdir(at), seen)
-    seen = run(commit, at=at, **IDENTITY, PATH=os.path.dirname(shutil.which("git")))
-    check("hook, no dexasm", seen[0] == 1, seen)
-    put(at, "x.apk", archive(("classes.dex", b"no file")))
-    run(["git", "add", "-A"], at=at)
-    seen = run(commit, at=at, **IDENTITY)
-    check("hook, an archive", seen[0] == 1 and "x.apk: " in seen[2], seen)
-
-
-def try_workflow():
-    """The steps of the workflow, as bash runs them there, but the one that installs."""
-    text = get(TOP, "docs/ci/github-actions.yml").decode()
-    steps = [
-        re.sub(r"^ {10}", "", step, flags=re.M) for step in re.findall(r"^ {8}run: \|\n((?: {10}.*\n)+)", text, re.M)
-    ]
-    check(
-        "workflow, its steps",
-        len(steps) == 2 and "${{" not in steps[1] and all("${{" not in step for step in steps),
-        steps,
-    )
-    at = room("workflow")
-    refused = many(at)
-    put(at, "a.apk", archive(("classes.dex", assembled(TEXT))))
-    put(at, "b.apk", b"no archive")
-    step = put(room("workflow step"), "step", steps[1].encode())
-    run(["git", "init", "-q", "."], at=at)
-    run(["git", "add", "-A"], at=at)
-    status, out, said = run(["bash", "--noprofile", "--norc", "-eo", "pipefail", step], at=at)
-    lines = out.splitlines()
-    is_so = len(lines) == refused + 1 and all(line.startswith("refused: ") and line.isprintable() for line in lines)
-    check(
-        "workflow, what is refused",
-        status == 1 and said == "" and is_so and "PWNED" not in os.listdir(at),
-        (status, out, said),
-    )
-    good = room("workflow good")
-    put(good, "a.dex", assembled(TEXT))
-    run(["git", "init", "-q", "."], at=good)
-    run(["git", "add", "-A"], at=good)
-    check(
-        "workflow, all is accepted",
-        run(["bash", "--noprofile", "--norc", "-eo", "pipefail", step], at=good) == (0, "", ""),
-    )
-
-
 def try_page():
     """Each recipe is tried."""
     known = {
@@ -377,4 +308,4 @@ def try_page():
     check("RECIPES: as many recipes as are tried", found == known, found)
 
 
-TRIES = (try_page, try_blocks, try_signed, try_same, try_git, try_split, try_many, try_parallel, try_hook, try_workflow)
+TRIES = (try_page, try_blocks, try_signed, try_same, try_git, try_split, try_many, try_parallel)

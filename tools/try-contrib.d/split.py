@@ -225,7 +225,7 @@ def try_again():
     )
     check(
         "dexasm-split, nobody reads what is joined",
-        seen[1] in ("0\n3\n", "3\n3\n") and "Traceback" not in seen[2],
+        seen[1] == "0\n3\n" and "Traceback" not in seen[2],
         seen,
     )
     for name in ("-x", "a\nb", f"{ESC}[31m"):

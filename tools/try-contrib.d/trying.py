@@ -1,6 +1,7 @@
 """What the tries of the helpers share: rooms, runs, and what is counted."""
 import functools
 import os
+import re
 import resource
 import shutil
 import subprocess
@@ -186,11 +187,11 @@ def classes(*names):
 
 
 def is_one_line(said, begin):
-    """Whether a single line was told, which begins so and has nothing that a terminal obeys."""
+    """Whether a single line was told, which begins so, has nothing that a terminal obeys, and was thought of."""
     return (
         said.startswith(begin)
         and said.count("\n") == 1
         and said.endswith("\n")
-        and "Traceback" not in said
+        and not re.search("Traceback|: unexpected [A-Z]", said)
         and said[:-1].isprintable()
     )

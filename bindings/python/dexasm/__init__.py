@@ -22,6 +22,7 @@ import subprocess
 import sys
 from typing import Any
 
+from dexasm.answers import is_answer
 from dexasm.names import FieldRef, MethodRef, Proto, Type, spelled
 
 __all__ = ["Refused", "assemble", "check", "fault_name", "strip", "version"]
@@ -142,13 +143,15 @@ def _run(job: str, given: bytes, *words: str) -> bytes:
     command = [_command, job, *words]
     done = subprocess.run(command, input=given, stdout=subprocess.PIPE, stderr=subprocess.PIPE, env=env)
     line = done.stderr.decode("utf8", "replace").strip().rpartition("\n")[2]
-    refused = re.search(r"refused (\d+) (\w+) at (\d+)", line)
+    refused = re.search(r"refused (\d{1,5}) (\w+) at (\d{1,20})\b", line)
     if done.returncode == _REFUSED and refused:
         raise Refused(int(refused[1]), refused[2], int(refused[3]))
     if done.returncode == _MEMORY:
         raise MemoryError("dexasm: out of memory")
     if done.returncode:
-        raise OSError(f"{_command} ended with status {done.returncode}: {line}")
+        raise OSError(f"{_command} ended with status {done.returncode}: {ascii(line)[1:-1]}")
+    if not is_answer(job, done.stdout):
+        raise OSError(f"{_command}: what it answers is no answer to `{job}`")
     return done.stdout
 
 

@@ -22,7 +22,7 @@ class Version(argparse.Action):
     def __call__(self, parser: argparse.ArgumentParser, *_: object) -> None:
         try:
             number = dexasm.version()
-        except OSError as error:
+        except (OSError, dexasm.Refused) as error:
             raise SystemExit(ended(FAILED, str(error))) from None
         print_out(f"dexasm {number}\n".encode("ascii"))
         parser.exit()

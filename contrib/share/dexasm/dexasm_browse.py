@@ -154,10 +154,10 @@ class Browse:
         if len(graph.edges) > MOST_DRAWN:
             return TOO_LARGE
         try:
-            svg = for_page(drawn("\n".join(as_dot(graph, f"#{self.uses.place(number)[1]}."))))
+            picture = for_page(drawn("\n".join(as_dot(graph, f"#{self.uses.place(number)[1]}."))))
         except Failed as failed:
             return f'<p class="soft">No picture of its flow: {text(failed.line)}.</p>'
-        if len(svg) > MOST_OF_PICTURE:
+        if len(picture) > MOST_OF_PICTURE:
             return TOO_LARGE
         count = counted(len(graph.nodes), "block")
         said = f"The flow of {self.classes.titled(number, plain)}: {count}"
@@ -165,7 +165,7 @@ class Browse:
             f"<details open><summary>Its flow, {count}: a thin line leads to the next block, a thick one where a branch"
             " goes, one with numbers where a switch does, a dashed one to a handler</summary>"
             f'<div class="flow" tabindex="0" role="region" aria-label="{said}">'
-            f"{svg}</div></details>"
+            f"{picture}</div></details>"
         )
 
     def put_strings(

@@ -3,13 +3,17 @@
 A helper is given files and names by strangers. So no name becomes a part of a program's text or of a path that leads
 elsewhere, and what is printed of a name or of a line goes through `escaped`."""
 import argparse
+import ast
+import functools
 import importlib.util
 import json
 import os
 import re
+import select
 import shutil
 import subprocess
 import sys
+from types import ModuleType
 
 TOP = os.path.dirname(os.path.dirname(os.path.dirname(os.path.realpath(__file__))))
 REFUSAL = re.compile(r".*\brefused (\d{1,5}) (\w+) at (\d{1,20})(?:: .*)?$")
@@ -57,10 +61,10 @@ def shown(char):
 
 
 class Words(argparse.ArgumentParser):
-    """A helper's words, by its docstring: --help prints it, and its usage is told where the words are wrong."""
+    """A helper's words, by its manual: --help prints it, and its usage is told where the words are wrong."""
 
-    def __init__(self, doc):
-        self.doc = doc.strip() + "\n"
+    def __init__(self):
+        self.doc = manual().strip() + "\n"
         self.uses = "\n".join(re.search(r"^usage: .*(?:\n +.*)*", self.doc, re.M)[0].splitlines())
         super().__init__(prog=os.path.basename(sys.argv[0]), allow_abbrev=False, usage="%(prog)s")
 
@@ -69,6 +73,13 @@ class Words(argparse.ArgumentParser):
 
     def error(self, message):
         raise Usage(f"{self.uses}\n{self.prog}: {escaped(message)}", USAGE)
+
+
+@functools.cache
+def manual() -> str:
+    """The docstring of the helper that runs; out of its file where Python was told to keep none (-OO)."""
+    program = sys.modules["__main__"]
+    return program.__doc__ or ast.get_docstring(ast.parse(get(program.__file__)), clean=False)
 
 
 def reason(error):
@@ -132,7 +143,7 @@ class Ended:
         self.told = done.stderr.decode("utf8", "replace").splitlines()
         if self.status < 0:
             self.fail(f"killed by signal {-self.status}")
-        elif self.status == 0 and not is_answer(job, self.answer):
+        elif self.status == 0 and not part("answers").is_answer(job, self.answer):
             self.fail(f"what it answers is no answer to `{job}`")
         elif self.status not in (0, FAILED, MEMORY) and not self.refusal():
             self.fail(None if self.told else f"status {self.status}")
@@ -147,17 +158,8 @@ class Ended:
 
     def refusal(self):
         """Number, name and place of a refusal, or None."""
-        found = REFUSAL.search(self.told[-1]) if self.status == REFUSED and self.told else None
+        found = REFUSAL.match(self.told[-1]) if self.status == REFUSED and self.told else None
         return found and (int(found[1]), found[2], int(found[3]))
-
-
-def is_answer(job, given):
-    """Whether the bytes are what dexasm answers to a job, and whole as far as that can be seen."""
-    if job == "check":
-        return given == b"ok\n"
-    if job == "list":
-        return given.startswith(b"dex 035") and given.endswith(b"\n")
-    return given.startswith(DEX) and int.from_bytes(given[32:36], "little") == len(given)
 
 
 def dexasm(*words, given=b""):
@@ -221,12 +223,15 @@ def module_folder():
     raise Failed("the module dexasm for Python isn't there")
 
 
+def part(name: str) -> ModuleType:
+    """A part of that module that stands alone: it needs no library, and no command."""
+    own = f"dexasm_{name}"
+    return sys.modules.get(own) or load_file(own, os.path.join(module_folder(), f"{name}.py"))
+
+
 def delivery():
-    """The part of that module that brings an answer to a file. It stands alone: it needs no library, and no command."""
-    name = "dexasm_deliver"
-    if name not in sys.modules:
-        load_file(name, os.path.join(module_folder(), "deliver.py"))
-    return sys.modules[name]
+    """The part that brings an answer to a file."""
+    return part("deliver")
 
 
 def load(folder):
@@ -249,7 +254,10 @@ def load_file(name, place, inner=None):
 def program_of(path):
     """The program of a file or of a listing, as an object of the module for Python."""
     listing = listing_of(path)
-    return module().Program.of_listing(listing)
+    try:
+        return module().Program.of_listing(listing)
+    except ValueError:
+        raise Failed(f"{name_of(path)}: dexasm: what it answers is no listing") from None
 
 
 def say(line):
@@ -261,18 +269,18 @@ def say(line):
             pass
 
 
-def run(doc, main, trouble=None):
+def run(main, trouble=None, unread=0):
     """Runs a helper, whose `main` takes a parser of its words and answers the status, and ends with a status whatever
     happens, and with one line on standard error where something went wrong. `trouble` is the status of that, where it
-    isn't told apart.
+    isn't told apart; `unread` is that of a run whose output nobody read to the end. (For a developer of a helper,
+    `python3 -X dev` shows where a failure was that nobody thought of.)
     """
-    words = Words(doc)
+    words = Words()
     try:
         if sys.stdout is None:
             raise Failed("cannot write: standard output is closed")
         sys.stdout.reconfigure(errors="backslashreplace")
-        status = main(words)
-        sys.stdout.flush()
+        status = finished(main, words, unread)
     except Failed as failed:
         say(failed.line if isinstance(failed, Usage) else f"{words.prog}: {failed.line}")
         status = trouble or failed.status
@@ -284,15 +292,42 @@ def run(doc, main, trouble=None):
         status = trouble or MEMORY
     except KeyboardInterrupt:
         status = 130
+    except Exception as error:
+        if sys.flags.dev_mode:
+            raise
+        say(f"{words.prog}: unexpected {type(error).__name__}: {escaped(str(error))}")
+        status = trouble or FAILED
     silence()
     sys.exit(status)
 
 
+def finished(main, words, unread):
+    """The status of a helper, when all that it printed is written, or nobody reads it any more."""
+    status = unread
+    try:
+        try:
+            status = main(words)
+        except SystemExit:  # (of --help)
+            status = 0
+        sys.stdout.flush()
+    except BrokenPipeError:
+        if not is_unread():
+            raise
+    return status
+
+
+def is_unread() -> bool:
+    """Whether standard output is a pipe, or a socket, that its reader closed."""
+    poll = select.poll()
+    poll.register(sys.stdout.fileno(), 0)
+    return any(event & (select.POLLERR | select.POLLHUP) for _, event in poll.poll(0))
+
+
 def silence():
     """What couldn't be written is let go, so that nothing is told of it once more when Python ends."""
-    if sys.stdout is None:
-        return
-    try:
-        sys.stdout.flush()
-    except OSError:
-        os.dup2(os.open(os.devnull, os.O_WRONLY), sys.stdout.fileno())
+    for stream in (sys.stdout, sys.stderr):
+        try:
+            if stream is not None:
+                stream.flush()
+        except OSError:
+            os.dup2(os.open(os.devnull, os.O_WRONLY), stream.fileno())

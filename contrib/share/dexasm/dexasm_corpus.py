@@ -6,6 +6,7 @@ same content in whatever order they come.
 from __future__ import annotations
 
 import contextlib
+import functools
 import hashlib
 import marshal
 import os
@@ -13,6 +14,7 @@ import sqlite3
 import time
 from collections.abc import Callable, Iterator
 from typing import TypeVar
+from urllib.parse import quote
 
 from dexasm_contrib import Failed, escaped
 
@@ -51,6 +53,9 @@ create index member_by_name on member(name);
 create index call_by_callee on call(callee);
 create index use_by_string on use(string);
 """
+# What SQLite raises where a database is damaged; its message may be no text.
+WRONG = (sqlite3.Error, UnicodeDecodeError)
+TABLES = "select type, name, tbl_name, sql from {}.sqlite_master"
 # What each table says without row numbers.
 CONTENT = {
     "name": "select text from name",
@@ -72,6 +77,11 @@ CONTENT = {
 }
 # Of a file that ended twice in different ways the first of these stays: what the file is, then what limits did.
 RANKS = ("ok", "refused", "memory", "time", "killed")
+# A row of `file` of which this writes none.
+STRANGE = (
+    "select 1 from file where typeof(sha256) <> 'blob' or length(sha256) <> 32 or typeof(size) <> 'integer'"
+    f" or status not in {RANKS} limit 1"
+)
 # Of two reasons why a path isn't read the lesser stays.
 FIRST_REASON = (
     "on conflict do update set status = excluded.status, reason = excluded.reason"
@@ -112,27 +122,79 @@ def kept(path: bytes) -> str | bytes:
         return path
 
 
-def place(path: str) -> bytes:
+def place(path: str, mode: str) -> str:
     """A path as SQLite takes it for that very file, also where it is called `:memory:` or `file:..`."""
-    return os.path.join(os.getcwdb(), os.fsencode(path))
+    return f"file:{quote(os.path.join(os.getcwdb(), os.fsencode(path)))}?mode={mode}"
 
 
 def connected(path: str, is_made: bool = False) -> sqlite3.Connection:
-    """The database, which is made where it isn't there and may be."""
+    """The database: to be read, or to be written and made where it isn't there."""
     name = escaped(path)
     if not is_made and not os.path.isfile(path):
         raise Failed(f"{name}: no such database")
     try:
-        db = sqlite3.connect(place(path), timeout=BUSY, isolation_level=None, check_same_thread=False)
+        way = place(path, "rwc" if is_made else "ro")
+        db = sqlite3.connect(way, timeout=BUSY, isolation_level=None, check_same_thread=False, uri=True)
+        # (what SQLite's own page on databases of strangers asks for: www.sqlite.org/security.html)
         db.execute("pragma trusted_schema = off")
-        found = patient(lambda: opened(db, is_made))
-    except sqlite3.Error as error:
-        raise Failed(f"{name}: {escaped(str(error))}") from None
-    if found[0] != APPLICATION:
-        raise Failed(f"{name}: no database of dexasm-corpus")
-    if found[1] != VERSION:
-        raise Failed(f"{name}: its version is {found[1]}, and this dexasm-corpus has {VERSION}")
+        db.execute("pragma cell_size_check = on")
+        if is_made:
+            patient(lambda: made(db))
+        patient(lambda: look(db, "main", name))
+    except WRONG as error:
+        raise Failed(f"{name}: {why(error)}") from None
     return db
+
+
+@contextlib.contextmanager
+def attached(db: sqlite3.Connection, path: str, name: str) -> Iterator[None]:
+    """Another database, to be read beside this one by that name."""
+    db.execute(f"attach ? as {name}", (place(path, "ro"),))
+    try:
+        look(db, name, escaped(path))
+        yield
+    finally:
+        with contextlib.suppress(sqlite3.Error):
+            db.execute(f"detach {name}")
+
+
+def look(db: sqlite3.Connection, which: str, name: str) -> None:
+    """Looks whether it is a database of this version that has nothing else: what triggers and views do, its maker says.
+    """
+    application, version = whose(db, which)
+    if application != APPLICATION:
+        raise Failed(f"{name}: no database of dexasm-corpus")
+    if version != VERSION:
+        raise Failed(f"{name}: its version is {version}, and this dexasm-corpus has {VERSION}")
+    if {*db.execute(TABLES.format(which))} != tables():
+        raise Failed(f"{name}: its tables, indexes, views and triggers aren't those of dexasm-corpus")
+
+
+def refuse_strange(db: sqlite3.Connection, name: str) -> None:
+    if db.execute(STRANGE).fetchone():
+        raise Failed(f"{name}: its table file has rows that dexasm-corpus doesn't write")
+
+
+@functools.cache
+def tables() -> set[tuple[str | None, ...]]:
+    """What a database has that this makes."""
+    with contextlib.closing(sqlite3.connect(":memory:")) as db:
+        db.executescript(SCHEMA)
+        return {*db.execute(TABLES.format("main"))}
+
+
+def why(error: Exception) -> str:
+    """An error of SQLite in its own words, where these are words."""
+    return "it is damaged" if isinstance(error, UnicodeDecodeError) else escaped(str(error))
+
+
+def is_damaged(path: str) -> bool:
+    """Whether SQLite finds anything wrong with a database."""
+    try:
+        with contextlib.closing(connected(path)) as db:
+            return db.execute("pragma quick_check(1)").fetchone() != ("ok",)
+    except (*WRONG, Failed):
+        return True
 
 
 def patient(call: Callable[[], Answer]) -> Answer:
@@ -148,16 +210,10 @@ def patient(call: Callable[[], Answer]) -> Answer:
             time.sleep(0.02)
 
 
-def opened(db: sqlite3.Connection, is_made: bool) -> tuple[int, int]:
-    """Whose database it is, made where it is empty and may be."""
-    if is_made and whose(db) == (0, 0) and is_empty(db):
-        made(db)
-    return whose(db)
-
-
-def whose(db: sqlite3.Connection) -> tuple[int, int]:
+def whose(db: sqlite3.Connection, which: str = "main") -> tuple[int, int]:
     """Whose database it is, and the version of its tables."""
-    return db.execute("pragma application_id").fetchone()[0], db.execute("pragma user_version").fetchone()[0]
+    words = f"pragma {which}.application_id", f"pragma {which}.user_version"
+    return db.execute(words[0]).fetchone()[0], db.execute(words[1]).fetchone()[0]
 
 
 def is_empty(db: sqlite3.Connection) -> bool:
@@ -165,7 +221,9 @@ def is_empty(db: sqlite3.Connection) -> bool:
 
 
 def made(db: sqlite3.Connection) -> None:
-    """Makes the tables, where no other command did meanwhile; otherwise nothing."""
+    """Makes the tables in what is empty, where no other command did meanwhile; otherwise nothing."""
+    if whose(db) != (0, 0) or not is_empty(db):
+        return
     db.execute("pragma journal_mode = wal")
     with written(db):
         if is_empty(db):
@@ -199,6 +257,7 @@ class Corpus:
 
     def known(self, key: int, is_again: bool) -> bytes:
         """The first bytes of each SHA-256 of a file that isn't looked at again, sorted."""
+        refuse_strange(self.db, escaped(self.path))
         where = " where status in ('ok', 'refused')" if is_again else ""
         return b"".join(sha[:key] for sha, in self.db.execute(f"select sha256 from file{where} order by sha256"))
 
@@ -288,17 +347,15 @@ class Corpus:
 
     def merge(self, path: str) -> None:
         """Takes another database in, in one transaction; itself it has."""
-        connected(path).close()
         if os.path.samefile(path, self.path):
             return
-        self.db.execute("attach ? as other", (place(path),))
         try:
-            with written(self.db):
+            with attached(self.db, path, "other"), written(self.db):
                 for statement in (MERGE + DONE).split(";")[:-1]:
                     self.db.execute(statement)
                 self.merge_files()
-        finally:
-            self.db.execute("detach other")
+        except WRONG as error:
+            raise Failed(f"{escaped(path if is_damaged(path) else self.path)}: {why(error)}") from None
 
     def merge_files(self) -> None:
         """Files, of which one may have ended otherwise there, and paths: what is unread here may be read there."""

@@ -166,6 +166,7 @@ class Here:
     def close(self) -> None:
         dexasm_look.end_all()
         self.pool.shutdown(wait=True, cancel_futures=True)
+        dexasm_look.close_all()
 
 
 class Dask:
@@ -192,7 +193,7 @@ class Dask:
         """What a scheduler answers that doesn't do what is asked is told in a line."""
         try:
             yield
-        except (OSError, ValueError, TimeoutError, RuntimeError) as error:
+        except (OSError, ValueError, TimeoutError, RuntimeError, TypeError) as error:
             raise Failed(f"{escaped(self.scheduler)}: {escaped(str(error)) or type(error).__name__}") from None
 
     def equip(self, patience: int) -> None:

@@ -6,7 +6,8 @@ import sys
 from collections.abc import Iterable
 from typing import Any
 
-from dexasm_corpus import connected, place
+from dexasm_contrib import Failed, escaped
+from dexasm_corpus import WRONG, attached, connected, is_damaged, why
 from dexasm_look import add_places
 
 Answer = tuple[list[str], Iterable[tuple[Any, ...]]]
@@ -122,13 +123,15 @@ def strings(db: sqlite3.Connection, asked: Any) -> Answer:
 
 def libraries(db: sqlite3.Connection, asked: Any) -> Answer:
     connected(asked.known).close()
-    db.execute("attach ? as known", (place(asked.known),))
-    for statement in KNOWN.split(";")[:-1]:
-        db.execute(statement)
+    try:
+        with attached(db, asked.known, "known"):
+            for statement in KNOWN.split(";")[:-1]:
+                db.execute(statement)
+            rows = db.execute(BY_CLASS if asked.classes else LIBRARIES).fetchall()
+    except WRONG as error:
+        raise Failed(f"{escaped(asked.known if is_damaged(asked.known) else asked.database)}: {why(error)}") from None
     heads = ["path", "entry", "library", "library_entry"]
-    if asked.classes:
-        return [*heads, "class", "state"], db.execute(BY_CLASS)
-    return [*heads, "same", "changed", "missing", "percent"], db.execute(LIBRARIES)
+    return [*heads, *(("class", "state") if asked.classes else ("same", "changed", "missing", "percent"))], rows
 
 
 QUERIES = {

@@ -17,6 +17,7 @@ MOST_DRAWN = 2000  # edges of a picture on a page
 MOST_LINES, LONGEST = 40, 100  # lines of a block in a picture, and characters of a line
 MOST_KEYS = 8  # keys of a switch at an edge
 SECONDS = 60  # for a picture
+NO_PICTURE = "what graphviz answers is no picture"
 ENDS = ("return", "throw", "goto")
 COLORS = {"next": "#57606a", "taken": "#1a7f37", "switch": "#7a3e9d", "handler": "#9a3412", "call": "#57606a"}
 LOOKS = {"taken": " penwidth=2.5", "handler": " style=dashed"}  # (each kind is told without its colour too)
@@ -221,14 +222,23 @@ def drawn(dot: str) -> str:
         raise Failed(f"graphviz drew for more than {SECONDS} seconds: the graph is too large for a picture") from None
     if done.returncode:
         raise Failed(f"graphviz ended with status {done.returncode}")
-    return done.stdout.decode("utf8")
+    try:
+        picture = done.stdout.decode("utf8")
+        if xml.fromstring(picture).tag == f"{SVG}svg":
+            return picture
+    except (ValueError, xml.ParseError):
+        pass
+    raise Failed(NO_PICTURE)
 
 
 def for_page(svg: str) -> str:
     """A picture as a part of a page: only what a picture needs, without names, colours and scripts."""
     top = xml.fromstring(svg)
-    keep(top)
-    return xml.tostring(top, encoding="unicode")
+    try:
+        keep(top)
+        return xml.tostring(top, encoding="unicode")
+    except RecursionError:
+        raise Failed(NO_PICTURE) from None
 
 
 def keep(element) -> None:

@@ -5,6 +5,7 @@ marshal. What it says of a file before it looks at it tells which file it was th
 """
 from __future__ import annotations
 
+import contextlib
 import hashlib
 import io
 import marshal
@@ -20,6 +21,8 @@ import weakref
 from collections import Counter
 from collections.abc import Callable, Generator, Iterator
 
+if __name__ == "__main__":  # (Python may have been told not to look for modules there)
+    sys.path.insert(0, os.path.dirname(os.path.realpath(__file__)))
 from dexasm_archive import dex_files, opened, taken_out
 from dexasm_contrib import DEX, MEMORY, TOP, ZIP, Failed, escaped, reason
 
@@ -266,16 +269,9 @@ class Looker:
         worker, self.worker = self.worker, None
         if worker is None:
             return 0
-        for pipe in (worker.stdin, worker.stdout):
-            try:
-                pipe.close()
-            except OSError:
-                pass
-        try:
-            os.killpg(worker.pid, signal.SIGKILL)
-        except ProcessLookupError:
-            pass
-        return worker.wait()
+        end(worker)
+        close(worker)
+        return worker.returncode
 
     def said(self) -> tuple[object, ...] | None:
         """What the worker says next, or None where it has ended."""
@@ -363,17 +359,34 @@ def look_batch(
     return found
 
 
+def end(worker: subprocess.Popen[bytes]) -> None:
+    """Ends a worker, and what it started even where it has ended itself."""
+    with contextlib.suppress(ProcessLookupError):
+        os.killpg(worker.pid, signal.SIGKILL)
+    worker.wait()
+
+
 def end_all() -> None:
     """Ends the workers of this process, whatever they do; those who have them begin no other ones."""
     ending.set()
     for looker in [*everybody]:
         worker = looker.worker
         if worker is not None and worker.poll() is None:
-            try:
-                os.killpg(worker.pid, signal.SIGKILL)
-            except ProcessLookupError:
-                pass
-            worker.wait()
+            end(worker)
+
+
+def close(worker: subprocess.Popen[bytes]) -> None:
+    """Closes the pipes to a worker."""
+    for pipe in (worker.stdin, worker.stdout):
+        with contextlib.suppress(OSError):
+            pipe.close()
+
+
+def close_all() -> None:
+    """Closes the pipes to all of them, when they have ended and nobody reads these any more."""
+    for looker in [*everybody]:
+        if looker.worker is not None:
+            close(looker.worker)
 
 
 if __name__ == "__main__":
