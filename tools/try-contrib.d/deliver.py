@@ -10,8 +10,6 @@ import importlib.util
 import os
 import pathlib
 import resource
-import select
-import shutil
 import signal
 import socket
 import stat
