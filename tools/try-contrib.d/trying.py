@@ -4,6 +4,7 @@ import os
 import re
 import resource
 import shutil
+import signal
 import subprocess
 import sys
 import tempfile
@@ -77,6 +78,8 @@ def check(what, is_so, seen=""):
 
 def begin(program, library=""):
     """Of this program, in a folder of its own; each helper runs by this very Python."""
+    # (a gate in the background ignores SIGINT, and what it starts would too)
+    signal.signal(signal.SIGINT, signal.default_int_handler)
     Tries.program, Tries.library = os.path.abspath(program), library and os.path.abspath(library)
     Tries.folder = tempfile.mkdtemp(prefix="try contrib ")
     os.mkdir(path("bin"))
