@@ -23,11 +23,14 @@ from trying import (
     TOP,
     Tries,
     assembled,
+    calls_of,
     can_trace,
     check,
     dexasm,
     get,
+    in_turn,
     is_one_line,
+    path,
     put,
     room,
     run,
@@ -582,21 +585,29 @@ def try_looks():
     check("dexasm-browse, nothing is beside", not left, left)
 
 
-# Calls that put a folder in its place, with which of each; some where a system can't exchange two names in one step.
-PLACES = (
-    ("renameat2", (), (1,)),
-    ("mkdir,mkdirat", (), (1, 2)),
-    ("rename", (), (1, 5)),
-    ("write", (), (2,)),
-    ("fchmod", (), (8,)),
-    ("unlinkat,rmdir", (), (1, 9)),
-    ("rename", ("renameat2:error=EINVAL",), (8, 9)),
-    ("renameat2", ("renameat2:error=ENOSYS:when=1",), (2,)),
+# Where a system can't exchange two names in one step: the call that fails then, and others with which of each.
+WITHOUT_STEP = (
+    ("rename", 8, "renameat2:error=EINVAL"),
+    ("rename", 9, "renameat2:error=EINVAL"),
+    ("renameat2", 2, "renameat2:error=ENOSYS:when=1"),
 )
+ENDS = ("signal=SIGKILL", "signal=SIGTERM", "error=EIO")
+
+
+def ended_at(call, number, before, how):
+    """A run that is ended at this call, or in which it fails: what it said, what is in FOLDER, and what is beside."""
+    at = room(f"browse ended {call} {number} {before[:16]} {how}")
+    for name in ("a.dex", "b.dex"):
+        os.symlink(path(f"browse ended/{name}"), os.path.join(at, name))
+    shutil.copytree(path("browse ended/old"), os.path.join(at, "out"))
+    inject = [*filter(None, [before]), f"{call}:{how}:when={number}"]
+    seen = traced("dexasm-browse", "b.dex", "--output", "out", at=at, inject=inject)
+    out = os.path.join(at, "out")
+    return seen, seen_in(out) if os.path.isdir(out) else None, sorted(set(os.listdir(at)) - {"a.dex", "b.dex", "out"})
 
 
 def try_ended():
-    """Ended at a call, or with one that fails, also where a system can't exchange two names: FOLDER is old or new."""
+    """Ended at each call, or with each one failed, also where a system can't exchange two names: FOLDER is old or new."""
     if not can_trace():
         return
     at = room("browse ended")
@@ -604,24 +615,20 @@ def try_ended():
     put(at, "b.dex", assembled(HEAD))
     tool("dexasm-browse", "a.dex", "--output", "old", at=at)
     tool("dexasm-browse", "b.dex", "--output", "new", at=at)
-    old, new = (seen_in(os.path.join(at, name)) for name in ("old", "new"))
-    for call, before, numbers in PLACES:
-        ends = ("signal=SIGKILL", "signal=SIGTERM", "error=EIO")
-        for how in (*ends, "signal=SIGINT", "signal=SIGHUP") if call == "renameat2" and not before else ends:
-            for number in numbers:
-                shutil.copytree(os.path.join(at, "old"), os.path.join(at, "out"))
-                inject = [*before, f"{call}:{how}:when={number}"]
-                seen = traced("dexasm-browse", "b.dex", "--output", "out", at=at, inject=inject)
-                what = f"{' '.join(before)} {how} at {call} {number}"
-                is_killed = "KILL" in how
-                is_so = os.path.isdir(os.path.join(at, "out")) and seen_in(os.path.join(at, "out")) in (old, new)
-                # (where there is no step for it, a run that is killed between the two leaves the old pages beside)
-                is_so = is_so or is_killed and before and any(name.endswith(".old") for name in os.listdir(at))
-                check(f"dexasm-browse, {what}", is_so and "Traceback" not in seen[2], (seen, os.listdir(at)))
-                left = [name for name in os.listdir(at) if name.startswith(".")]
-                check(f"dexasm-browse, {what}: beside", not left or is_killed or "unlink" in call, left)
-                for name in [*left, "out"]:
-                    shutil.rmtree(os.path.join(at, name), ignore_errors=True)
+    wanted = [seen_in(os.path.join(at, name)) for name in ("old", "new")]
+    shutil.copytree(os.path.join(at, "old"), os.path.join(at, "out"))
+    calls = calls_of("dexasm-browse", "b.dex", "--output", "out", begins=f'{at}/out"', at=at)
+    check("dexasm-browse, calls are failed", len(calls) > 40, calls)
+    cases = [(call, number, "", how) for call, number in calls for how in ENDS]
+    cases += [("renameat2", 1, "", f"signal={name}") for name in ("SIGINT", "SIGHUP")]
+    cases += [(*one, how) for one in WITHOUT_STEP for how in ENDS]
+    for (call, number, before, how), (seen, out, beside) in in_turn(ended_at, cases):
+        what, is_killed = f"{before} {how} at {call} {number}", "KILL" in how
+        # (where there is no step for it, a run that is killed between the two leaves the old pages beside)
+        is_so = out in wanted or is_killed and before and any(name.endswith(".old") for name in beside)
+        check(f"dexasm-browse, {what}", is_so and "Traceback" not in seen[2], (seen, beside))
+        is_left = beside and not is_killed and not call.startswith(("unlink", "rmdir"))
+        check(f"dexasm-browse, {what}: beside", not is_left, beside)
 
 
 def try_progress():

@@ -10,11 +10,13 @@ from trying import (
     LISTING,
     Tries,
     assembled,
+    calls_of,
     can_trace,
     check,
     classes,
     dexasm,
     get,
+    in_turn,
     is_one_line,
     put,
     room,
@@ -334,32 +336,40 @@ def clean(at, names=("A.txt", "b", "b/B.txt", "head", "order", "tail")):
     return sorted(seen_in(os.path.join(at, "classes"))) == sorted(names)
 
 
+NEW = HEAD + b"# new\n" + classes("LA;", "LC;", "Lb/D;")[len(HEAD) :].replace(b"0x1", b"0x11") + b"# the end\n"
+NEW_NAMES = ("A.txt", "C.txt", "b", "b/D.txt", "head", "order", "tail")
+
+
+def ended_at(call, number, how):
+    """A run that is ended at this call, or in which it fails: what it said, what is joined then, whether nothing is left
+    but one of the two listings; and the same of the next run, which is left alone.
+    """
+    at = good(f"ended {call} {number} {how}")
+    seen = traced("dexasm-split", "classes", given=NEW, at=at, inject=[f"{call}:{how}:when={number}"])
+    joined, is_clean = tool("dexasm-split", "--join", "classes", at=at), clean(at) or clean(at, NEW_NAMES)
+    again = tool("dexasm-split", "classes", given=NEW, at=at), tool("dexasm-split", "--join", "classes", at=at)
+    return seen, joined, is_clean, (*again, clean(at, NEW_NAMES))
+
+
 def try_ended():
-    """Ended at a call, or with one that fails: what is joined is the old listing or the new one, or nothing is."""
+    """Ended at each call, or with each one failed: what is joined is the old listing or the new one, or nothing is."""
     if not can_trace():
         return
-    new = HEAD + b"# new\n" + classes("LA;", "LC;", "Lb/D;")[len(HEAD) :].replace(b"0x1", b"0x11") + b"# the end\n"
-    names = ("A.txt", "C.txt", "b", "b/D.txt", "head", "order", "tail")
-    for call, most in (("rename,renameat,renameat2", 7), ("unlink,unlinkat,rmdir", 5), ("mkdir,mkdirat", 1)):
-        for how in ("signal=SIGKILL", "signal=SIGTERM", "signal=SIGINT", "signal=SIGHUP", "error=EIO"):
-            # (what holds back one signal to end holds back the others)
-            for number in range(1, most + 1) if how[-3:] not in ("INT", "HUP") else [3] * (most == 7):
-                at = good(f"ended {call[:6]} {how} {number}")
-                seen = traced("dexasm-split", "classes", given=new, at=at, inject=[f"{call}:{how}:when={number}"])
-                status, joined, told = tool("dexasm-split", "--join", "classes", at=at)
-                is_whole = status == 0 and joined.encode() in (GOOD, new) and told == ""
-                is_refused = status == 3 and joined == "" and is_one_line(told, "dexasm-split: classes: it isn't whole")
-                what = f"{how} at {call.split(',')[0]} {number}"
-                check(f"dexasm-split, {what}, joined", is_whole or is_refused, (seen, status, joined, told))
-                if "KILL" not in how and "error" not in how:
-                    is_so = is_whole and (clean(at) or clean(at, names))
-                    check(f"dexasm-split, {what}, nothing is left", is_so, (seen, seen_in(at)))
-                is_so = status or seen[0] or joined.encode() == new
-                check(f"dexasm-split, {what}, status 0 is new", is_so, (seen, joined))
-                again = tool("dexasm-split", "classes", given=new, at=at)
-                joined = tool("dexasm-split", "--join", "classes", at=at)
-                is_so = again == (0, "", "") and joined == (0, new.decode(), "") and clean(at, names)
-                check(f"dexasm-split, {what}, and again", is_so, (again, joined, seen_in(at)))
+    calls = calls_of("dexasm-split", "classes", given=NEW, begins='"classes"', at=good("ended"))
+    check("dexasm-split, calls are failed", len(calls) > 30, calls)
+    cases = [(*one, how) for one in calls for how in ("signal=SIGKILL", "signal=SIGTERM", "error=EIO")]
+    # (what holds back one signal to end holds back the others)
+    cases += [(*one, f"signal={name}") for one in calls if one[0] == "renameat" for name in ("SIGINT", "SIGHUP")]
+    for (call, number, how), (seen, (status, joined, told), is_clean, again) in in_turn(ended_at, cases):
+        what = f"{how} at {call} {number}"
+        is_whole = status == 0 and joined.encode() in (GOOD, NEW) and told == ""
+        is_refused = status == 3 and joined == "" and is_one_line(told, "dexasm-split: classes: it isn't whole")
+        check(f"dexasm-split, {what}, joined", is_whole or is_refused, (seen, status, joined, told))
+        if "KILL" not in how and "error" not in how:
+            check(f"dexasm-split, {what}, nothing is left", is_whole and is_clean, seen)
+        check(f"dexasm-split, {what}, status 0 is new", status or seen[0] or joined.encode() == NEW, (seen, joined))
+        is_so = again == ((0, "", ""), (0, NEW.decode(), ""), True)
+        check(f"dexasm-split, {what}, and again", is_so, again)
 
 
 TRIES = (

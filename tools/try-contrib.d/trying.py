@@ -1,4 +1,6 @@
 """What the tries of the helpers share: rooms, runs, and what is counted."""
+import collections
+import concurrent.futures
 import functools
 import os
 import re
@@ -161,6 +163,39 @@ def traced(name, *words, inject, **options):
     """A helper with a call of the system failed, or a signal sent at it, as strace takes it: `rename:error=EIO`."""
     faults = [word for one in inject for word in ("-e", f"inject={one}")]
     return run(["strace", "-qq", "-f", "-o", "/dev/null", *faults, os.path.join(TOOLS, name), *words], **options)
+
+
+# Calls that make, change, name or remove a file.
+CALLS = (
+    "open,openat,mkdir,mkdirat,rename,renameat,renameat2,write,fsync,fchmod,fchown,chown,ftruncate,fsetxattr,unlink,"
+    "unlinkat,rmdir"
+)
+
+
+def calls_of(name, *words, begins, **options):
+    """Such calls of a helper's own process, from the line of strace on that first has this text: each with which of its
+    name it is. (Of what is opened, what may be made and folders.)
+    """
+    with tempfile.NamedTemporaryFile() as log:
+        traces = ["strace", "-qq", "-f", "-o", log.name, "-e", f"trace={CALLS}"]
+        run([*traces, os.path.join(TOOLS, name), *words], **options)
+        lines = log.read().decode("utf8", "replace").splitlines()
+    own, counts, found, is_begun = lines[0].split()[0], collections.Counter(), [], False
+    for line in lines:
+        called = re.match(rf"{own} +([a-z0-9]+)\(", line)
+        if called is None:
+            continue
+        counts[called[1]] += 1
+        is_begun = is_begun or begins in line
+        if is_begun and (not called[1].startswith("open") or "O_CREAT" in line or "O_DIRECTORY" in line):
+            found.append((called[1], counts[called[1]]))
+    return found
+
+
+def in_turn(do, cases):
+    """What each case gives, several at a time, in their order."""
+    with concurrent.futures.ThreadPoolExecutor(os.cpu_count() or 1) as pool:
+        return list(zip(cases, pool.map(lambda case: do(*case), cases)))
 
 
 @functools.cache
