@@ -591,7 +591,7 @@ WITHOUT_STEP = (
     ("rename", 9, "renameat2:error=EINVAL"),
     ("renameat2", 2, "renameat2:error=ENOSYS:when=1"),
 )
-ENDS = ("signal=SIGKILL", "signal=SIGTERM", "error=EIO")
+ENDED_BY = ("signal=SIGKILL", "signal=SIGTERM", "error=EIO")
 
 
 def ended_at(call, number, before, how):
@@ -619,9 +619,9 @@ def try_ended():
     shutil.copytree(os.path.join(at, "old"), os.path.join(at, "out"))
     calls = calls_of("dexasm-browse", "b.dex", "--output", "out", begins=f'{at}/out"', at=at)
     check("dexasm-browse, calls are failed", len(calls) > 40, calls)
-    cases = [(call, number, "", how) for call, number in calls for how in ENDS]
+    cases = [(call, number, "", how) for call, number in calls for how in ENDED_BY]
     cases += [("renameat2", 1, "", f"signal={name}") for name in ("SIGINT", "SIGHUP")]
-    cases += [(*one, how) for one in WITHOUT_STEP for how in ENDS]
+    cases += [(*one, how) for one in WITHOUT_STEP for how in ENDED_BY]
     for (call, number, before, how), (seen, out, beside) in in_turn(ended_at, cases):
         what, is_killed = f"{before} {how} at {call} {number}", "KILL" in how
         # (where there is no step for it, a run that is killed between the two leaves the old pages beside)
