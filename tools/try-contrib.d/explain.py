@@ -177,6 +177,31 @@ def try_classes():
     )
 
 
+def try_words():
+    """The line, the word and why: of lines and of classes, of a file that is listed, and of a text that isn't it."""
+    at, line = room("explain words"), b"direct m ()V 0x9\ncode 2 0 0\n%b\nend code\nend class\n"
+    for what, text, number, says_line, hint in (
+        ("a register", b"move v16 v0", 102, "6: move v16 v0", "v16: v0 to v15 here; move/from16 or move/16 takes"),
+        ("a literal", b"const/4 v0 9", 102, "6: const/4 v0 9", "9: a number from -8 to 7 stands here; const/16 or"),
+        ("a label", b"nop\ngoto :q", 105, "7: goto :q", ":q is no label of this code"),
+        ("a register too high", b"nop\nmove v0 v3", 118, "7: move v0 v3", "v3 of 2 registers"),
+        ("a branch", b"goto :a\n" + b"nop\n" * 200 + b":a\nnop", 85, "6: goto :a", ":a: it leads 201 units on: goto"),
+        ("a payload", b"nop\narray-payload 1", 86, "7: array-payload 1", "the payload is at the odd address 1: a nop"),
+    ):
+        given = HEAD + CLASS + line.replace(b"%b", text)
+        says(what, at, ["assemble"], given, f"refused {number} ", f"    {says_line}\n", f"  Hint: {hint}", "In LA;->m()V")
+    later = HEAD + b"class LA; 1\nsuper LB;\nend class\nclass LB; 1\nend class\n"
+    hint = "LB;: the superclass of LA; has to stand before it: LB; is defined after it, at line 5"
+    says("a later superclass", at, ["assemble"], later, "    2: class LA; 1\n    3: super LB;\n", f"  Hint: {hint}.\n")
+    for number, hint in ((82, "const-string/jumbo"), (85, "goto/32"), (87, "two tries")):
+        out = tool("dexasm-explain", given=b"dexasm: refused %d N at 0\n" % number)[1]
+        check(f"dexasm-explain, what mends {number}", "  Hint: " in out and hint in out, out)
+    far = b"goto :a\narray-payload 1\n" + b"nop\n" * 122 + b":a\nnop"
+    given = HEAD + CLASS + line.replace(b"%b", far)
+    wants = "refused 85 ", "    6: goto :a\n", "leads 128 units on"
+    says("a branch by --align", at, ["assemble", "--align"], given, *wants)
+
+
 def try_other_classes():
     """Classes that the file doesn't have, those of a .dex file, and without dexasm."""
     at = room("explain other classes")
@@ -259,7 +284,8 @@ def try_json():
     told = f"{ESC}x: dexasm: refused 100 Word at 4\nok\ndexasm: refused 8 Checksum at 8\n".encode()
     status, out, said = tool("dexasm-explain", "--json", "file", given=told, at=at)
     first, second = (json.loads(line) for line in out.splitlines())
-    fields = ["number", "name", "place", "sentence", "place_is", "found", "hints", "line", "class", "member"]
+    fields = ["number", "name", "place", "sentence", "place_is", "found", "hints", "line", "column", "class", "member"]
+    fields += ["insn", "word"]
     check("dexasm-explain --json", (status, said) == (0, "") and list(first) == fields and list(second) == fields, out)
     told = (first["number"], first["name"], first["place"], first["line"], first["found"], len(first["hints"]))
     check(
@@ -268,6 +294,10 @@ def try_json():
         first,
     )
     check("dexasm-explain --json, escapes", ESC not in out)
+    put(at, "file", HEAD + CLASS + METHOD % b"nop\nmove v0 v9\n" + b"end class\n")
+    out = tool("dexasm-explain", "--json", "file", given=b"dexasm: refused 118 Register at 0\n", at=at)[1]
+    told = [json.loads(out)[field] for field in ("line", "column", "class", "member", "insn", "word", "hints")]
+    check("dexasm-explain --json, a class", told == [7, 9, "LA;", "b()V", 1, "v9", ["v9 of 1 register"]], out)
 
 
 def try_others():
@@ -311,6 +341,7 @@ TRIES = (
     try_members,
     try_lines,
     try_classes,
+    try_words,
     try_other_classes,
     try_input,
     try_names,

@@ -31,7 +31,7 @@ try:
 except NotImplementedError:
     print("no library")
 """
-OBJECTS = "refused 118 Register at 0: LA;->m()V, instruction 0\n"
+OBJECTS = "refused 118 Register at 0: LA;->m()V, instruction 0: v1 of 1 register\n"
 ODD = b"""dex 035
 class LA; 1
 direct m ()V 9

@@ -543,9 +543,9 @@ PLACES = {
     "a branch to itself": (branch_to_itself, 115, "get(Z)I", 1),
     "a branch to the end": (branch_to_end, 105, "get(Z)I", 1),
     "a name": (inserted("get", 3, Insn("sget", 0, name="[LA;->a:I")), 110, "get(Z)I", 3),
-    "a payload": (inserted("get", 0, PackedSwitch(0, [])), 116, "get(Z)I", None),
+    "a payload": (inserted("get", 0, PackedSwitch(0, [])), 116, "get(Z)I", 0),
     "a try": (try_of_nothing, 117, "pick(I)V", None),
-    "a code at an odd address": (inserted("pick", 0, Insn("nop")), 86, "pick(I)V", None),
+    "a code at an odd address": (inserted("pick", 0, Insn("nop")), 86, "pick(I)V", 4),
     "a code of no instruction": (set_in("get.code", Code()), 114, "get(Z)I", None),
     "flags": (set_in("get.flags", -1), 102, "get(Z)I", None),
     "a field": (set_in("name.type", "V"), 110, "name:V", None),
@@ -563,7 +563,8 @@ def try_places():
         want = (number, "LHello;", member and f"LHello;->{member}", insn)
         check(f"the place of {what}", place == want, (place, str(seen)))
     seen = changed(inserted("pick", 1, WIDE))
-    check("its line", str(seen) == f"refused 102 Number at {seen.place}: LHello;->pick(I)V, instruction 1", str(seen))
+    said = "LHello;->pick(I)V, instruction 1: 42000: a number from -32768 to 32767 stands here; const takes more"
+    check("its line", str(seen) == f"refused 102 Number at {seen.place}: {said}", str(seen))
     again = pickle.loads(pickle.dumps(seen))
     check("it is pickled whole", (str(again), again.insn, again.member) == (str(seen), 1, "LHello;->pick(I)V"))
     check("where there is no program", str(Refused(8, "Checksum", 8)) == "refused 8 Checksum at 8")
@@ -635,11 +636,13 @@ def try_readme():
     with tempfile.TemporaryDirectory() as at:
         with open(f"{at}/a.dex", "wb") as file:
             file.write(dexasm.assemble(text))
-        answers = [run([sys.executable, "-c", example], at) for example in examples]
+        place, *answers = [run([sys.executable, "-c", example], at) for example in examples]
         made = [list_of(f"{at}/{name}.dex") for name in ("patched", "renamed")]
+    said = "refused 118 Register at 0: LHello;->m()V, instruction 0: v9 of 2 registers\n5; 9; v9; v9 of 2 registers\n"
+    check("README: a place", place == said, place)
     check(
         "README: examples, under twenty lines each",
-        len(examples) == 4 and all(example.count("\n") < 20 for example in examples),
+        len(examples) == 5 and all(example.count("\n") < 20 for example in examples),
         len(examples),
     )
     check("README: a constant", answers[0] == "" and made[0] == text.replace("v0 41", "v0 42"), (answers[0], made[0]))

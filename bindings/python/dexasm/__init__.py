@@ -22,12 +22,14 @@ import subprocess
 import sys
 from typing import Any
 
+from dexasm import faultline
 from dexasm.answers import is_answer
+from dexasm.faultline import Place
 from dexasm.names import FieldRef, MethodRef, Proto, Type, spelled
 
 __all__ = ["Refused", "assemble", "check", "fault_name", "strip", "version"]
 __all__ += ["ArrayData", "Catch", "Class", "Code", "Field", "FieldRef", "Insn", "Label", "Method", "MethodRef"]
-__all__ += ["PackedSwitch", "Program", "Proto", "SparseSwitch", "Try", "Type", "Value"]
+__all__ += ["PackedSwitch", "Place", "Program", "Proto", "SparseSwitch", "Try", "Type", "Value"]
 
 Data = bytes | bytearray | memoryview
 
@@ -40,32 +42,63 @@ _BUILT = os.path.join(_HERE, *[".."] * 3, "crates", "dexasm_c", "out", "built")
 class Refused(ValueError):
     """The bytes are refused: the number and the name of a rule that is broken, and the place where it is.
 
-    The place is a byte of a file, a line of a listing from 1, or a class of a program from 0 (of 80 and 81 how many are needed, of 90 it is
-    0): docs/FORMAT.md says which by the number. Where a Program was refused, `class_name`, `member` and `insn`, the
-    number of an instruction from 0, say where in it, as far as that is known; otherwise they are None.
+    The place is a byte of a file, a line of a listing from 1, or a class of a program from 0 (of 80 and 81 how many
+    are needed, of 90 it is 0): docs/FORMAT.md says which by the number. Where a listing or a Program was refused,
+    `where` says more: line and column, from 1, class, member, the number of an instruction from 0, the word at fault
+    and why, of which each is an attribute of the refusal too, None where it isn't known. It is looked for when it is
+    asked for, and of a Program it is a place in `str` of it.
     """
 
-    def __init__(
-        self,
-        number: int,
-        name: str,
-        place: int,
-        class_name: Type | None = None,
-        member: FieldRef | MethodRef | None = None,
-        insn: int | None = None,
-    ) -> None:
-        super().__init__(f"refused {number} {name} at {place}")
-        self.number, self.name, self.place = number, name, place
-        self.class_name, self.member, self.insn = class_name, member, insn
+    def __init__(self, number: int, name: str, place: int, where: Place | None = None) -> None:
+        super().__init__(f"refused {number} {name} at {place}")  # (the line of the command)
+        self.number, self.name, self.place, self._where = number, name, place, where
+        self._listing: tuple[bytes, bool] | None = None
+
+    @property
+    def where(self) -> Place | None:
+        if self._listing is not None:
+            self._where, self._listing = faultline.of(self._listing[0], self.number, self.place, self._listing[1]), None
+        return self._where
+
+    @property
+    def line(self) -> int | None:
+        return self.where.line if self.where else None
+
+    @property
+    def column(self) -> int | None:
+        return self.where.column if self.where else None
+
+    @property
+    def class_name(self) -> Type | None:
+        return self.where.class_name if self.where else None
+
+    @property
+    def member(self) -> FieldRef | MethodRef | None:
+        return self.where.member if self.where else None
+
+    @property
+    def insn(self) -> int | None:
+        return self.where.insn if self.where else None
+
+    @property
+    def word(self) -> str | None:
+        return self.where.word if self.where else None
+
+    @property
+    def why(self) -> str | None:
+        return self.where.why if self.where else None
 
     def __str__(self) -> str:
-        line = f"refused {self.number} {self.name} at {self.place}"
-        if self.class_name is not None:
-            line += f": {spelled(self.member or self.class_name)}"
-        return line if self.insn is None else f"{line}, instruction {self.insn}"
+        where, told = self.where, [str(self.args[0])]
+        if where is not None and where.class_name is not None:
+            at = "" if where.insn is None else f", instruction {where.insn}"
+            told.append(f"{spelled(where.member or where.class_name)}{at}")
+        if where is not None and where.sentence():
+            told.append(where.sentence())
+        return ": ".join(told)
 
     def __reduce__(self) -> tuple[type[Refused], tuple[object, ...]]:
-        return Refused, (self.number, self.name, self.place, self.class_name, self.member, self.insn)
+        return Refused, (self.number, self.name, self.place, self.where)
 
 
 class _Fault(ctypes.Structure):
@@ -205,9 +238,13 @@ def list(data: Data) -> str:
 def assemble(text: str | Data, align: bool = False) -> bytes:
     """The file of a listed program; with align a nop is put before each payload that would stand at an odd address."""
     given = text.encode("utf8", "surrogatepass") if isinstance(text, str) else _bytes(text)
-    if _library is None:
-        return _run("assemble", given, *["--align"] * align)
-    return _answer(_library.dexasm_assemble, given, len(given) + 4096, align)
+    try:
+        if _library is None:
+            return _run("assemble", given, *["--align"] * align)
+        return _answer(_library.dexasm_assemble, given, len(given) + 4096, align)
+    except Refused as refused:
+        refused._listing = given, align
+        raise
 
 
 def strip(data: Data) -> bytes:

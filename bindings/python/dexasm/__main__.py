@@ -125,7 +125,7 @@ def run() -> int:
     try:
         made = answer(asked, given)
     except dexasm.Refused as refused:
-        return ended(REFUSED, str(refused))
+        return ended(REFUSED, refused.args[0])  # (the command's line)
     except OSError as error:
         return ended(FAILED, str(error))
     write(asked.output, made)

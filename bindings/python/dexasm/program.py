@@ -9,7 +9,6 @@ from collections.abc import Iterable, Iterator, MutableSequence
 from typing import Any, overload
 
 import dexasm
-from dexasm import refusals
 from dexasm.members import Class
 from dexasm.names import Type, shown, unspelled
 
@@ -153,12 +152,7 @@ class Program:
 
     def write(self, align: bool = False) -> bytes:
         """The file of the program. Where it breaks a rule this raises Refused, which says where in the program."""
-        texts = [*self.classes.texts()]
-        try:
-            return dexasm.assemble("".join([HEAD, *texts]), align)
-        except dexasm.Refused as refused:
-            refusals.locate(refused, HEAD, texts, align)
-            raise
+        return dexasm.assemble(str(self), align)
 
     def __getitem__(self, name: str) -> Class:
         """The class of this name."""

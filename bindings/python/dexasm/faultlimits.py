@@ -1,0 +1,253 @@
+"""Which line of a class breaks a limit of the written file (docs/FORMAT.md, "The written file"): for `faultline`."""
+from __future__ import annotations
+
+from bisect import bisect_left
+from collections.abc import Callable, Iterator
+from typing import Any
+
+from dexasm import listed
+from dexasm.formats import format_of
+from dexasm.listed import Class, Code, Line, Listing, Slot, Spot, Word, brief, said, slots
+from dexasm.names import FieldRef, MethodRef, Proto, Type, operand, shown
+
+_MOST = 65535
+_REACHING = {
+    "goto": "goto/16 reaches 32767 units on and 32768 back, goto/32 each instruction",
+    "goto/16": "goto/32 reaches each instruction",
+}
+_OPPOSITE = {"eq": "ne", "ne": "eq", "lt": "ge", "ge": "lt", "gt": "le", "le": "gt"}
+
+Key = Any  # of names, so that they compare as the file's tables have them
+
+
+def _units(text: str) -> bytes:
+    return text.encode("utf-16-be", "surrogatepass")
+
+
+def _key(name: str | Type | Proto | FieldRef | MethodRef) -> Key:
+    if isinstance(name, Proto):
+        return _units(name.returns), [*map(_units, name.parameters)]
+    if isinstance(name, FieldRef):
+        return _units(name.owner), _units(name.name), _units(name.type)
+    if isinstance(name, MethodRef):
+        return _units(name.owner), _units(name.name), _key(name.proto)
+    return _units(name)
+
+
+class Names:
+    """The names that a program needs, of each kind."""
+
+    def __init__(self, read: Listing) -> None:
+        self.read = read
+        self.ranks = dict[str, list[Key]]()
+
+    def mentions(self) -> Iterator[tuple[Line, Word, str, Any]]:
+        """Each name where it stands, with its kind, and the names that are parts of it."""
+        for one in self.read.classes():
+            owner = Type(said(one.head.words[1]))
+            for line in one.lines():
+                for word, kind, name in _named(owner, line):
+                    yield from ((line, word, *each) for each in _parts(kind, name))
+
+    def one_too_many(self, wanted: str) -> Spot | None:
+        """Where a type or a prototype is named with which there are more than a file's table may have."""
+        seen = set[str]()
+        for line, word, kind, name in self.mentions():
+            if kind == wanted and name not in seen:
+                seen.add(name)
+                if len(seen) > _MOST:
+                    what = f"{_MOST} {'types' if wanted == 'type' else 'prototypes'}"
+                    return Spot(line, word, f"{brief(name)} is one more than {what}: the program has to be split")
+        return None
+
+    def rank(self, wanted: str, name: Any) -> int:
+        """The index of a name in its table."""
+        if wanted not in self.ranks:
+            names = {name for _, _, kind, name in self.mentions() if kind == wanted}
+            self.ranks[wanted] = sorted(map(_key, names))
+        return bisect_left(self.ranks[wanted], _key(name))
+
+
+def _named(owner: Type, line: Line) -> Iterator[tuple[Word, str, Any]]:
+    """What a line names as a whole: each word, and what it is."""
+    for slot in slots(line):
+        if slot.kind == "text":
+            yield slot.word, "string", said(slot.word)
+        elif slot.kind == "proto":
+            yield slot.word, "proto", Proto(said(slot.word))
+        elif slot.kind in ("type", "field", "method"):
+            yield slot.word, str(slot.kind), operand(said(slot.word))
+    if line.key in ("static", "instance"):
+        yield line.words[1], "field", FieldRef.of(owner, said(line.words[1]), said(line.words[2]))
+    elif line.key in ("direct", "virtual"):
+        yield line.words[1], "method", MethodRef.of(owner, said(line.words[1]), said(line.words[2]))
+
+
+def _parts(kind: str, name: Any) -> Iterator[tuple[str, Any]]:
+    """A name and those that it is made of; what is none of a file's tables isn't asked for."""
+    yield kind, name
+    if kind == "type":
+        yield "string", str(name)
+    elif kind == "proto":
+        types = name.returns, *name.parameters
+        yield "string", "".join("L" if type[0] in "L[" else type for type in types)
+        for each in types:
+            yield from _parts("type", each)
+    elif kind in ("field", "method"):
+        yield "string", name.name
+        yield from _parts("type", name.owner)
+        yield from _parts("type", name.type) if kind == "field" else _parts("proto", name.proto)
+
+
+def _out_of_reach(wanted: str, why: str) -> Callable[[Listing, Class, bool], Iterator[Spot]]:
+    """The instructions whose index of 16 bits doesn't reach what they name."""
+
+    def asked(read: Listing, one: Class, _: bool) -> Iterator[Spot]:
+        names = Names(read)
+        for code in one.codes():
+            for line in code.insns:
+                slot = _named_by(line, wanted)
+                if slot is not None:
+                    name = said(slot.word)
+                    rank = names.rank(wanted, name if wanted == "string" else operand(name))
+                    if rank > _MOST:
+                        yield Spot(line, slot.word, f"its index is {rank}, and {line.key} reaches {_MOST}: {why}")
+
+    return asked
+
+
+def _named_by(line: Line, wanted: str) -> Slot | None:
+    form, kind = format_of(line.key), "text" if wanted == "string" else wanted
+    if form is None or form.name != kind or line.key == "const-string/jumbo":
+        return None
+    return slots(line)[-1]
+
+
+class _Addresses:
+    """The address of each instruction of a code; with `align` a nop stands before payloads at odd ones."""
+
+    def __init__(self, code: Code, align: bool) -> None:
+        self.starts, self.ends, at = list[int](), list[int](), 0
+        for place, line in enumerate(code.insns):
+            if align and code.is_payload(place):
+                at += at % 2
+            self.starts.append(at)
+            at += _units_of(line)
+            self.ends.append(at)
+
+    def last_before(self, place: int) -> int:
+        """The address of the instruction before this one, be it a nop that `align` puts there."""
+        is_nop = place < len(self.starts) and self.starts[place] > self.ends[place - 1]
+        return self.ends[place - 1] if is_nop else self.starts[place - 1]
+
+
+def _units_of(line: Line) -> int:
+    if line.key == "array-payload":
+        return 4 + (len(line.words[2].text) // 2 + 1) // 2 if len(line.words) > 2 else 4
+    if line.key in listed.PAYLOADS:
+        targets = sum(slot.kind == "target" for slot in slots(line))
+        return 4 + 2 * targets if line.key == "packed-switch-payload" else 2 + 4 * targets
+    form = format_of(line.key)
+    if form is None:
+        raise ValueError(f"no mnemonic: {shown(line.key)}")
+    return form.units
+
+
+def _branches(_: Listing, one: Class, align: bool) -> Iterator[Spot]:
+    for code in one.codes():
+        starts = _Addresses(code, align).starts
+        for at, line in enumerate(code.insns):
+            form = format_of(line.key)
+            if form is None or not form.target:
+                continue
+            word = slots(line)[-1].word
+            offset = starts[code.place(word)] - starts[at]
+            if not -(1 << form.target - 1) <= offset < 1 << form.target - 1:
+                way = "back" if offset < 0 else "on"
+                yield Spot(line, word, f"it leads {abs(offset)} units {way}: {_reaching(line.key)}")
+
+
+def _reaching(mnemonic: str) -> str:
+    """What leads further than this instruction."""
+    if mnemonic[:3] == "if-":
+        return f"if-{_OPPOSITE[mnemonic[3:5]]}{mnemonic[5:]} over a goto/32 reaches each instruction"
+    return _REACHING[mnemonic]
+
+
+def _misaligned(_: Listing, one: Class, align: bool) -> Iterator[Spot]:
+    for code in one.codes():
+        starts = _Addresses(code, align).starts
+        for at, line in enumerate(code.insns):
+            if code.is_payload(at) and starts[at] % 2:
+                why = f"the payload is at the odd address {starts[at]}: a nop before it, or --align, mends it"
+                yield Spot(line, None, why)
+
+
+def _long_tries(_: Listing, one: Class, align: bool) -> Iterator[Spot]:
+    for code in one.codes():
+        addresses = _Addresses(code, align)
+        for each in code.tries:
+            first, after = (code.place(word) or 0 for word in each.line.words[1:3])
+            length = addresses.last_before(after) - addresses.starts[first]
+            if length > _MOST - 1:
+                why = f"its last instruction begins {length} units after its first: at most {_MOST - 1}, or two tries"
+                yield Spot(each.line, None, why)
+
+
+def _many_tries(_: Listing, one: Class, __: bool) -> Iterator[Spot]:
+    for code in one.codes():
+        if len(code.tries) > _MOST:
+            yield Spot(code.tries[_MOST].line, None, f"the code has {len(code.tries)} tries, {_MOST} at most")
+
+
+def _far_handlers(read: Listing, one: Class, align: bool) -> Iterator[Spot]:
+    names = Names(read)
+    for code in one.codes():
+        if not code.tries:
+            continue
+        starts, sizes, of_try = _Addresses(code, align).starts, dict[Any, int](), []
+        for each in code.tries:
+            caught = tuple(tuple(_caught(line, code)) for line in each.handlers)
+            of_try.append(caught)
+            if caught not in sizes:
+                sizes[caught] = _handler_size(names, caught, starts)
+        at, begins = _leb128(len(sizes)), dict[Any, int]()
+        for caught, size in sizes.items():
+            begins[caught] = at
+            at += size
+        for each, caught in zip(code.tries, of_try):
+            if begins[caught] > _MOST:
+                why = f"its handlers begin {begins[caught]} bytes after the start of the code's list, {_MOST} at most"
+                yield Spot(each.line, None, why)
+
+
+def _caught(line: Line, code: Code) -> Iterator[Any]:
+    """The type of a catch, and where it leads; a catchall has no type."""
+    if line.key == "catch":
+        yield Type(said(line.words[1]))
+    yield code.place(line.words[-1])
+
+
+def _handler_size(names: Names, caught: tuple[tuple[Any, ...], ...], starts: list[int]) -> int:
+    typed = [each for each in caught if len(each) == 2]
+    signed = -len(typed) if len(typed) < len(caught) else len(typed)
+    size = next(size for size in range(1, 6) if -(1 << 7 * size - 1) <= signed < 1 << 7 * size - 1)
+    size += sum(_leb128(names.rank("type", each[0])) for each in typed)
+    return size + sum(_leb128(starts[each[-1]]) for each in caught)
+
+
+def _leb128(number: int) -> int:
+    """How many bytes a number takes."""
+    return max(1, -(-number.bit_length() // 7))
+
+
+LIMITS: dict[int, Callable[[Listing, Class, bool], Iterator[Spot]]] = {
+    82: _out_of_reach("string", "const-string/jumbo reaches each string"),
+    83: _out_of_reach("field", "no instruction reaches further, so the program has to be split"),
+    84: _out_of_reach("method", "no instruction reaches further, so the program has to be split"),
+    85: _branches,
+    86: _misaligned,
+    87: _long_tries,
+    88: _many_tries,
+    89: _far_handlers,
+}

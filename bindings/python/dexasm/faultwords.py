@@ -1,0 +1,151 @@
+"""Which word of a listing's line is at fault (docs/LISTING.md, "Faults"): for `faultline`."""
+from __future__ import annotations
+
+import re
+
+from dexasm.formats import format_of
+from dexasm.listed import Class, Line, Listing, Slot, Spot, number_of, said, slots
+from dexasm.names import FieldRef, MethodRef, Name, Proto, Type
+from dexasm.names import member as member_name
+
+_NAME, _NUMBER, _TWICE = 101, 102, 104
+_NAMES: dict[str, type[Name]] = {"type": Type, "proto": Proto, "field": FieldRef, "method": MethodRef}
+_WHAT = {
+    "name": "a name of a member, as a or <init>",
+    "type": "a type, as I or [Ljava/lang/String;",
+    "proto": "a prototype, as (I[J)V",
+    "field": "a field, as LA;->count:I",
+    "method": "a method, as LA;->show(I)V",
+    "label": "a label, as :L3",
+}
+_SAID = re.compile(r"(?:[^\\]|\\u[0-9A-Fa-f]{4})*")
+_DIGITS = re.compile(r"-?(?:[0-9]+|0x[0-9A-Fa-f]+)")
+_LABEL = re.compile(":[A-Za-z0-9_]{1,32}")
+# Which instruction takes a greater register or literal than this one.
+_WIDER = (
+    (r"(move(?:-wide|-object)?)", r"\1/from16 or \1/16"),
+    (r"(move(?:-wide|-object)?)/from16", r"\1/16"),
+    (r"(invoke-\w+|filled-new-array)", r"\1/range"),
+    (r"const/4", "const/16 or const"),
+    (r"const/16", "const"),
+    (r"const-wide/16", "const-wide/32 or const-wide"),
+    (r"const-wide/32", "const-wide"),
+    (r"(\w+-\w+)/2addr", r"\1"),
+    (r"rsub-int/lit8", "rsub-int"),
+    (r"((?:add|mul|div|rem|and|or|xor)-int)/lit8", r"\1/lit16"),
+)
+
+
+def in_line(read: Listing, number: int, line: Line, before: Class | None) -> Spot | None:
+    """The word at fault of a line that has a fault of words, or that says something twice."""
+    if number == _TWICE:
+        return _twice(line, before)
+    if number not in (_NAME, _NUMBER):
+        return None
+    for slot in slots(line):
+        kind = "@" if slot.kind == "target" and read.is_first_form else "label" if slot.kind == "target" else slot.kind
+        slot = Slot(slot.word, kind)
+        if not _fits(slot):
+            is_name = kind in _WHAT
+            return Spot(line, slot.word, _why(line, slot)) if is_name == (number == _NAME) else None
+    return None
+
+
+def target_missing(one: Class, line: Line) -> Spot | None:
+    """The first target of a line that leads to no instruction; what a try covers may end after the last one."""
+    member = one.member_at(line.number)
+    code = member and member.code
+    if code is None:
+        return None
+    for at, slot in enumerate(slots(line)):
+        if slot.kind == "target":
+            most = len(code.insns) - (line.key != "try" or at == 0)
+            if slot.word.text[0] == ":" and slot.word.text not in code.labels:
+                return Spot(line, slot.word, f"{slot.word.text} is no label of this code")
+            if code.place(slot.word) > most:
+                return Spot(line, slot.word, f"{slot.word.text} is after the last instruction")
+    return None
+
+
+def _fits(slot: Slot) -> bool:
+    """Whether a word is what its slot takes."""
+    text, kind = slot.word.text, slot.kind
+    if isinstance(kind, int):
+        return _is_number(text, kind)
+    if kind == "label":
+        return _LABEL.fullmatch(text) is not None
+    if kind == "bytes":
+        return re.fullmatch("(?:[0-9A-Fa-f]{2})+", text) is not None
+    word, _, bits = kind.partition(" of ")
+    if word == "bits":
+        return re.fullmatch(f"[0-9A-Fa-f]{{{bits}}}", text) is not None
+    if word in ("register", "@"):
+        return text[0] == ("v" if bits else "@") and _is_number(text[1:], int(bits or 32))
+    return kind == "text" or _is_name(slot)
+
+
+def _is_number(text: str, bits: int) -> bool:
+    if not _DIGITS.fullmatch(text) or text[0] == "-" and bits > 0:
+        return False
+    low, high = _range(bits)
+    try:
+        return low <= number_of(text) <= high
+    except ValueError:
+        return False  # (more digits than Python takes)
+
+
+def _range(bits: int) -> tuple[int, int]:
+    """The numbers of so many bits; of signed ones, where it is below 0."""
+    return (0, (1 << bits) - 1) if bits > 0 else (-(1 << -bits - 1), (1 << -bits - 1) - 1)
+
+
+def _is_name(slot: Slot) -> bool:
+    try:
+        name = said(slot.word) if _SAID.fullmatch(slot.word.text) else ""
+        _NAMES[str(slot.kind)](name) if slot.kind in _NAMES else member_name(name)
+    except ValueError:
+        return False
+    return True
+
+
+def _why(line: Line, slot: Slot) -> str:
+    """What the slot takes, and which instruction takes more."""
+    if slot.kind in _WHAT:
+        return f"it isn't {_WHAT[str(slot.kind)]}"
+    if isinstance(slot.kind, int):
+        low, high = _range(slot.kind)
+        return f"a number from {low} to {high} stands here{_wider(line.key) if slot.kind < 0 else ''}"
+    word, _, bits = slot.kind.partition(" of ")
+    if word == "register":
+        return f"v0 to v{(1 << int(bits)) - 1} here{_wider(line.key)}"
+    if word == "bits":
+        return f"{bits} hexadecimal digits stand here"
+    return "a target is @ and the number of an instruction" if word == "@" else "two hexadecimal digits for each byte"
+
+
+def _wider(mnemonic: str) -> str:
+    form = format_of(mnemonic)
+    for narrow, wide in _WIDER:
+        found = re.fullmatch(narrow, mnemonic)
+        if form and found:
+            return f"; {found.expand(wide)} takes more"
+    return "; a move/from16 before it brings a higher one there" if form and form.registers and not form.literal else ""
+
+
+def _twice(line: Line, before: Class | None) -> Spot | None:
+    """What was said before; a label may be another code's too."""
+    if before is None:
+        return None
+    if line.key[:1] == ":":
+        return Spot(line, line.words[0], "the label stands in this code already")
+    own = _told(line)
+    for other in (*before.above, *(member.line for member in before.members)):
+        if _told(other) == own:
+            return Spot(line, line.words[1], f"line {other.number} says one already")
+    return None
+
+
+def _told(line: Line) -> tuple[str, ...]:
+    """What may be told once."""
+    count = {"super": 0, "source": 0, "implements": 1}.get(line.key, 2)
+    return line.key, *map(said, line.words[1 : count + 1])
