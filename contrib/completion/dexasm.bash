@@ -25,8 +25,9 @@ _dexasm_helper() {
     dexasm-diff) first='' options='--help --names --color --textconv' ;;
     dexasm-explain) first='' options='--help --json' ;;
     dexasm-graph) first='' options='--help --format --calls --from --depth' ;;
+    dexasm-info) first='' options='--help --json --hex' ;;
     dexasm-lint) first='' options='--help' ;;
-    dexasm-query) first='classes strings calls' options='--help' ;;
+    dexasm-query) first='classes strings calls fields tables show' options='--help --addresses' ;;
     dexasm-size) first='' options='--help --by --sort --html' ;;
     dexasm-split) first='' options='--help --join' ;;
   esac
@@ -45,4 +46,4 @@ _dexasm_helper() {
   fi
 }
 complete -o filenames -F _dexasm dexasm
-complete -o filenames -F _dexasm_helper dexasm-apk dexasm-browse dexasm-close dexasm-corpus dexasm-diff dexasm-explain dexasm-graph dexasm-lint dexasm-query dexasm-size dexasm-split
+complete -o filenames -F _dexasm_helper dexasm-apk dexasm-browse dexasm-close dexasm-corpus dexasm-diff dexasm-explain dexasm-graph dexasm-info dexasm-lint dexasm-query dexasm-size dexasm-split

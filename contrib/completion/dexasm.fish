@@ -46,9 +46,13 @@ complete -c dexasm-graph -l format -x -a 'dot svg json'
 complete -c dexasm-graph -l calls
 complete -c dexasm-graph -l from
 complete -c dexasm-graph -l depth
+complete -c dexasm-info -l help
+complete -c dexasm-info -l json
+complete -c dexasm-info -l hex
 complete -c dexasm-lint -l help
-complete -c dexasm-query -n __fish_use_subcommand -a 'classes strings calls'
+complete -c dexasm-query -n __fish_use_subcommand -a 'classes strings calls fields tables show'
 complete -c dexasm-query -l help
+complete -c dexasm-query -l addresses
 complete -c dexasm-size -l help
 complete -c dexasm-size -l by -x -a 'package class'
 complete -c dexasm-size -l sort -x -a 'total code strings tables values debug unused strip name'

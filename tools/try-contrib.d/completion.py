@@ -24,6 +24,7 @@ def try_bash():
     for words, want in (
         (("dexasm-apk", "''"), ["check", "list", "strip"]),
         (("dexasm-query", "c"), ["calls", "classes"]),
+        (("dexasm-info", "--h"), ["--help", "--hex"]),
         (("dexasm-diff", "--color", "a"), ["always", "auto"]),
         (("dexasm-size", "--by", "''"), ["class", "package"]),
         (("dexasm-size", "--s"), ["--sort"]),

@@ -125,6 +125,16 @@ def try_lines():
     ):
         says(what, at, ["assemble"], HEAD + CLASS + line + text + b"\n", f"  Hint: {words}", "  In LA;->m()V.")
     for what, text, words in (
+        ("a word for a flag", b"class LZ; public\n", "flags are a number: public is 0x1 (docs/LISTING.md"),
+        ("words for flags", b"class LZ; public final\n", "flags are a number: public final is 0x11 ("),
+        ("one of a field", CLASS + b"static i I 9\nstatic j I volatile\n", "flags are a number: volatile is 0x40 ("),
+        ("one of a method", CLASS + b"direct m ()V static bridge\n", "flags are a number: static bridge is 0x48 ("),
+        ("a word of a class alone", CLASS + b"direct m ()V interface\n", "  102: a word isn't what stands"),
+    ):
+        says(what, at, ["assemble"], HEAD + text, words)
+    found = explained(at, ["assemble"], HEAD + CLASS + b"direct m ()V interface\n")
+    check("dexasm-explain, no hint of a flag that a method can't have", "flags are" not in found, found)
+    for what, text, words in (
         ("a byte order mark", b"\xef\xbb\xbf" + HEAD, "a byte order mark"),
         ("a first line of another version", b"dex 038\n", "a listing begins with"),
         ("no first line", b"\n# it\nnop\n", "the first line has to be"),

@@ -22,6 +22,7 @@ WORDS = {
     "diff": "--names a.dex b.dex",
     "explain": "a.dex <told",
     "graph": "--calls a.dex",
+    "info": "a.dex",
     "lint": "b.dex",
     "query": "classes a.dex",
     "size": "a.dex",

@@ -19,6 +19,7 @@ TOP = os.path.dirname(os.path.dirname(os.path.dirname(os.path.realpath(__file__)
 REFUSAL = re.compile(r".*\brefused (\d{1,5}) (\w+) at (\d{1,20})(?:: .*)?$")
 REFUSED, USAGE, FAILED, MEMORY = 1, 2, 3, 4  # exit statuses, as those of dexasm
 DEX, ZIP = b"dex\n", b"PK"
+LONGEST = 160  # characters of a line that are shown where a line is a sign of more
 # What nobody sees though it counts as printable: Default_Ignorable_Code_Point of the Unicode Character Database
 # (DerivedCoreProperties.txt; unicodedata doesn't have it), and signs that are blank: a Braille pattern without dots, a
 # filler of Khitan, blanks of Egyptian, a notehead that isn't drawn.
@@ -58,6 +59,11 @@ def shown(char):
     if 0xDC80 <= number < 0xDD00:
         return f"\\x{number - 0xDC00:02x}"
     return f"\\x{number:02x}" if number < 0x100 else f"\\u{number:04x}" if number < 0x10000 else f"\\U{number:08x}"
+
+
+def shortened(text: str) -> str:
+    """The beginning of a long line."""
+    return text if len(text) <= LONGEST else text[:LONGEST] + " .."
 
 
 class Words(argparse.ArgumentParser):
@@ -253,11 +259,16 @@ def load_file(name, place, inner=None):
 
 def program_of(path):
     """The program of a file or of a listing, as an object of the module for Python."""
-    listing = listing_of(path)
+    return listed(dex_of(path), name_of(path))
+
+
+def listed(data, name):
+    """The program of the bytes of a file of that name, by what dexasm lists of it."""
+    listing = answer("list", given=data, name=name).decode("ascii")
     try:
         return module().Program.of_listing(listing)
     except ValueError:
-        raise Failed(f"{name_of(path)}: dexasm: what it answers is no listing") from None
+        raise Failed(f"{name}: dexasm: what it answers is no listing") from None
 
 
 def say(line):

@@ -1,5 +1,5 @@
 """Which byte of a .dex file is whose: for dexasm-size. The file is one that dexasm accepts, so each table and item of
-its program is there.
+its program is there. (What is read of a refused one raises one of NO_FILE where that isn't so.)
 
 What the program doesn't need (annotations, debug information) dexasm doesn't look at, so it can be anything: there each
 number is asked whether it leads into the file."""
@@ -67,6 +67,10 @@ class Outside(Exception):
     """What was followed leads out of the file, or too much was."""
 
 
+# What the tables of another file than one that is accepted can lead to.
+NO_FILE = (Outside, struct.error, ValueError, IndexError, OverflowError)
+
+
 class Reader:
     """Numbers from a place on; for what dexasm doesn't look at, `left` has how many bytes may still be read."""
 
@@ -125,11 +129,14 @@ class Reader:
         raise Outside
 
 
-def insns(units):
-    """Each instruction that isn't a payload: its opcode and its first unit's place."""
+PAYLOADS = {0x0100: "packed-switch-payload", 0x0200: "sparse-switch-payload", 0x0300: "array-payload"}
+
+
+def steps(units):
+    """Each instruction and each payload: its first unit's place, and the place behind it."""
     at = 0
     while at < len(units):
-        unit = units[at]
+        begin, unit = at, units[at]
         if unit == 0x0100:
             at += 4 + 2 * units[at + 1]
         elif unit == 0x0200:
@@ -137,8 +144,18 @@ def insns(units):
         elif unit == 0x0300:
             at += 4 + (units[at + 1] * (units[at + 2] | units[at + 3] << 16) + 1) // 2
         else:
-            yield unit & 0xFF, at
             at += UNITS[unit & 0xFF]
+        yield begin, at
+
+
+def units_of(data, code):
+    """The units of the code that is there."""
+    return struct.unpack_from(f"<{struct.unpack_from('<I', data, code + 12)[0]}H", data, code + 16)
+
+
+def insns(units):
+    """Each instruction that isn't a payload: its opcode and its first unit's place."""
+    return ((units[at] & 0xFF, at) for at, _ in steps(units) if units[at] not in PAYLOADS)
 
 
 class TypeList:
@@ -192,28 +209,36 @@ class Code:
         self.end = reader.at
 
 
-def read_values(reader, count, has_names=False):
-    """Reads so many encoded values, and answers the names that they mention."""
-    mentions, due = set(), [[count, has_names]]
+def values(reader, count, has_names=False):
+    """Reads so many encoded values, one by one, however deep: the place of each, its head, and its number, which of an
+    array or an annotation is how many follow."""
+    due = [[count, has_names]]
     while due:
         if due[-1][0] == 0:
             due.pop()
             continue
         due[-1][0] -= 1
+        begin = reader.at
         if due[-1][1]:
             reader.uleb()
         head = reader.byte()
-        kind, size = head & 0x1F, (head >> 5) + 1
+        kind, number = head & 0x1F, head >> 5
         if kind == ARRAY:
-            due.append([reader.uleb(), False])
+            number = reader.uleb()
+            due.append([number, False])
         elif kind == ANNOTATION:
             reader.uleb()
-            due.append([reader.uleb(), True])
+            number = reader.uleb()
+            due.append([number, True])
         elif kind not in (NULL, BOOLEAN):
-            number = sum(reader.byte() << 8 * i for i in range(size))
-            if kind in VALUE_INDEX:
-                mentions.add((VALUE_INDEX[kind], number))
-    return mentions
+            number = sum(reader.byte() << 8 * i for i in range(number + 1))
+        yield begin, head, number
+
+
+def read_values(reader, count, has_names=False):
+    """Reads so many encoded values, and answers the names that they mention."""
+    found = ((head & 0x1F, number) for _, head, number in values(reader, count, has_names))
+    return {(VALUE_INDEX[kind], number) for kind, number in found if kind in VALUE_INDEX}
 
 
 class Owners:
@@ -245,7 +270,8 @@ class Tables:
         reader.uleb()
         spelled = self.data[reader.at : self.data.index(0, reader.at)]
         return (
-            spelled.decode("utf8", "surrogatepass")
+            spelled.replace(b"\xc0\x80", b"\0")
+            .decode("utf8", "surrogatepass")
             .encode("utf-16-le", "surrogatepass")
             .decode("utf-16-le", "surrogatepass")
         )
@@ -256,18 +282,35 @@ class Tables:
     def class_name(self, row):
         return self.type_name(self.numbers("class", row, "<I")[0])
 
+    def proto_name(self, index):
+        _, answer, at = self.numbers("proto", index, "<III")
+        return f"({''.join(map(self.type_name, self.types_at(at)))}){self.type_name(answer)}"
+
+    def types_at(self, at):
+        """The types of a type_list in their order; 0 is the place of none."""
+        count = struct.unpack_from("<I", self.data, at)[0] if at else 0
+        return struct.unpack_from(f"<{count}H", self.data, at + 4) if count else ()
+
     def method_name(self, index):
         """A method as a listing names it, without its class."""
         _, proto, name = self.numbers("method", index, "<HHI")
-        _, answer, at = self.numbers("proto", proto, "<III")
-        count = struct.unpack_from("<I", self.data, at)[0] if at else 0
-        types = struct.unpack_from(f"<{count}H", self.data, at + 4) if at else ()
-        return f"{self.text(name)}({''.join(map(self.type_name, types))}){self.type_name(answer)}"
+        return self.text(name) + self.proto_name(proto)
 
     def field_name(self, index):
         """A field as a listing names it, without its class."""
         _, type_, name = self.numbers("field", index, "<HHI")
         return f"{self.text(name)}:{self.type_name(type_)}"
+
+    def name(self, table, index):
+        """What a row names, as a listing does, with its class."""
+        if table == "string":
+            return self.text(index)
+        if table == "proto":
+            return self.proto_name(index)
+        if table in ("field", "method"):
+            owner = self.type_name(self.numbers(table, index, "<HHI")[0])
+            return f"{owner}->{self.field_name(index) if table == 'field' else self.method_name(index)}"
+        return self.type_name(index) if table == "type" else self.class_name(index)
 
     def members(self, row, left):
         """Of each member of a class: its table, its own row, what that is above the one before in its list (None of the
