@@ -18,21 +18,23 @@ _dexasm() {
 _dexasm_helper() {
   local name=${COMP_WORDS[0]##*/} word=${COMP_WORDS[COMP_CWORD]} first='' options='' words=''
   case $name in
-    dexasm-apk) first='check list strip' options='--help --close' ;;
-    dexasm-browse) first='' options='--help --output --graphs' ;;
-    dexasm-close) first='' options='--help --output --check' ;;
-    dexasm-corpus) first='add refused same classes callers strings libraries merge sum' options='--help --processes --seconds --memory --again --strict --scheduler --trust --send --json --csv --pattern --classes --known --verify' ;;
-    dexasm-diff) first='' options='--help --names --color --textconv' ;;
-    dexasm-explain) first='' options='--help --json' ;;
-    dexasm-graph) first='' options='--help --format --calls --from --depth' ;;
-    dexasm-info) first='' options='--help --json --hex' ;;
-    dexasm-lint) first='' options='--help' ;;
-    dexasm-query) first='classes strings calls fields tables show' options='--help --addresses' ;;
-    dexasm-size) first='' options='--help --by --sort --html' ;;
-    dexasm-split) first='' options='--help --join' ;;
+    dexasm-apk) first='check list strip' options='--help --version --close' ;;
+    dexasm-browse) first='' options='--help --version --output --graphs' ;;
+    dexasm-check) first='' options='--help --version --quiet --color --jobs --seconds --memory --json --program --sarif --github --junit' ;;
+    dexasm-close) first='' options='--help --version --output --check' ;;
+    dexasm-corpus) first='add refused same classes callers strings libraries merge sum' options='--help --version --processes --seconds --memory --again --strict --scheduler --trust --send --json --csv --pattern --classes --known --verify' ;;
+    dexasm-diff) first='' options='--help --version --names --color --textconv' ;;
+    dexasm-explain) first='' options='--help --version --json' ;;
+    dexasm-graph) first='' options='--help --version --format --calls --from --depth' ;;
+    dexasm-info) first='' options='--help --version --json --hex' ;;
+    dexasm-lint) first='' options='--help --version' ;;
+    dexasm-query) first='classes strings calls fields tables show' options='--help --version --addresses' ;;
+    dexasm-size) first='' options='--help --version --by --sort --html' ;;
+    dexasm-split) first='' options='--help --version --join' ;;
   esac
   case $name/${COMP_WORDS[COMP_CWORD - 1]} in
     dexasm-browse/--graphs) words='all' ;;
+    dexasm-check/--color) words='auto always never' ;;
     dexasm-diff/--color) words='auto always never' ;;
     dexasm-graph/--format) words='dot svg json' ;;
     dexasm-size/--by) words='package class' ;;
@@ -46,4 +48,4 @@ _dexasm_helper() {
   fi
 }
 complete -o filenames -F _dexasm dexasm
-complete -o filenames -F _dexasm_helper dexasm-apk dexasm-browse dexasm-close dexasm-corpus dexasm-diff dexasm-explain dexasm-graph dexasm-info dexasm-lint dexasm-query dexasm-size dexasm-split
+complete -o filenames -F _dexasm_helper dexasm-apk dexasm-browse dexasm-check dexasm-close dexasm-corpus dexasm-diff dexasm-explain dexasm-graph dexasm-info dexasm-lint dexasm-query dexasm-size dexasm-split

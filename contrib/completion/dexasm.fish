@@ -12,15 +12,31 @@ complete -c dexasm -n '__fish_seen_subcommand_from assemble' -f -l align -d 'Put
 complete -c dexasm -n '__fish_seen_subcommand_from strip' -r -F -s o -l output -d 'Write to OUT instead of standard output; it isn\'t touched until the answer is complete'
 complete -c dexasm-apk -n __fish_use_subcommand -a 'check list strip'
 complete -c dexasm-apk -l help
+complete -c dexasm-apk -l version
 complete -c dexasm-apk -l close
 complete -c dexasm-browse -l help
+complete -c dexasm-browse -l version
 complete -c dexasm-browse -l output -r -F
 complete -c dexasm-browse -l graphs -x -a 'all'
+complete -c dexasm-check -l help
+complete -c dexasm-check -l version
+complete -c dexasm-check -l quiet
+complete -c dexasm-check -l color -x -a 'auto always never'
+complete -c dexasm-check -l jobs
+complete -c dexasm-check -l seconds
+complete -c dexasm-check -l memory
+complete -c dexasm-check -l json
+complete -c dexasm-check -l program
+complete -c dexasm-check -l sarif
+complete -c dexasm-check -l github
+complete -c dexasm-check -l junit
 complete -c dexasm-close -l help
+complete -c dexasm-close -l version
 complete -c dexasm-close -l output -r -F
 complete -c dexasm-close -l check
 complete -c dexasm-corpus -n __fish_use_subcommand -a 'add refused same classes callers strings libraries merge sum'
 complete -c dexasm-corpus -l help
+complete -c dexasm-corpus -l version
 complete -c dexasm-corpus -l processes
 complete -c dexasm-corpus -l seconds
 complete -c dexasm-corpus -l memory
@@ -36,26 +52,34 @@ complete -c dexasm-corpus -l classes
 complete -c dexasm-corpus -l known
 complete -c dexasm-corpus -l verify
 complete -c dexasm-diff -l help
+complete -c dexasm-diff -l version
 complete -c dexasm-diff -l names
 complete -c dexasm-diff -l color -x -a 'auto always never'
 complete -c dexasm-diff -l textconv
 complete -c dexasm-explain -l help
+complete -c dexasm-explain -l version
 complete -c dexasm-explain -l json
 complete -c dexasm-graph -l help
+complete -c dexasm-graph -l version
 complete -c dexasm-graph -l format -x -a 'dot svg json'
 complete -c dexasm-graph -l calls
 complete -c dexasm-graph -l from
 complete -c dexasm-graph -l depth
 complete -c dexasm-info -l help
+complete -c dexasm-info -l version
 complete -c dexasm-info -l json
 complete -c dexasm-info -l hex
 complete -c dexasm-lint -l help
+complete -c dexasm-lint -l version
 complete -c dexasm-query -n __fish_use_subcommand -a 'classes strings calls fields tables show'
 complete -c dexasm-query -l help
+complete -c dexasm-query -l version
 complete -c dexasm-query -l addresses
 complete -c dexasm-size -l help
+complete -c dexasm-size -l version
 complete -c dexasm-size -l by -x -a 'package class'
 complete -c dexasm-size -l sort -x -a 'total code strings tables values debug unused strip name'
 complete -c dexasm-size -l html -r -F
 complete -c dexasm-split -l help
+complete -c dexasm-split -l version
 complete -c dexasm-split -l join -r -F

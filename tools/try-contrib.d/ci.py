@@ -7,6 +7,7 @@ import shlex
 import shutil
 
 from apk import archive
+from check import alone, properties
 from recipes import EVIL, IDENTITY, TEXT, TURNED, many
 from trying import TOP, Tries, assembled, check, get, put, room, run, shell
 
@@ -73,8 +74,7 @@ def try_names():
         seen = committed(at)
         is_so = (
             seen[0] == 1
-            and "refused" in seen[2]
-            and "TooShort" in seen[2]
+            and "error: 1 TooShort: " in seen[2]
             and seen[2].count("\n") == 1
             and seen[2][:-1].isprintable()
         )
@@ -87,7 +87,7 @@ def try_kinds():
         at = repository(f"hook kind {number}")
         staged(at, name, refused(b"no file", name))
         seen = committed(at)
-        is_so = seen[0] == 1 and f"{name}: " in seen[2] and "TooShort" in seen[2] and count(at) == "0"
+        is_so = seen[0] == 1 and f"pre-commit: {name}" in seen[2] and "1 TooShort: " in seen[2] and count(at) == "0"
         check(f"hook, {name}", is_so, seen)
         staged(at, name, refused(assembled(TEXT), name))
         seen = committed(at)
@@ -122,7 +122,7 @@ def try_merged():
     staged(at, "c", b"")
     seen += [committed(at), run(["git", "merge", "-qm", "b", "theirs"], at=at, **IDENTITY)]
     said = seen[-1][2]
-    is_so = seen[-1][0] == 1 and "b.dex: " in said and "TooShort" in said and said.startswith("pre-merge-commit: ")
+    is_so = seen[-1][0] == 1 and "b.dex:0x07: error: 1 TooShort: " in said and said.startswith("pre-merge-commit: ")
     check("hook, a merge", is_so and count(at) == "3" and [one[0] for one in seen[:-1]] == [0] * 5, seen)
 
 
@@ -142,10 +142,10 @@ def try_hook_fails():
     run(["git", "add", "-A"], at=at)
     for setting in ("diff.orderFile=/none", "diff.external=/none", "diff.relative=true", "core.quotePath=false"):
         seen = run(["git", "-c", setting, *COMMIT[1:]], at=at, **IDENTITY)
-        check(f"hook, {setting}", seen[0] != 0 and "b.dex: " in seen[2] and count(at) == "0", seen)
+        check(f"hook, {setting}", seen[0] != 0 and "b.dex:0x07: " in seen[2] and count(at) == "0", seen)
     for name in ("GIT_LITERAL_PATHSPECS", "GIT_ICASE_PATHSPECS", "GIT_GLOB_PATHSPECS", "GIT_NOGLOB_PATHSPECS"):
         seen = committed(at, **{name: "1"})
-        check(f"hook, {name}", seen[0] != 0 and "b.dex: " in seen[2] and count(at) == "0", seen)
+        check(f"hook, {name}", seen[0] != 0 and "b.dex:0x07: " in seen[2] and count(at) == "0", seen)
     seen = run(hook, at=room("hook nowhere"))
     check("hook, no repository", seen[0] != 0, seen)
     seen = committed(at, TMPDIR="/none")
@@ -153,7 +153,8 @@ def try_hook_fails():
     run(["git", "rm", "-qf", "b.dex"], at=at)
     os.mkdir(os.path.join(at, "without"))
     os.symlink("/bin/true", os.path.join(at, "without", "dexasm"))
-    seen = committed(at, **before(os.path.join(at, "without")))
+    ways = os.pathsep.join([alone(), os.path.join(at, "without")])
+    seen = committed(at, **before(ways))
     check("hook, a dexasm that answers nothing", seen[0] != 0 and count(at) == "0", seen)
     seen = committed(at, PATH=os.path.dirname(git))
     check("hook, no dexasm", seen[0] == 1 and count(at) == "0", seen)
@@ -189,9 +190,10 @@ def try_workflow():
     run(["git", "init", "-q", "."], at=at)
     run(["git", "add", "-A"], at=at)
     status, out, said = worked(step, at)
-    lines = out.splitlines()
+    lines = out.encode("latin1").decode("utf8").splitlines()
     is_so = len(lines) == bad + 1 + len(LOOKED_AT)
-    is_so = is_so and all(line.startswith("refused: ") and line.isprintable() for line in lines)
+    is_so = is_so and all(line.startswith("refused: ") or properties(line) for line in lines)
+    is_so = is_so and all(line.isprintable() for line in lines)
     check(
         "workflow, what is refused",
         status == 1 and said == "" and is_so and "PWNED" not in os.listdir(at),
@@ -221,7 +223,7 @@ def try_workflow_fails(step, good):
     check("workflow, no dexasm", seen[0] == 1, seen)
     os.mkdir(os.path.join(good, "without"))
     os.symlink("/bin/true", os.path.join(good, "without", "dexasm"))
-    seen = worked(step, good, **before(os.path.join(good, "without")))
+    seen = worked(step, good, **before(os.pathsep.join([alone(), os.path.join(good, "without")])))
     check("workflow, a dexasm that answers nothing", seen[0] == 1, seen)
     os.remove(os.path.join(good, "a.dex"))
     seen = worked(step, good)

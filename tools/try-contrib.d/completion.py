@@ -28,7 +28,7 @@ def try_bash():
         (("dexasm-diff", "--color", "a"), ["always", "auto"]),
         (("dexasm-size", "--by", "''"), ["class", "package"]),
         (("dexasm-size", "--s"), ["--sort"]),
-        (("dexasm-split", "--"), ["--help", "--join"]),
+        (("dexasm-split", "--"), ["--help", "--join", "--version"]),
         (("dexasm-browse", "--graphs", "''"), ["all"]),
         (("dexasm-graph", "--format", "s"), ["svg"]),
         (("dexasm-explain", "--j"), ["--json"]),

@@ -295,7 +295,7 @@ def try_json():
     status, out, said = tool("dexasm-explain", "--json", "file", given=told, at=at)
     first, second = (json.loads(line) for line in out.splitlines())
     fields = ["number", "name", "place", "sentence", "place_is", "found", "hints", "line", "column", "class", "member"]
-    fields += ["insn", "word"]
+    fields += ["instruction", "word"]
     check("dexasm-explain --json", (status, said) == (0, "") and list(first) == fields and list(second) == fields, out)
     told = (first["number"], first["name"], first["place"], first["line"], first["found"], len(first["hints"]))
     check(
@@ -306,7 +306,7 @@ def try_json():
     check("dexasm-explain --json, escapes", ESC not in out)
     put(at, "file", HEAD + CLASS + METHOD % b"nop\nmove v0 v9\n" + b"end class\n")
     out = tool("dexasm-explain", "--json", "file", given=b"dexasm: refused 118 Register at 0\n", at=at)[1]
-    told = [json.loads(out)[field] for field in ("line", "column", "class", "member", "insn", "word", "hints")]
+    told = [json.loads(out)[field] for field in ("line", "column", "class", "member", "instruction", "word", "hints")]
     check("dexasm-explain --json, a class", told == [7, 9, "LA;", "b()V", 1, "v9", ["v9 of 1 register"]], out)
 
 

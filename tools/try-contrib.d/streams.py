@@ -17,6 +17,7 @@ from trying import HEAD, LISTING, TOP, Tries, assembled, check, is_one_line, put
 WORDS = {
     "apk": "check a.apk",
     "browse": "a.dex --output pages",
+    "check": "a.dex",
     "close": "--check a.dex",
     "corpus": "sum c.db",
     "diff": "--names a.dex b.dex",

@@ -13,6 +13,7 @@ import select
 import shutil
 import subprocess
 import sys
+from collections.abc import Callable
 from types import ModuleType
 
 TOP = os.path.dirname(os.path.dirname(os.path.dirname(os.path.realpath(__file__))))
@@ -20,6 +21,7 @@ REFUSAL = re.compile(r".*\brefused (\d{1,5}) (\w+) at (\d{1,20})(?:: .*)?$")
 REFUSED, USAGE, FAILED, MEMORY = 1, 2, 3, 4  # exit statuses, as those of dexasm
 DEX, ZIP = b"dex\n", b"PK"
 LONGEST = 160  # characters of a line that are shown where a line is a sign of more
+UNITS = {"K": 1 << 10, "M": 1 << 20, "G": 1 << 30}
 # What nobody sees though it counts as printable: Default_Ignorable_Code_Point of the Unicode Character Database
 # (DerivedCoreProperties.txt; unicodedata doesn't have it), and signs that are blank: a Braille pattern without dots, a
 # filler of Khitan, blanks of Egyptian, a notehead that isn't drawn.
@@ -66,6 +68,18 @@ def shortened(text: str) -> str:
     return text if len(text) <= LONGEST else text[:LONGEST] + " .."
 
 
+class Version(argparse.Action):
+    """Prints the version of the command, which is the helper's too: they come together."""
+
+    def __init__(self, **options):
+        super().__init__(nargs=0, **options)
+
+    def __call__(self, parser, *_):
+        said = answer("--version", given=b"", name=parser.prog).decode("ascii")
+        print(f"{parser.prog} {said.split()[-1]}")
+        parser.exit()
+
+
 class Words(argparse.ArgumentParser):
     """A helper's words, by its manual: --help prints it, and its usage is told where the words are wrong."""
 
@@ -73,12 +87,33 @@ class Words(argparse.ArgumentParser):
         self.doc = manual().strip() + "\n"
         self.uses = "\n".join(re.search(r"^usage: .*(?:\n +.*)*", self.doc, re.M)[0].splitlines())
         super().__init__(prog=os.path.basename(sys.argv[0]), allow_abbrev=False, usage="%(prog)s")
+        self.add_argument("--version", action=Version)
 
     def format_help(self):
         return self.doc
 
     def error(self, message):
         raise Usage(f"{self.uses}\n{self.prog}: {escaped(message)}", USAGE)
+
+
+def size(word: str) -> int:
+    """A word that is a number of bytes."""
+    unit = UNITS.get(word[-1:].upper(), 1)
+    number = int(word[:-1] if unit > 1 else word) * unit
+    if number < 1 << 20 or number > 1 << 50:
+        raise ValueError
+    return number
+
+
+def positive(word: str, kind: Callable[[str], float] = int) -> float:
+    number = kind(word)
+    if not 0 < number < 1 << 20:
+        raise ValueError
+    return number
+
+
+def seconds(word: str) -> float:
+    return positive(word, float)
 
 
 @functools.cache
@@ -185,10 +220,15 @@ def answer(*words, given, name):
     return ended.answer
 
 
+def is_listing(given: bytes) -> bool:
+    """Whether the bytes begin as a listing does."""
+    return not given.startswith(DEX) and re.match(rb"(?: *(?:#.*)?\n)* *dex +\w", given) is not None
+
+
 def dex_of(path):
     """The bytes of a .dex file; of a listing those that dexasm makes of it."""
     given, name = get(path), name_of(path)
-    if not given.startswith(DEX) and re.match(rb"(?: *(?:#.*)?\n)* *dex +\w", given):
+    if is_listing(given):
         given = answer("assemble", given=given, name=name)
     if given.startswith(ZIP):
         raise Failed(f"{name}: a zip archive: dexasm-apk looks at the .dex files in it")

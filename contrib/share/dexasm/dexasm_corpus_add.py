@@ -7,7 +7,6 @@ import logging
 import os
 import secrets
 import stat
-import sys
 import threading
 import time
 from collections.abc import Callable, Iterator
@@ -17,6 +16,8 @@ import dexasm_look
 from dexasm_contrib import FAILED, Failed, escaped, reason, say
 from dexasm_corpus import Corpus
 from dexasm_look import KEY, look_batch
+from dexasm_paths import named, walked
+from dexasm_terminal import Line
 
 MANY, MUCH = 64, 16 << 20  # files and bytes of a batch
 MODULES = ("dexasm_contrib", "dexasm_archive", "dexasm_look")  # that a worker of Dask gets
@@ -32,8 +33,7 @@ class Counts:
     def __init__(self) -> None:
         self.files = self.bytes = self.new = self.refused = self.limits = self.unread = self.status = 0
         self.all: int | None = None
-        self.begun, self.shown = time.monotonic(), 0.0
-        self.is_shown = sys.stderr is not None and sys.stderr.isatty() and os.environ.get("TERM") != "dumb"
+        self.begun, self.line = time.monotonic(), Line()
 
     @property
     def bad(self) -> int:
@@ -51,23 +51,11 @@ class Counts:
 
     def show(self, jobs: int) -> None:
         """One line, at most twice a second; of names nothing is in it."""
-        now = time.monotonic()
-        if not self.is_shown or now - self.shown < 0.5:
+        if not self.line.is_due():
             return
-        self.shown, taken = now, now - self.begun
+        taken = time.monotonic() - self.begun
         left = f", {taken / jobs * max(self.all - jobs, 0):.0f} s left" if self.all and jobs else ""
-        line = f"{self.files} files, {self.bytes / 1e6 / taken:.1f} MB/s, {self.refused} refused{left}"
-        self.draw(line)
-
-    def draw(self, line: str = "") -> None:
-        """What the line of the terminal has from now on; a terminal that went away is no trouble."""
-        if self.is_shown:
-            try:
-                columns = os.get_terminal_size(sys.stderr.fileno()).columns or 80
-                sys.stderr.write(f"\r\x1b[K{line[: columns - 1]}")
-                sys.stderr.flush()
-            except OSError:
-                self.is_shown = False
+        self.line.draw(f"{self.files} files, {self.bytes / 1e6 / taken:.1f} MB/s, {self.refused} refused{left}")
 
     def end(self) -> None:
         taken = time.monotonic() - self.begun
@@ -77,55 +65,7 @@ class Counts:
         )
 
 
-# ---- paths
-
-
-def named(words: list[str]) -> Iterator[bytes]:
-    """The paths that were named; `-` for those on standard input, each with a NUL after it."""
-    for word in words:
-        if word != "-":
-            yield os.fsencode(word)
-            continue
-        if sys.stdin is None:
-            raise Failed("standard input: it is closed")
-        rest = b""
-        while more := sys.stdin.buffer.read1(1 << 16):
-            *paths, rest = (rest + more).split(b"\0")
-            yield from filter(None, paths)
-        if rest:
-            yield rest
-
-
-def walked(path: bytes, wrong: Callable[[bytes, OSError], None]) -> Iterator[tuple[bytes, bool, int]]:
-    """The files of a path, each with whether it was named itself and its size; no link below it is followed."""
-    try:
-        seen = os.stat(path)
-    except OSError as error:
-        wrong(path, error)
-        return
-    if not stat.S_ISDIR(seen.st_mode):
-        yield path, True, seen.st_size
-        return
-    due = [path]
-    while due:
-        at = due.pop()
-        try:
-            with os.scandir(at) as found:
-                entries = sorted(found, key=lambda entry: entry.name)
-        except OSError as error:
-            wrong(at, error)
-            continue
-        due += [entry.path for entry in reversed(entries) if entry.is_dir(follow_symlinks=False)]
-        for entry in entries:
-            if entry.is_file(follow_symlinks=False):
-                yield entry.path, False, size_of(entry)
-
-
-def size_of(entry: os.DirEntry[bytes]) -> int:
-    try:
-        return entry.stat(follow_symlinks=False).st_size
-    except OSError:
-        return 0
+# ---- jobs
 
 
 def batches(files: Iterator[tuple[bytes, bool, int]], prepare: Callable[..., tuple[object, ...]]) -> Iterator[Jobs]:
@@ -265,18 +205,18 @@ def add(corpus: Corpus, asked: Any) -> Counts:
     counts = Counts()
 
     def wrong(path: bytes, error: OSError) -> None:
-        counts.draw()
+        counts.line.draw()
         say(f"dexasm-corpus: {escaped(os.fsdecode(path))}: {reason(error)}")
         counts.status = FAILED
 
     files = (file for path in named(asked.paths) for file in walked(path, wrong))
-    if counts.is_shown and "-" not in asked.paths:
+    if counts.line.is_shown and "-" not in asked.paths:
         threading.Thread(target=count, args=(counts, asked.paths), daemon=True).start()
     where = (Dask if asked.scheduler else Here)(asked, corpus.known(KEY, asked.again))
     try:
         put_all(corpus, counts, batches(files, where.prepare), where)
     finally:
-        counts.draw()
+        counts.line.draw()
         where.close()
     counts.end()
     return counts

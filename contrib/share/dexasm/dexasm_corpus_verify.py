@@ -61,7 +61,7 @@ def verify(corpus: Corpus, paths: list[str], asked: Any) -> int:
     try:
         put_all(verified, counts, batches(at_hand(verified.claims), where.prepare), where)
     finally:
-        counts.draw()
+        counts.line.draw()
         where.close()
     status = 0
     for path, those in zip(paths, claims):

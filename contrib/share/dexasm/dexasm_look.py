@@ -1,4 +1,5 @@
 """Looks at .dex files, for dexasm-corpus: each in a worker, a process of its own with limits of memory and of time.
+dexasm-check has other workers of the kind.
 
 A worker is this very file, run as a program: it takes jobs on standard input and answers on standard output, both by
 marshal. What it says of a file before it looks at it tells which file it was that a limit ended it at.
@@ -20,6 +21,7 @@ import threading
 import weakref
 from collections import Counter
 from collections.abc import Callable, Generator, Iterator
+from typing import Any
 
 if __name__ == "__main__":  # (Python may have been told not to look for modules there)
     sys.path.insert(0, os.path.dirname(os.path.realpath(__file__)))
@@ -78,15 +80,12 @@ class Job:
         self.path, self.is_named, self.given, self.skipped = path, is_named, given, skipped
 
     def open(self) -> io.BufferedReader | io.BytesIO:
-        if self.given is not None:
-            return io.BytesIO(self.given)
-        at = os.open(self.path, os.O_RDONLY | os.O_NONBLOCK | os.O_NOCTTY)
-        if not stat.S_ISREG(os.fstat(at).st_mode):
-            os.close(at)
-            raise Failed("no file")
-        return os.fdopen(at, "rb")
+        return opened_file(self.path) if self.given is None else io.BytesIO(self.given)
 
-    def look(self, tell: Callable[..., None], is_known: Callable[[bytes], bool]) -> None:
+    def look(self, tell: Callable[..., None], known: bytes) -> None:
+        def is_known(sha: bytes) -> bool:
+            return is_in(known, sha)
+
         with self.open() as file:
             first = file.read(len(DEX))
             file.seek(0)
@@ -104,6 +103,15 @@ class Job:
                 look_at(name, lambda: taken_out(archive, entries), tell, is_known)
             except Failed as failed:
                 tell("unread", name, "failed", failed.line)
+
+
+def opened_file(path: bytes) -> io.BufferedReader:
+    """The file, if it is one: nothing waits for who writes into a pipe, and no device is read."""
+    at = os.open(path, os.O_RDONLY | os.O_NONBLOCK | os.O_NOCTTY)
+    if not stat.S_ISREG(os.fstat(at).st_mode):
+        os.close(at)
+        raise Failed("no file")
+    return os.fdopen(at, "rb")
 
 
 def look_at(
@@ -182,8 +190,10 @@ def is_in(known: bytes, sha: bytes) -> bool:
     return False
 
 
-def work(seconds: float, memory: int) -> None:
-    """The worker: begins with the keys of the files that are in, ends with its input or when memory ran out."""
+def work(seconds: float, memory: int, kind: Callable[..., Any] = Job) -> None:
+    """The worker: begins with what all jobs need (the keys of the files that are in), ends with its input or when
+    memory ran out.
+    """
     teller, jobs = Teller(seconds), sys.stdin.buffer
     known = marshal.load(jobs)
     try:
@@ -198,12 +208,12 @@ def work(seconds: float, memory: int) -> None:
     while True:
         teller.begin(0)
         try:
-            job = Job(*marshal.load(jobs))
+            job = kind(*marshal.load(jobs))
         except EOFError:
             return
         teller.begin()
         try:
-            job.look(teller.tell, lambda sha: is_in(known, sha))
+            job.look(teller.tell, known)
         except Failed as failed:
             teller.tell("unread", "", "failed", failed.line.removeprefix(": "))
         except OSError as error:
@@ -222,7 +232,9 @@ everybody: weakref.WeakSet[Looker] = weakref.WeakSet()
 class Looker:
     """Has a worker, and another one when that has ended."""
 
-    def __init__(self, seconds: float, memory: int, known: bytes) -> None:
+    script = os.path.realpath(__file__)
+
+    def __init__(self, seconds: float, memory: int, known: object) -> None:
         self.words, self.known = [str(seconds), str(memory)], known
         self.worker: subprocess.Popen[bytes] | None = None
         self.jobs = 0  # that this worker was given
@@ -249,7 +261,7 @@ class Looker:
         ways.append(os.environ.get("PYTHONPATH", ""))
         self.jobs = 0
         self.worker = subprocess.Popen(
-            [sys.executable, "-B", os.path.realpath(__file__), *self.words],
+            [sys.executable, "-B", self.script, *self.words],
             stdin=subprocess.PIPE,
             stdout=subprocess.PIPE,
             stderr=subprocess.DEVNULL,

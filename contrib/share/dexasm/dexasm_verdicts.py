@@ -1,0 +1,218 @@
+"""The forms in which dexasm-check tells verdicts: lines for people, and JSON, SARIF, JUnit and GitHub's for machines.
+
+Names of files are anybody's. Each form escapes what its reader would obey, and GitHub's runner reads each of them: it
+takes a line that begins with `::`, or has `##[` in it, for a command.
+"""
+from __future__ import annotations
+
+import json
+import re
+from typing import Any
+from urllib.parse import quote
+from xml.etree import ElementTree
+
+from dexasm_check import Verdict
+from dexasm_contrib import FAILED, MEMORY, REFUSED, escaped
+from dexasm_faults import OF_CLASSES, OF_COUNTS, sentences
+
+STATUSES = {"ok": 0, "empty": 0, "refused": REFUSED, "memory": MEMORY}  # what isn't here couldn't be looked at
+ACCEPTED = ("ok", "empty")
+NOWHERE = (90, 255)  # whose place is none
+OK, BAD, PLAIN = "\x1b[32m", "\x1b[1;31m", "\x1b[0m"
+SCHEMA = "https://docs.oasis-open.org/sarif/sarif/v2.1.0/errata01/os/schemas/sarif-schema-2.1.0.json"
+# What GitHub's runner undoes (actions/toolkit, command.ts).
+GITHUB = {"%": "%25", "\r": "%0D", "\n": "%0A", ":": "%3A", ",": "%2C"}
+
+
+def status_of(verdict: Verdict) -> int:
+    return STATUSES.get(verdict.status, FAILED)
+
+
+def name_of(verdict: Verdict) -> str:
+    """Its path, and the entry of the archive after a `!`; bytes that are no text stand as \\xff."""
+    path = verdict.path.decode("utf8", "backslashreplace")
+    return f"{path}!{verdict.entry}" if verdict.entry else path
+
+
+def bare(path: bytes) -> bytes:
+    """A path without `./` before it."""
+    return re.sub(rb"^(?:\./+)+", b"", path)
+
+
+def uri_of(path: bytes) -> str:
+    """The very path, as RFC 3986 spells it."""
+    return ("file://" if path.startswith(b"/") else "") + quote(bare(path))
+
+
+def sentence_of(verdict: Verdict) -> str | None:
+    """What is wrong, as the pages have it, or why it wasn't looked at."""
+    if verdict.number is None:
+        return verdict.why
+    return sentences().get(verdict.number, ("", "", ""))[1] or None
+
+
+def place_of(verdict: Verdict) -> str:
+    """The place after a name: line and column, or the byte of a file."""
+    if verdict.line is not None:
+        return f":{verdict.line}" + (f":{verdict.column}" if verdict.column is not None else "")
+    if verdict.kind == "dex" and verdict.place is not None and verdict.number not in NOWHERE:
+        return f":0x{verdict.place:02x}"
+    return ""
+
+
+def message_of(verdict: Verdict) -> str:
+    """What is wrong, in short: why this word can't stand there, or the beginning of the pages' sentence."""
+    sentence = escaped(sentence_of(verdict) or "")
+    if verdict.number is None:
+        return sentence
+    short = escaped(verdict.why) if verdict.why else sentence.partition(": ")[0]
+    return f"{verdict.number} {verdict.name}" + (f": {short}" if short else "") + where(verdict)
+
+
+def where(verdict: Verdict) -> str:
+    """Where in the program it is."""
+    if verdict.number in OF_COUNTS:
+        return f" ({verdict.place} are needed)"
+    named = verdict.member or verdict.class_
+    if named is not None:
+        part = f", instruction {verdict.instruction}" if verdict.instruction is not None else ""
+        return f" (in {escaped(named)}{part})"
+    return f" (class {verdict.place}, from 0)" if verdict.number in OF_CLASSES and verdict.line is None else ""
+
+
+class Text:
+    """A line for each, as compilers have it."""
+
+    def __init__(self, has_colors: bool = False) -> None:
+        self.ok, self.bad, self.plain = (OK, BAD, PLAIN) if has_colors else ("", "", "")
+
+    def lines(self, verdict: Verdict) -> list[str]:
+        name = harmless(escaped(name_of(verdict)))
+        if verdict.status == "ok":
+            return [f"{name}: {self.ok}ok{self.plain}"]
+        if verdict.status == "empty":
+            return [f"{name}: {self.ok}{verdict.why}{self.plain}"]
+        return [f"{name}{place_of(verdict)}: {self.bad}error:{self.plain} {message_of(verdict)}"]
+
+    def end(self, status: int) -> list[str]:
+        return []
+
+
+def harmless(name: str) -> str:
+    """A name that is no command to a runner of GitHub that reads it."""
+    return re.sub(r"^( *):(?=:)", r"\1\\x3a", name).replace("##[", "#\\x23[")
+
+
+class Json(Text):
+    """A line of JSON for each."""
+
+    def lines(self, verdict: Verdict) -> list[str]:
+        found = {"file": name_of(verdict), "uri": uri_of(verdict.path), "kind": verdict.kind, "status": verdict.status}
+        for field in ("number", "name", "place", "line", "column", "class_", "member", "instruction"):
+            found[field.rstrip("_")] = getattr(verdict, field)
+        found |= {"sentence": sentence_of(verdict), "why": verdict.why, "program": verdict.program}
+        return [json.dumps(found)]
+
+
+class GitHub(Text):
+    """A command of GitHub's workflows for each that isn't accepted."""
+
+    def lines(self, verdict: Verdict) -> list[str]:
+        if verdict.status in ACCEPTED:
+            return []
+        words = {"file": bare(verdict.path).decode("utf8", "surrogateescape")}
+        if not verdict.entry and verdict.line is not None:
+            words |= {"line": str(verdict.line)}
+            words |= {"col": str(verdict.column)} if verdict.column is not None else {}
+        words["title"] = f"{verdict.number} {verdict.name}" if verdict.number else "not looked at"
+        head = ",".join(f"{name}={commanded(text)}" for name, text in words.items())
+        message = commanded(f"{name_of(verdict)}{place_of(verdict)}: {message_of(verdict)}", "%\r\n")
+        return [f"::error {head}::{message}"]
+
+
+def commanded(text: str, special: str = "%\r\n:,") -> str:
+    """A text in such a command: escaped is what the command's form takes, and what a terminal obeys."""
+    return "".join(GITHUB[char] if char in special else escaped(char) for char in text)
+
+
+class JUnit(Text):
+    """One document, as JUnit's own reports are."""
+
+    def __init__(self) -> None:
+        self.suite = ElementTree.Element("testsuite", name="dexasm-check")
+        self.counts = dict.fromkeys(("tests", "failures", "errors", "skipped"), 0)
+
+    def lines(self, verdict: Verdict) -> list[str]:
+        case = ElementTree.SubElement(self.suite, "testcase", classname="dexasm-check", name=escaped(name_of(verdict)))
+        self.counts["tests"] += 1
+        kinds = {"ok": None, "empty": "skipped", "refused": "failure"}
+        kind = kinds.get(verdict.status, "error")
+        if kind is not None:
+            self.counts["skipped" if kind == "skipped" else f"{kind}s"] += 1
+            told = ElementTree.SubElement(case, kind, message=message_of(verdict))
+            if kind != "skipped":
+                told.set("type", verdict.name or verdict.status)
+                told.text = Text().lines(verdict)[0]
+        return []
+
+    def end(self, status: int) -> list[str]:
+        for name, count in self.counts.items():
+            self.suite.set(name, str(count))
+        suites = ElementTree.Element("testsuites")
+        suites.append(self.suite)
+        ElementTree.indent(suites, " ")
+        made = ElementTree.tostring(suites, "us-ascii", xml_declaration=True)
+        return made.decode("ascii").split("\n")
+
+
+class Sarif(Text):
+    """One document, of SARIF 2.1.0."""
+
+    def __init__(self) -> None:
+        self.rules: dict[int, int] = {}
+        self.results: list[dict[str, Any]] = []
+        self.notes: list[dict[str, Any]] = []
+
+    def lines(self, verdict: Verdict) -> list[str]:
+        if verdict.status in ACCEPTED:
+            return []
+        said = f"{verdict.entry}{place_of(verdict)}: " if verdict.entry else ""
+        told = {"level": "error", "message": {"text": said + message_of(verdict)}, "locations": [location(verdict)]}
+        if verdict.number is None:
+            self.notes.append({"descriptor": {"id": verdict.status}, **told})
+        else:
+            at = self.rules.setdefault(verdict.number, len(self.rules))
+            self.results.append({"ruleId": str(verdict.number), "ruleIndex": at, **told})
+        return []
+
+    def end(self, status: int) -> list[str]:
+        rules = []
+        for number in self.rules:
+            name, sentence, _ = sentences().get(number, ("Unknown", "", ""))
+            more = {"shortDescription": {"text": sentence}} if sentence else {}
+            rules.append({"id": str(number), "name": name, **more})
+        run = {
+            "tool": {"driver": {"name": "dexasm-check", "rules": rules}},
+            "invocations": [
+                {
+                    "executionSuccessful": status in (0, REFUSED),
+                    "exitCode": status,
+                    "toolExecutionNotifications": self.notes,
+                }
+            ],
+            "columnKind": "unicodeCodePoints",
+            "results": self.results,
+        }
+        return [json.dumps({"$schema": SCHEMA, "version": "2.1.0", "runs": [run]}, indent=1)]
+
+
+def location(verdict: Verdict) -> dict[str, Any]:
+    """Where it is, for SARIF; of an entry of an archive the archive, since a region would be one of the archive's."""
+    place: dict[str, Any] = {"artifactLocation": {"uri": uri_of(verdict.path)}}
+    if not verdict.entry and verdict.line:
+        place["region"] = {"startLine": verdict.line, **({"startColumn": verdict.column} if verdict.column else {})}
+    elif not verdict.entry and place_of(verdict):
+        place["region"] = {"byteOffset": verdict.place}
+    names = [name for name in (verdict.entry, verdict.member or verdict.class_) if name]
+    logical = {"logicalLocations": [{"fullyQualifiedName": escaped("!".join(names))}]} if names else {}
+    return {"physicalLocation": place, **logical}
