@@ -28,7 +28,7 @@ _dexasm_helper() {
     dexasm-graph) first='' options='--help --version --format --calls --from --depth' ;;
     dexasm-info) first='' options='--help --version --json --hex' ;;
     dexasm-lint) first='' options='--help --version' ;;
-    dexasm-query) first='classes strings calls fields tables show' options='--help --version --addresses' ;;
+    dexasm-query) first='classes strings calls fields tables show' options='--help --version --lines --addresses' ;;
     dexasm-size) first='' options='--help --version --by --sort --html' ;;
     dexasm-split) first='' options='--help --version --join' ;;
   esac

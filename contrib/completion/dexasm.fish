@@ -74,6 +74,7 @@ complete -c dexasm-lint -l version
 complete -c dexasm-query -n __fish_use_subcommand -a 'classes strings calls fields tables show'
 complete -c dexasm-query -l help
 complete -c dexasm-query -l version
+complete -c dexasm-query -l lines
 complete -c dexasm-query -l addresses
 complete -c dexasm-size -l help
 complete -c dexasm-size -l version

@@ -116,13 +116,14 @@ def hostile():
 
 
 class Page(html.parser.HTMLParser):
-    """A page: its elements and attributes, ids, links, the lines of its code, and its text."""
+    """A page: its elements and attributes, ids, links, places in the file, the lines of its code, and its text."""
 
     VOID = {"meta", "link", "input", "rect", "polygon", "path"}
 
     def __init__(self, text):
         super().__init__()
-        self.elements, self.attributes, self.ids, self.links, self.lines, self.texts = [], set(), [], [], [], []
+        self.elements, self.attributes, self.ids, self.links, self.places = [], set(), [], [], []
+        self.lines, self.texts = [], []
         self.depth = 0
         self.is_code = False
         self.feed(text)
@@ -134,6 +135,7 @@ class Page(html.parser.HTMLParser):
         self.attributes |= set(given)
         self.ids += [given["id"]] if "id" in given else []
         self.links += [given[name] for name in ("href", "src") if name in given]
+        self.places += [given["data-at"]] if "data-at" in given else []
         if tag == "ol":
             self.is_code = given.get("class") == "code"
         elif tag == "li" and self.is_code:
@@ -157,13 +159,14 @@ ELEMENTS = set(
 ATTRIBUTES = set(
     "lang charset http-equiv content name rel href src defer data-root data-shards class aria-label hidden for id type "
     "autocomplete spellcheck placeholder role tabindex viewbox aria-hidden width height fill x y stroke scope open "
-    "points d transform text-anchor font-size dir start".split()
+    "points d transform text-anchor font-size dir start data-at".split()
 )
 POLICY = "default-src 'none'; style-src 'self'; script-src 'self'; img-src 'self'; base-uri 'none'; form-action 'none'"
 LINK = re.compile(
     r"(?:(?:\.\./)?(?:(?:class|package|strings)/)?(?:\d+(?:-\d+)?|index|help)\.html)?"
     r"(?:#(?:\d+(?:\.\d+)?|main|graphs))?"
 )
+PLACE = re.compile(r"[0-9a-f]{6,8} [0-9a-f]{4,8}")
 OWN = re.compile(r"(?:\.\./)?(?:style\.css|script\.js|icon\.svg)")
 FILES = re.compile(
     r"(?:index|help)\.html|style\.css|script\.js|icon\.svg|(?:class|package|strings)/\d+(?:-\d+)?\.html|search/\d+\.js"
@@ -181,6 +184,7 @@ def pages(at):
         wrong += [(name, one) for one in set(page.elements) - ELEMENTS]
         wrong += [(name, one) for one in page.attributes - ATTRIBUTES]
         wrong += [(name, "ids")] * (len(page.ids) != len(set(page.ids)))
+        wrong += [(name, place) for place in page.places if not PLACE.fullmatch(place)]
         wrong += [(name, "h1")] * (page.elements.count("h1") != 1)
         wrong += [(name, "policy")] * (f'http-equiv="Content-Security-Policy" content="{POLICY}"' not in text)
         wrong += [(name, "hidden")] * (not all(char.isprintable() or char == "\n" for char in text))
@@ -334,15 +338,15 @@ def users_of(page):
     return {at: int(found[1].replace(",", "")) if found else 0 for at, found in counts}
 
 
-def beside_dexdump(what, numbers, file, at):
+def beside_dexdump(what, found, numbers, file, at):
     """(Its lines of instructions have an address behind a bar; those of members their class.)"""
     put(at, "dumped.dex", file)
     out = run(["dexdump", "-d", "dumped.dex"], at=at)[1]
     members, head = {}, ""
     for line in out.splitlines():
         # (a string may have any line, but hardly these)
-        found = re.match(r"  ((?:Static|Instance|Direct|Virtual) (?:fields|methods)) +-$", line)
-        head = found[1].split()[1] if found else head
+        begins = re.match(r"  ((?:Static|Instance|Direct|Virtual) (?:fields|methods)) +-$", line)
+        head = begins[1].split()[1] if begins else head
         members[head] = members.get(head, 0) + bool(re.match(r"    #\d+ +: \(in L", line))
     want = {
         "classes": len(re.findall(r"^Class #\d+ ", out, re.M)),
@@ -351,6 +355,9 @@ def beside_dexdump(what, numbers, file, at):
         "instructions": len(re.findall(r"\|[0-9a-f]{4}: ", out)),
     }
     check(f"dexasm-browse, {what}: numbers as dexdump's", want.items() <= numbers.items(), (want, numbers))
+    theirs = re.findall(r"^([0-9a-f]{6,}): [0-9a-f. ]+\|([0-9a-f]{4}): ", out, re.M)
+    ours = [tuple(place.split(" ")) for given in found.values() for place in Page(given.decode("utf8")).places]
+    check(f"dexasm-browse, {what}: addresses as dexdump's", sorted(ours) == sorted(theirs), (ours[:9], theirs[:9]))
 
 
 def inherited(classes, method):
@@ -405,7 +412,7 @@ def try_numbers():
         )
         beside_query(what, found, file, at)
         if shutil.which("dexdump"):
-            beside_dexdump(what, numbers, file, at)
+            beside_dexdump(what, found, numbers, file, at)
 
 
 def try_by_hand():

@@ -116,7 +116,7 @@ def try_verdicts():
         "a.dex: ok\n"
         "f/B.DeX:0x08: error: 8 Checksum: the Adler-32 differs\n"
         "x.txt: ok\n"
-        "y.txt:4:4: error: 101 Name: the first word that isn't what its slot takes"
+        "y.txt:4:10: error: 101 Name: 7: it isn't a type, as I or [Ljava/lang/String; (in LA;)\n"
     )
     rest = (
         "app.apk!classes.dex: ok\n"
@@ -134,8 +134,25 @@ def try_verdicts():
         seen = checked(*words.split(), at=at)
         check(f"dexasm-check {words}, its status", seen[0] == want, seen)
     seen = checked("z.txt", at=at)
-    is_so = "error: 112 ClassOrder: " in seen[1] and ("(class 1, from 0)" in seen[1] or "z.txt:" in seen[1])
-    check("dexasm-check, a class", seen[0] == 1 and is_so and seen[1].count("\n") == 1, seen)
+    want = "z.txt:5:7: error: 112 ClassOrder: LA; is its own superclass (in LA;)\n"
+    check("dexasm-check, a class", seen == (1, want, ""), seen)
+
+
+def try_places():
+    """Where in a listing a rule is broken: in words, and each part of it for machines."""
+    at = room("check places")
+    code = b"class LA; 0x1\ndirect m\\u0041 (I)V 0x8\ncode 2 1 0\n  const/4 v0 1\n  move v0 v9\nend code\nend class\n"
+    put(at, "x.txt", HEAD + code)
+    put(at, "w.txt", HEAD + code.replace(b"v9", b"v16"))
+    where = " (in mA(I)V, instruction 1)\n"
+    want = f"x.txt:6:11: error: 118 Register: v9 of 2 registers{where}"
+    want += f"w.txt:6:11: error: 102 Number: v16: v0 to v15 here; move/from16 or move/16 takes more{where}"
+    for how, runs in (("the library", checked), ("the command", by_command)):
+        seen = runs("x.txt", "w.txt", at=at)
+        check(f"dexasm-check, places by {how}", seen == (1, want, ""), seen)
+    told = json.loads(checked("--json", "x.txt", at=at)[1])
+    want = {"line": 6, "column": 11, "class": "LA;", "member": "mA(I)V", "instruction": 1, "place": 0}
+    check("dexasm-check --json, a place", {name: told[name] for name in want} == want, told)
 
 
 def try_names_decide():
@@ -259,7 +276,7 @@ def try_sarif():
     results, invocation = other["runs"][0]["results"], other["runs"][0]["invocations"][0]
     places = [one["locations"][0]["physicalLocation"] for one in results]
     want = [
-        {"artifactLocation": {"uri": "y.txt"}, "region": {"startLine": 3, "startColumn": 1}},
+        {"artifactLocation": {"uri": "y.txt"}, "region": {"startLine": 3, "startColumn": 7}},
         {"artifactLocation": {"uri": "a.apk"}},
         {"artifactLocation": {"uri": "file://" + whole.replace(" ", "%20")}, "region": {"byteOffset": 7}},
     ]
@@ -611,6 +628,7 @@ def try_version():
 
 TRIES = (
     try_verdicts,
+    try_places,
     try_names_decide,
     try_programs,
     try_names,

@@ -241,7 +241,7 @@ def try_show():
         told = is_one_line(seen[2], "dexasm-query: ") and "names nothing of the file" in seen[2]
         check(f"dexasm-query show {words}", seen[:2] == (2, "") and told, seen)
     for words in (("show", "b.dex"), ("show",), ("tables", "b.dex", "none"), ("calls", "b.dex", "LB;"),
-                  ("calls", "--addresses", "b.dex")):  # fmt: skip
+                  ("calls", "--addresses", "b.dex"), ("calls", "--lines", "b.dex")):  # fmt: skip
         seen = tool("dexasm-query", *words, at=at)
         check(f"dexasm-query {words}, wrong words", seen[:2] == (2, "") and "usage: " in seen[2], seen)
 
@@ -265,6 +265,13 @@ def try_tables():
     check("dexasm-query tables, one", seen == {"fields": want["fields"]}, seen)
     strings = json.loads(tool("dexasm-query", "tables", "names.dex", "strings", at=at)[1])["strings"]
     check("dexasm-query tables, a text of any characters", "\u00e9\U0001f600\ud800\0\u202e" in strings, strings)
+    seen = tool("dexasm-query", "tables", "--lines", "b.dex", "fields", "classes", at=at)
+    lines = "fields 0 LB;->f:J\nfields 1 LB;->n:I\nclasses 0 LB; 0x11 public final super Ljava/lang/Object;\n"
+    check("dexasm-query tables --lines", seen == (0, lines, ""), seen)
+    status, out, said = tool("dexasm-query", "tables", "--lines", "names.dex", at=at)
+    count = sum(map(len, json.loads(tool("dexasm-query", "tables", "names.dex", at=at)[1]).values()))
+    is_so = (status, said, out.count("\n")) == (0, "", count) and out.replace("\n", "").isprintable() and out.isascii()
+    check("dexasm-query tables --lines, hostile names", is_so, out)
     seen = tool("dexasm-query", "tables", "bad.dex", at=at)
     told = is_one_line(seen[2], "dexasm-query: bad.dex: dexasm: refused 4 FileSize")
     check("dexasm-query tables, a refused file", seen[:2] == (1, "") and told, seen)

@@ -48,20 +48,21 @@ def blocks(page):
 
 
 def with_names(block, name):
-    """The recipe with another name before each .dex, .apk and .html, as a shell takes it."""
+    """The recipe with another name before each .dex, .apk, .html and .txt, as a shell takes it."""
     return re.sub(
-        r"(?<![\w.*'/])(\w+)(\.(?:dex|apk|html|stripped))\b",
+        r"(?<![\w.*'/])(\w+)(\.(?:dex|apk|html|stripped|txt))\b",
         lambda found: shlex.quote(f"{name}{found[1]}{found[2]}"),
         block,
     )
 
 
 def prepared(what, name):
-    """A room with an archive, two files, one of another constant, and one that is refused."""
+    """A room with an archive, two files, one of another constant, and a listing with a wrong register."""
     at = room(f"recipe {what}")
     file, other = assembled(TEXT), assembled(TEXT.replace(b"v0 41", b"v0 42"))
     for one, given in (("a", file), ("b", other), ("build1", file), ("build2", file), ("classes", file)):
         put(at, f"{name}{one}.dex", given)
+    put(at, f"{name}a.txt", TEXT.replace(b"const/16 v0 41", b"const/16 v9 41"))
     put(at, f"{name}app.apk", archive(("classes.dex", file), ("classes2.dex", b"no file")))
     return at
 
@@ -99,6 +100,8 @@ def try_blocks():
             at = prepared(f"README {line[:20]} {bool(name)}".replace("/", ""), name)
             status, out, said = shell(with_names(line, name), at)
             is_so = status in (0, 1) and "PWNED" not in seen_in(at) and "Traceback" not in said and "cannot" not in said
+            if line == "dexasm-check a.txt":
+                is_so = is_so and ": error: 118 Register: v9 of 2 registers (in get(Z)I, instruction " in out
             check(f"README: {line}, {'an evil name' if name else 'as it stands'}", is_so, (status, out, said))
     method = found["A class or a method"][0].partition("\n")[2]
     seen = shell(method, prepared("method", ""))

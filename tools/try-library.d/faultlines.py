@@ -277,9 +277,16 @@ def try_lazily():
         check(f"another text: {text!r}", not seen, seen)
 
 
-def try_all(count=1000, seed=1):
-    for number, lines in large():
-        try_marked("of many", number, lines)
+def try_large(ways=10):
+    """Each large text so often, with more lines before what is at fault; they name no further type or prototype."""
+    for number, (head, name, *rest) in large():
+        for way in range(ways):
+            fields = [f"static f{at} I 0" for at in range(way)]
+            try_marked(f"of many, {way}", number, [*["#"] * way, head, name, *fields, *rest])
+
+
+def try_all(count, seed):
+    try_large()
     for one in (try_bodies, try_twice, try_first_form, try_formats, try_lazily):
         one()
     try_random(count, seed)

@@ -10,7 +10,7 @@ from dexasm_browse_cut import Cuts, Part, file_of, others
 from dexasm_browse_pages import Packages, overview, reading, shards, strings, strings_cut
 from dexasm_browse_text import Frame, counted
 from dexasm_contrib import Failed, answer, dexasm, module, say
-from dexasm_file import Dex, code_sizes
+from dexasm_file import Dex, Tables, addresses, code_sizes
 from dexasm_flow import MOST_DRAWN, as_dot, drawn, flow, for_page, graphviz
 from dexasm_folder import Folder, Progress
 from dexasm_html import plain, text
@@ -42,14 +42,14 @@ class Sizes:
         return f"{total:,} ({said})" + (f"; strip takes away {strip:,}" if strip else "")
 
 
-def lines_of(uses: Uses, coder: Coder, row: int) -> Iterator[str]:
-    """The HTML of each member's lines."""
+def lines_of(uses: Uses, coder: Coder, row: int, places: Iterator[Iterator[tuple[int, int]]]) -> Iterator[str]:
+    """The HTML of each member's lines; of each code that the class has there are the places of its instructions."""
     one, first = uses.classes[row], uses.first[row]
     words = ["static"] * len(one.statics) + ["instance"] * len(one.instances)
     words += ["direct"] * len(one.directs) + ["virtual"] * len(one.virtuals)
     for at, (word, member) in enumerate(zip(words, uses.members[row])):
         if hasattr(member, "proto"):
-            yield coder.method(first + at, at, word, member)
+            yield coder.method(first + at, at, word, member, iter(()) if member.code is None else next(places))
         else:
             yield coder.field(first + at, word, member)
 
@@ -80,6 +80,7 @@ class Browse:
         if stripped.status:
             say(f"{prog}: {name}: it can't be stripped, so nothing is said of that: {stripped.last()}")
         self.stripped = None if stripped.status else stripped.answer
+        self.tables = Tables(data)
         self.uses = Uses(module().Program.of_listing(listing))
         self.coder = Coder(self.uses)
         self.classes = Classes(self.uses, self.coder)
@@ -100,7 +101,7 @@ class Browse:
         made = []
         with Progress("reading", count) as progress:
             for row in range(count):
-                made.append(packed(lines_of(self.uses, self.coder, row)))
+                made.append(packed(lines_of(self.uses, self.coder, row, self.places(row))))
                 progress.step()
         cuts, firsts = Cuts(), []
         with Progress("laying out", count) as progress:
@@ -119,6 +120,10 @@ class Browse:
                 progress.step()
         self.put_strings(folder, frame, cuts, texts, len(found))
         self.put_others(folder, frame, cuts)
+
+    def places(self, row: int) -> Iterator[Iterator[tuple[int, int]]]:
+        """Where the instructions of each code of a class are."""
+        return (addresses(self.data, code) for code, _ in self.tables.codes_of(row, None))
 
     def laid_out(self, row: int, lines: list[str], cuts: Cuts, firsts: list[list[int]]) -> bytes:
         """What the pages of a class have. Where it is cut is noted, and with which member each page begins."""

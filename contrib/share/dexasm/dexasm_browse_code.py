@@ -6,6 +6,7 @@ from __future__ import annotations
 
 import html
 from array import array
+from collections.abc import Iterator
 
 from dexasm_contrib import module
 from dexasm_uses import CLASS_IN, Uses, fresh
@@ -99,35 +100,38 @@ class Coder:
             kind, _, said = str(value).partition(" ")
             yield f"{kind} <i>{said}</i>" if said else kind
 
-    def method(self, number: int, at: int, word: str, method) -> str:
-        """A method's lines: the elements of its instructions have ids, `3.0` the first of member 3."""
+    def method(self, number: int, at: int, word: str, method, places: Iterator[tuple[int, int]]) -> str:
+        """A method's lines: the elements of its instructions have ids, `3.0` the first of member 3, and say where each
+        is in the file and in its code.
+        """
         head = f"<li>{word} {spelled(method.name)} {self.types(method.proto)} <i>{method.flags:#x}</i>"
         if method.code is None:
             return head
         code = fresh(method.code)
         lines = [head, f"<li>code <i>{code.registers} {code.ins} {code.outs}</i>"]
         insns = code.insns
-        places = {id(insn): place for place, insn in enumerate(insns)}
-        places[id(None)] = len(insns)  # (a label's instruction, where it is the end)
-        marks = {places[id(label.insn)] for label in code.labels()}
-        lead = lambda label: f'<a href="#{at}.{places[id(label.insn)]}">:L{places[id(label.insn)]}</a>'
-        for place, insn in enumerate(insns):
+        numbers = {id(insn): place for place, insn in enumerate(insns)}
+        numbers[id(None)] = len(insns)  # (a label's instruction, where it is the end)
+        marks = {numbers[id(label.insn)] for label in code.labels()}
+        lead = lambda label: f'<a href="#{at}.{numbers[id(label.insn)]}">:L{numbers[id(label.insn)]}</a>'
+        for place, (insn, (offset, address)) in enumerate(zip(insns, places)):
             if place in marks:
                 lines.append(f'<li class="l">:L{place}')
-            lines.append(f'<li id="{at}.{place}">{self.insn(insn, lead, number, place)}')
+            where = f'id="{at}.{place}" data-at="{offset:06x} {address:04x}"'
+            lines.append(f"<li {where}>{self.insn(insn, lead, number, place)}")
         if len(insns) in marks:
             lines.append(f'<li class="l" id="{at}.{len(insns)}">:L{len(insns)}')
-        lines += self.tries(code.tries, lead, number, places)
+        lines += self.tries(code.tries, lead, number, numbers)
         self.insns[number] = len(insns)
         lines.append("<li>end code")
         return "\n".join(lines)
 
-    def tries(self, tries, lead, number: int, places):
+    def tries(self, tries, lead, number: int, numbers):
         for one in tries:
             yield f"<li>try {lead(one.start)} {lead(one.end)}"
             for catch in one.catches:
                 said, where, what = self.name(catch.type)
-                note(where, what, number << 32 | places[id(catch.target.insn)])
+                note(where, what, number << 32 | numbers[id(catch.target.insn)])
                 yield f"<li>catch {said} {lead(catch.target)}"
             if one.catch_all is not None:
                 yield f"<li>catchall {lead(one.catch_all)}"

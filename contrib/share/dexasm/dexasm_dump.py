@@ -36,7 +36,7 @@ from dexasm_file import (
     units_of,
     values,
 )
-from dexasm_info import KINDS, ROWS, Readable, as_text, has_tables, header, map_place, quoted, spelled
+from dexasm_info import MAP_TYPES, ROWS, Readable, as_text, has_tables, header, map_place, quoted, spelled
 from dexasm_uses import CLASS_FLAGS, FIELD_FLAGS, METHOD_FLAGS, flag_words
 
 WIDTH = 8  # bytes a line
@@ -80,7 +80,7 @@ class Dump:
         self.others: dict[tuple[int, int, str], Parts] = {}
         self.followed: set[tuple[Callable, int]] = set()
         fields = [at + size for _, at, size, _ in header(data)]
-        self.add(0, max(fields, default=0), KINDS[0], self.header)
+        self.add(0, max(fields, default=0), MAP_TYPES[0], self.header)
         if not has_tables(data):
             return
         self.add_map()
@@ -116,7 +116,7 @@ class Dump:
         units = reader.uleb()
         end = self.data.index(0, reader.at) + 1
         said = f"string {row}, utf16_size {units}: {shortened(quoted(text))}"
-        self.add(begin, end, KINDS[0x2002], lambda: [(begin, end, said)])
+        self.add(begin, end, MAP_TYPES[0x2002], lambda: [(begin, end, said)])
 
     def parameters(self, row: int) -> None:
         self.type_list(self.tables.numbers("proto", row, "<III")[2])
@@ -125,7 +125,7 @@ class Dump:
         types = self.tables.types_at(at)
         end = at + 4 + 2 * len(types)
         if at:
-            self.add(at, end, KINDS[0x1001], lambda: self.type_list_parts(at))
+            self.add(at, end, MAP_TYPES[0x1001], lambda: self.type_list_parts(at))
 
     def class_items(self, row: int) -> None:
         """What a class's row leads to; where one of it can't be read the others are."""
@@ -147,7 +147,7 @@ class Dump:
         end, codes = at, []
         for _, end, _, index, code in self.members(at):
             codes += [(code, index)] if code else []
-        self.add(at, end, f"{KINDS[0x2000]} of {self.said('class', row)}", lambda: self.class_data_parts(at))
+        self.add(at, end, f"{MAP_TYPES[0x2000]} of {self.said('class', row)}", lambda: self.class_data_parts(at))
         for code, index in codes:
             try:
                 self.code(code, index)
@@ -178,7 +178,8 @@ class Dump:
         count = struct.unpack_from("<I", self.data, at + 12)[0]
         self.tables.charge(16 + 2 * count)
         end, debug = self.code_end(at, count)
-        self.add(at, end, f"{KINDS[0x2001]} of {self.said('method', index)}", lambda: self.code_parts(at, count, end))
+        heading = f"{MAP_TYPES[0x2001]} of {self.said('method', index)}"
+        self.add(at, end, heading, lambda: self.code_parts(at, count, end))
         self.follow(read_debug, debug)
 
     def code_end(self, at: int, count: int) -> tuple[int, int]:
@@ -195,7 +196,7 @@ class Dump:
             for _ in values(reader, reader.uleb()):
                 pass
             self.tables.charge(reader.at - at)
-            self.add(at, reader.at, KINDS[0x2005], lambda: self.value_parts(at))
+            self.add(at, reader.at, MAP_TYPES[0x2005], lambda: self.value_parts(at))
 
     def follow(self, read: Callable, at: int) -> None:
         """An item that the program doesn't need, and those that it leads to."""
@@ -228,7 +229,7 @@ class Dump:
         yield at, at + 4, f"size {struct.unpack_from('<I', self.data, at)[0]}"
         for entry in range(at + 4, at + 4 + 12 * count, 12):
             kind, unused, size, offset = struct.unpack_from("<HHII", self.data, entry)
-            yield entry, entry + 2, f"type 0x{kind:04x}, {KINDS.get(kind, 'unknown')}"
+            yield entry, entry + 2, f"type 0x{kind:04x}, {MAP_TYPES.get(kind, 'unknown')}"
             yield entry + 2, entry + 4, f"unused {unused}"
             yield entry + 4, entry + 8, f"size {size}"
             yield entry + 8, entry + 12, f"offset 0x{offset:x}"
@@ -407,7 +408,7 @@ def labelled(code) -> list[str]:
     """A line for each instruction, in their order."""
     found, label = [], ""
     for line in str(code).split("\n")[1:]:
-        if line.startswith((":")):
+        if line.startswith(":"):
             label = f"{line} "
         elif line.startswith(("try ", "end code")):
             break

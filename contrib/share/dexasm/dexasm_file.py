@@ -153,6 +153,12 @@ def units_of(data, code):
     return struct.unpack_from(f"<{struct.unpack_from('<I', data, code + 12)[0]}H", data, code + 16)
 
 
+def addresses(data, code):
+    """Of each instruction and each payload of the code that is there: its offset in the file, and its address in units.
+    """
+    return ((code + 16 + 2 * at, at) for at, _ in steps(units_of(data, code)))
+
+
 def insns(units):
     """Each instruction that isn't a payload: its opcode and its first unit's place."""
     return ((units[at] & 0xFF, at) for at, _ in steps(units) if units[at] not in PAYLOADS)

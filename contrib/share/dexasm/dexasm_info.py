@@ -22,7 +22,7 @@ FIELDS = (
 )  # fmt: skip
 IN_HEXADECIMAL = ("checksum", "header_size", "endian_tag")
 # The map's kinds ("Dalvik Executable format", type codes).
-KINDS = {
+MAP_TYPES = {
     0x0000: "header_item",
     0x0001: "string_id_item",
     0x0002: "type_id_item",
@@ -148,7 +148,7 @@ def map_entries(data: bytes) -> list[dict]:
     at, count = map_place(data) or (0, 0)
     found = (struct.unpack_from("<HHII", data, at + 4 + 12 * i) for i in range(count))
     return [
-        {"type": kind, "name": KINDS.get(kind, f"unknown 0x{kind:04x}"), "size": size, "offset": offset}
+        {"type": kind, "name": MAP_TYPES.get(kind, f"unknown 0x{kind:04x}"), "size": size, "offset": offset}
         for kind, _, size, offset in found
     ]
 
@@ -196,6 +196,17 @@ def row_of(tables: Tables, table: str, row: int) -> str | dict:
         "interfaces": [tables.type_name(one) for one in tables.types_at(interfaces)],
         "source": None if source == ABSENT else tables.text(source),
     }
+
+
+def line_of(table: str, row: str | dict) -> str:
+    """What a row says, in the words of a listing."""
+    if isinstance(row, str):
+        return quoted(row) if table == "string" else spelled(row)
+    words = [spelled(row["class"]), f"0x{row['flags']:x}", row["access"]]
+    words += [f"super {spelled(row['superclass'])}"] if row["superclass"] is not None else []
+    words += [f"implements {spelled(one)}" for one in row["interfaces"]]
+    words += [f"source {quoted(row['source'])}"] if row["source"] is not None else []
+    return " ".join(filter(None, words))
 
 
 def row_or_none(readable: Readable, table: str, row: int) -> str | dict | None:

@@ -4,7 +4,7 @@ from __future__ import annotations
 from collections.abc import Iterator
 
 from dexasm_contrib import USAGE, Failed, escaped, module
-from dexasm_file import Tables, steps, units_of
+from dexasm_file import Tables, addresses
 
 HEAD = "dex 035 listing 2"
 BLANK = " " * len("00000000 0000 ")
@@ -60,10 +60,10 @@ def behind(text: str, data: bytes, code: int | None) -> Iterator[str]:
         return
     yield BLANK + next(lines)
     yield BLANK + next(lines)  # (registers)
-    for at, _ in steps(units_of(data, code)):
+    for offset, address in addresses(data, code):
         line = next(lines)
         while line.startswith(":"):
             yield BLANK + line
             line = next(lines)
-        yield f"{code + 16 + 2 * at:08x} {at:04x} {line}"
+        yield f"{offset:08x} {address:04x} {line}"
     yield from (BLANK + line for line in lines)
