@@ -22,14 +22,15 @@ _dexasm_helper() {
     dexasm-browse) first='' options='--help --version --output --graphs' ;;
     dexasm-check) first='' options='--help --version --quiet --color --jobs --seconds --memory --json --program --sarif --github --junit' ;;
     dexasm-close) first='' options='--help --version --output --check' ;;
-    dexasm-corpus) first='add refused same classes callers strings libraries merge sum' options='--help --version --processes --seconds --memory --again --strict --scheduler --trust --send --json --csv --pattern --classes --known --verify' ;;
+    dexasm-corpus) first='add refused same classes callers strings libraries merge sum' options='--help --version --processes --seconds --memory --again --strict --scheduler --trust --send --json --csv --csv-raw --pattern --classes --known --verify' ;;
     dexasm-diff) first='' options='--help --version --names --color --textconv' ;;
     dexasm-explain) first='' options='--help --version --json' ;;
     dexasm-graph) first='' options='--help --version --format --calls --from --depth' ;;
     dexasm-info) first='' options='--help --version --json --hex' ;;
     dexasm-lint) first='' options='--help --version' ;;
+    dexasm-merge) first='' options='--help --version --same --output' ;;
     dexasm-query) first='classes strings calls fields tables show' options='--help --version --lines --addresses' ;;
-    dexasm-size) first='' options='--help --version --by --sort --html' ;;
+    dexasm-size) first='' options='--help --version --by --sort --json --csv --csv-raw --html' ;;
     dexasm-split) first='' options='--help --version --join' ;;
   esac
   case $name/${COMP_WORDS[COMP_CWORD - 1]} in
@@ -37,7 +38,7 @@ _dexasm_helper() {
     dexasm-check/--color) words='auto always never' ;;
     dexasm-diff/--color) words='auto always never' ;;
     dexasm-graph/--format) words='dot svg json' ;;
-    dexasm-size/--by) words='package class' ;;
+    dexasm-size/--by) words='package class method string' ;;
     dexasm-size/--sort) words='total code strings tables values debug unused strip name' ;;
     *) if [[ $word == -* ]]; then words=$options; elif ((COMP_CWORD == 1)); then words=$first; fi ;;
   esac
@@ -48,4 +49,4 @@ _dexasm_helper() {
   fi
 }
 complete -o filenames -F _dexasm dexasm
-complete -o filenames -F _dexasm_helper dexasm-apk dexasm-browse dexasm-check dexasm-close dexasm-corpus dexasm-diff dexasm-explain dexasm-graph dexasm-info dexasm-lint dexasm-query dexasm-size dexasm-split
+complete -o filenames -F _dexasm_helper dexasm-apk dexasm-browse dexasm-check dexasm-close dexasm-corpus dexasm-diff dexasm-explain dexasm-graph dexasm-info dexasm-lint dexasm-merge dexasm-query dexasm-size dexasm-split

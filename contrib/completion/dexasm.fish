@@ -47,6 +47,7 @@ complete -c dexasm-corpus -l trust
 complete -c dexasm-corpus -l send
 complete -c dexasm-corpus -l json
 complete -c dexasm-corpus -l csv
+complete -c dexasm-corpus -l csv-raw
 complete -c dexasm-corpus -l pattern
 complete -c dexasm-corpus -l classes
 complete -c dexasm-corpus -l known
@@ -71,6 +72,10 @@ complete -c dexasm-info -l json
 complete -c dexasm-info -l hex
 complete -c dexasm-lint -l help
 complete -c dexasm-lint -l version
+complete -c dexasm-merge -l help
+complete -c dexasm-merge -l version
+complete -c dexasm-merge -l same
+complete -c dexasm-merge -l output -r -F
 complete -c dexasm-query -n __fish_use_subcommand -a 'classes strings calls fields tables show'
 complete -c dexasm-query -l help
 complete -c dexasm-query -l version
@@ -78,8 +83,11 @@ complete -c dexasm-query -l lines
 complete -c dexasm-query -l addresses
 complete -c dexasm-size -l help
 complete -c dexasm-size -l version
-complete -c dexasm-size -l by -x -a 'package class'
+complete -c dexasm-size -l by -x -a 'package class method string'
 complete -c dexasm-size -l sort -x -a 'total code strings tables values debug unused strip name'
+complete -c dexasm-size -l json
+complete -c dexasm-size -l csv
+complete -c dexasm-size -l csv-raw
 complete -c dexasm-size -l html -r -F
 complete -c dexasm-split -l help
 complete -c dexasm-split -l version

@@ -17,6 +17,8 @@ HELPED = (
     ("dexasm check hello.dex 2>&1 | dexasm-explain hello.dex | sed -n 2p", "  8: the Adler-32 differs: the file was damaged or changed.\n"),
     ("dexasm assemble hello.txt --output good.dex && dexasm-size good.dex --html size.html | tail -n 1 | grep -o all$", "all\n"),
     ("dexasm-info --hex 0..4 good.dex | tail -n 1", "00000000  64 65 78 0a              magic 64 65 78 0a 30 33 35 00\n"),
+    ("dexasm-merge --same good.dex good.dex --output both.dex && cmp good.dex both.dex", ""),
+    ("dexasm-size good.dex both.dex | tail -n 1 | grep -o all$", "all\n"),
     ("dexasm-browse good.dex --output pages && ls pages/class", "0.html\n"),
 )
 

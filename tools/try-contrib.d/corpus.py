@@ -48,6 +48,7 @@ static k Ljava/lang/String; 0x9 = string "key"
 static o Ljava/lang/String; 0x9 = string "once"
 end class
 """
+WIDE = "\uff1d1"  # (some spreadsheets take the wide forms of =1 too)
 ALL = ("name", "string", "program", "file", "path", "unread", "class", "has", "member", "call", "use")
 
 
@@ -249,12 +250,49 @@ def try_answers():
     )
     seen = tool("dexasm-corpus", "callers", "--csv", "c.db", "Ll/B;->take(Ljava/lang/String;)V", at=at)
     check("dexasm-corpus, --csv", [row[3] for row in csv.reader(io.StringIO(seen[1]))][:2] == ["path", "f/a.dex"], seen)
-    found = {(row["program"], row["path"]) for row in asked(at, "same", "c.db")}
-    check("dexasm-corpus, same", found == set(), found)
     put(at, "g.dex", padded(first))
     added("one program once more", at, "c.db", "g.dex")
     found = [row["path"] + row["entry"] for row in asked(at, "same", "c.db")]
     check("dexasm-corpus, same", sorted(found) == ["f/a.dex", "f/b.dex", "f/x.apkclasses.dex", "g.dex"], found)
+
+
+def try_same():
+    """Copies to the byte are one program at several paths, whatever these are called, in each form; what stands at one
+    path, or is refused, isn't there.
+    """
+    at, copy, one, names = room("corpus same"), assembled(LISTING), assembled(HEAD + APP), [*NAMES, "=1+1", WIDE]
+    for name in names:
+        put(at, f"{name}.dex", copy)
+    put(at, "two.apk", archive(("classes.dex", copy), ("classes2.dex", copy)))
+    put(at, "other.dex", padded(copy))
+    put(at, "alone.dex", one)
+    put(at, "cut1.dex", copy[:-1])
+    put(at, "cut2.dex", copy[:-1])
+    shell("printf '%s\\0' * | dexasm-corpus add --processes 1 c.db - && dexasm-corpus merge m.db c.db", at)
+    sha = lambda given: hashlib.sha256(given).hexdigest()
+    program, entries = sha(dexasm("strip", given=copy)), [("two.apk", "classes.dex"), ("two.apk", "classes2.dex")]
+    want = [(program, sha(copy), len(copy), *place) for place in [*((f"{name}.dex", "") for name in names), *entries]]
+    want.append((program, sha(get(at, "other.dex")), len(copy) + 4, "other.dex", ""))
+    for file in ("c.db", "m.db"):
+        found = [tuple(row.values()) for row in asked(at, "same", file)]
+        check(f"dexasm-corpus, same, copies in {file}", sorted(found) == sorted(want), set(found) ^ set(want))
+        check(f"dexasm-corpus, same, copies together in {file}", found == sorted(found), found)
+    seen = tool("dexasm-corpus", "same", "c.db", at=at)
+    is_so = seen[1].count("\n") == len(want) + 1 and ESC not in seen[1] and "\\x1b[31mred.dex" in seen[1]
+    check("dexasm-corpus, same, a line for each copy", (seen[0], seen[2]) == (0, "") and is_so, seen)
+    for form, before in (("--csv", "'"), ("--csv-raw", "")):
+        seen = tool("dexasm-corpus", "same", form, "c.db", at=at)
+        head, *found = csv.reader(io.StringIO(seen[1].encode("latin1").decode("utf8")))
+        cells = {row[3] for row in found}
+        is_so = {f"{before}=1+1.dex", f"{before}{WIDE}.dex", f"{before}-x.dex", "\\x1b[31mred.dex"} < cells
+        is_so = is_so and head == ["program", "file", "size", "path", "entry"] and len(found) == len(want)
+        check(f"dexasm-corpus, same {form}", is_so and ESC not in seen[1], seen)
+    added("alone", at, "alone.db", "alone.dex")
+    check("dexasm-corpus, same, of one file at one path", asked(at, "same", "alone.db") == [])
+    os.link(os.path.join(at, "alone.dex"), os.path.join(at, "copy.dex"))
+    added("alone, twice", at, "alone.db", "alone.dex", "copy.dex", "copy.dex", "./copy.dex")
+    found = [row["path"] for row in asked(at, "same", "alone.db")]
+    check("dexasm-corpus, same, a path that is added twice", found == ["./copy.dex", "alone.dex", "copy.dex"], found)
 
 
 def padded(file):
@@ -437,6 +475,7 @@ TRIES = (
     try_shapes,
     try_limits,
     try_answers,
+    try_same,
     try_order,
     try_libraries,
     try_wrong,

@@ -13,7 +13,7 @@ import shutil
 import sqlite3
 
 from apk import archive
-from corpus import added, padded, programs, rows, sums
+from corpus import WIDE, added, padded, programs, rows, sums
 from recipes import blocks
 from streams import each, is_line
 from trying import ESC, HEAD, TOOLS, assembled, can_trace, check, get, is_one_line, put, room, run, shell, tool
@@ -158,7 +158,6 @@ def try_only_asked():
 
 # Strings and names of files that a spreadsheet could take for formulas, and what `--csv` makes of them.
 CELLS = {"=1+1": "'=1+1", "+1+1": "'+1+1", "-1": "'-1", "@SUM(1)": "'@SUM(1)", "'=1": "'=1", "1=1": "1=1"}
-WIDE = "\uff1d1"  # (some spreadsheets take the wide forms too)
 
 
 def try_cells():

@@ -228,6 +228,7 @@ def try_sights():
     has_flows = shutil.which("dot") is not None
     tool("dexasm-size", "--html", "size.html", "many.dex", at=at)
     tool("dexasm-size", "--html", "names.html", "names.dex", at=at)
+    tool("dexasm-size", "--html", "grown.html", "names.dex", "many.dex", at=at)
     tool("dexasm-browse", "many.dex", "--output", "many", *(("--graphs", "all") if has_flows else ()), at=at)
     tool("dexasm-browse", "names.dex", "--output", "names", at=at)
     top = f"file://{at.replace(' ', '%20')}"
@@ -235,6 +236,9 @@ def try_sights():
         for name in ("size", "many/index", "many/package/0"):
             for width in (400, 1280):
                 look(page, top, name, width)
+        for width in (400, 1280):
+            fits(page, top, "grown", width)
+        sorts(page, top, "grown")
         if has_flows:
             for width in (400, 1280):
                 flows(page, f"{top}/many/class/0.html", width)
@@ -280,25 +284,41 @@ SCROLLS = """(() => {
 })()"""
 
 
-def look(page, top, name, width):
+def fits(page, top, name, width):
+    """Whether a page of tables is no wider than the window, and their names are in sight."""
     size_to(page, width)
     page.open(f"{top}/{name}.html")
-    wide, high = page.run("[document.documentElement.scrollWidth, document.documentElement.scrollHeight]")
+    wide = page.run("document.documentElement.scrollWidth")
     check(f"{name} at {width}, no wider than the window", wide <= width, wide)
-    check(f"{name} at {width}, no higher than its rows need", high < 60_000, high)
     columns = page.run(COLUMNS)
     check(
         f"{name} at {width}, names have 12 letters in a line, in sight",
         columns and all(count >= 12 and 0 <= left and right <= width for count, left, right in columns),
         columns,
     )
+    page.keep(f"{name}-{width}")
+
+
+def sorts(page, top, name):
+    """A click on a head puts the numbers in their order, the greatest first, and another one turns it."""
+    page.open(f"{top}/{name}.html")
+    for head, is_turned in ((0, False), (0, True), (7, False)):
+        cells = f"[...document.querySelector('tbody').rows].map((row) => row.cells[{head}].textContent)"
+        page.run(f"document.querySelectorAll('th')[{head}].click()")
+        numbers = [int(cell.replace(",", "")) for cell in page.run(cells)]
+        check(f"{name}, sorted by column {head}", numbers == sorted(numbers, reverse=not is_turned), numbers[:9])
+
+
+def look(page, top, name, width):
+    fits(page, top, name, width)
+    high = page.run("document.documentElement.scrollHeight")
+    check(f"{name} at {width}, no higher than its rows need", high < 60_000, high)
     out, letter = page.run(LABELS)
     check(f"{name} at {width}, labels in their box", out == 0, out)
     check(f"{name} at {width}, letters of the picture", letter >= LETTER, letter)
     scrolls, is_said = page.run(SCROLLS)
     is_so = scrolls == is_said == (width == 400)
     check(f"{name} at {width}, the picture scrolls and says so", is_so, (scrolls, is_said))
-    page.keep(f"{name}-{width}")
     for is_dark in (False, True):
         page.scheme(is_dark)
         ground, ink = page.run("['backgroundColor', 'color'].map((name) => getComputedStyle(document.body)[name])")

@@ -59,7 +59,8 @@ def with_names(block, name):
 def prepared(what, name):
     """A room with an archive, two files, one of another constant, and a listing with a wrong register."""
     at = room(f"recipe {what}")
-    file, other = assembled(TEXT), assembled(TEXT.replace(b"v0 41", b"v0 42"))
+    file = assembled(TEXT)
+    other = assembled(TEXT.replace(b"v0 41", b"v0 42").replace(b"return v0", b"nop\nnop\nreturn v0"))
     for one, given in (("a", file), ("b", other), ("build1", file), ("build2", file), ("classes", file)):
         put(at, f"{name}{one}.dex", given)
     put(at, f"{name}a.txt", TEXT.replace(b"const/16 v0 41", b"const/16 v9 41"))
@@ -80,7 +81,8 @@ def try_blocks():
         ("Two files", 1): ("differ",),
         ("A class or a method", 0): ("class LHello; 0x1\n", "end class\n", "direct get (Z)I 0x9\n", "return-void"),
         ("Queries", 0): ('"LHello;->get(Z)I": []', "\nLHello;->ask()V\n"),
-        ("What takes the space", 0): ("  LHello;\n", "  all\n"),
+        ("What takes the space", 0): ("  LHello;\n", "  LHello;->get(Z)I\n", "  all\n"),
+        ("A build that grew", 0): ("  grew  LHello;->get(Z)I\n", "  all\n"),
     }
     for (head, which), words in wants.items():
         text = found[head][which]
@@ -110,6 +112,22 @@ def try_blocks():
         seen[1].startswith("direct get (Z)I 0x9\ncode 2 1 0\n") and seen[1].endswith("return v0\nend code\n"),
         seen,
     )
+
+
+def try_merged():
+    """Several files in one, by plain names and by evil ones: each command as it stands, on files that are for it."""
+    lines = blocks("docs/RECIPES.md")["Several files in one"][0]
+    first, second = assembled(TEXT), assembled(HEAD + b"class LOther; 0x1\nsuper LHello;\nend class\n")
+    for name in ("", EVIL):
+        at = room(f"merged {bool(name)}")
+        put(at, f"{name}a.dex", first)
+        put(at, f"{name}b.dex", second)
+        put(at, f"{name}app.apk", archive(("classes.dex", second), ("classes2.dex", first)))
+        seen = shell(f"set -e\n{with_names(lines, name)}", at)
+        listed = {one: dexasm("list", given=get(at, f"{name}{one}.dex")) for one in ("ab", "app", "a")}
+        other = b"class LOther; 0x1\nsuper LHello;\nend class\n"
+        is_so = seen == (0, "", "") and {listed["ab"], listed["app"]} == {listed["a"] + other}
+        check(f"RECIPES: several files in one, {name!r}", is_so and "PWNED" not in seen_in(at), seen)
 
 
 def try_signed():
@@ -304,6 +322,8 @@ def try_page():
         "A class or a method": 1,
         "Queries": 1,
         "What takes the space": 1,
+        "A build that grew": 1,
+        "Several files in one": 1,
         "Many files": 2,
         "A corpus": 4,
     }
@@ -311,4 +331,4 @@ def try_page():
     check("RECIPES: as many recipes as are tried", found == known, found)
 
 
-TRIES = (try_page, try_blocks, try_signed, try_same, try_git, try_split, try_many, try_parallel)
+TRIES = (try_page, try_blocks, try_merged, try_signed, try_same, try_git, try_split, try_many, try_parallel)

@@ -25,12 +25,13 @@ WORDS = {
     "graph": "--calls a.dex",
     "info": "a.dex",
     "lint": "b.dex",
+    "merge": "b.dex c.txt --output merged",
     "query": "classes a.dex",
     "size": "a.dex",
     "split": "--join classes",
 }
 ENDS, FAILS = {"diff": 1}, {"diff": 2}  # statuses, where they aren't 0 and 3
-SILENT = ("browse",)  # on standard output
+SILENT = ("browse", "merge")  # on standard output
 UNREAD = "( sleep 0.3; {} ) | true; exit ${{PIPESTATUS[0]}}"
 
 
@@ -39,6 +40,7 @@ def prepared(name):
     at, file = room(name), assembled(LISTING)
     put(at, "a.dex", file)
     put(at, "b.dex", assembled(HEAD + b"class LA; 0x1\nend class\n"))
+    put(at, "c.txt", HEAD + b"class LB; 0x1\nsuper LA;\nend class\n")
     put(at, "a.apk", archive(("classes.dex", file)))
     put(at, "told", b"dexasm: refused 1 TooShort at 7\n")
     shell("dexasm-split a.dex classes; dexasm-corpus add --processes 1 c.db a.dex", at)
@@ -74,7 +76,8 @@ def try_streams():
         check(f"dexasm-{name}, nobody reads", seen == (ENDS.get(name, 0), "", ""), seen)
     silent = [f"{one} >/dev/full 2>/dev/full" for one in good] + [f"{one} >&- 2>&- <&-" for one in good]
     for text, seen in each(silent + [f"dexasm-{name} none --none 2>/dev/full" for name in WORDS], at):
-        want = (0,) if "browse a.dex" in text and "full" in text else (2,) if "none" in text else (2, 3)
+        is_silent = any(f"-{name} {WORDS[name]}" in text for name in SILENT)
+        want = (0,) if is_silent and "full" in text else (2,) if "none" in text else (2, 3)
         check(text, seen[0] in want and seen[1:] == ("", ""), seen)
 
 
@@ -185,8 +188,10 @@ def try_commands():
     """Over such a command: one line, and the status of what failed. (Of a class by its name alone a line is made.)"""
     at = prepared("streams commands")
     jobs = ["browse a.dex --output pages", "diff a.dex b.dex", "graph --calls a.dex", "lint a.dex"]
+    sizes = ["size a.dex", "size --by string a.dex b.dex"]
     for number, (command, path) in enumerate(answers(at)):
-        texts = [f"dexasm-{words}" for words in ("query calls a.dex", "size a.dex", jobs[number % 4])]
+        words = "query calls a.dex", sizes[number % 2], jobs[number % 4], "merge a.dex --output merged"
+        texts = [f"dexasm-{one}" for one in words]
         for text, seen in each(texts, at, DEXASM_COMMAND=path):
             said = re.sub(r"^.*: it can't be stripped, so .*\n", "", seen[2])  # (what dexasm-browse says before)
             # (two classes of one text are the same without being read)

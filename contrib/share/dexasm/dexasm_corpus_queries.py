@@ -21,7 +21,8 @@ order by 4 desc, 1, 2, 3
 SAME = """
 select lower(hex(p.sha256)), lower(hex(f.sha256)), f.size, path, entry from program p
 join file f on f.program = p.id left join path on path.file = f.id
-where p.id in (select program from file where program is not null group by program having count(*) > 1)
+where p.id in (select program from file left join path on path.file = file.id where program is not null
+  group by program having count(*) > 1)
 order by 1, 2, 4, 5
 """
 SEVERAL = """

@@ -8,6 +8,17 @@ from dexasm_contrib import page
 
 # Faults whose place is a line, how many are needed, a class of a program.
 OF_LINES, OF_COUNTS, OF_CLASSES = range(100, 110), range(80, 82), (*range(82, 90), *range(110, 120))
+# What mends a limit, where there is no listing that tells more.
+MENDS = {
+    80: "a file has no more than 65535 types: the program has to be split",
+    81: "a file has no more than 65535 prototypes: the program has to be split",
+    82: "`const-string/jumbo` reaches each string",
+    83: "no instruction reaches further: the program has to be split",
+    84: "no instruction reaches further: the program has to be split",
+    85: "`goto/16` and `goto/32` reach further than `goto`, the opposite `if` over a `goto/32` further than an `if`",
+    86: "`dexasm assemble --align` puts a nop before each such payload",
+    87: "two tries with the same handlers cover what one can't",
+}
 # What stands alone where the pages' sentence leans on the one before it.
 ALONE = {
     100: "the line isn't of the listing's form: a character or an escape that can't be, a text that isn't closed, an "

@@ -6,6 +6,7 @@ number is asked whether it leads into the file."""
 import struct
 
 HEADER, MAP_OFF = 112, 52
+LONGEST_CHARACTER = 6  # bytes in MUTF-8: two surrogates
 TABLES = (("string", 56, 4), ("type", 64, 4), ("proto", 72, 12), ("field", 80, 8), ("method", 88, 8), ("class", 96, 32))
 ABSENT = 0xFFFFFFFF
 # Whose a byte is: a class's, by its row from 0 on; several classes'; no class's; the file's own.
@@ -258,6 +259,15 @@ class Owners:
         self.of[table][index] = owner if old in (NOBODY, owner) else SEVERAL
 
 
+def from_mutf8(spelled):
+    return (
+        spelled.replace(b"\xc0\x80", b"\0")
+        .decode("utf8", "surrogatepass")
+        .encode("utf-16-le", "surrogatepass")
+        .decode("utf-16-le", "surrogatepass")
+    )
+
+
 class Tables:
     """The six tables of a file, and what their rows name."""
 
@@ -274,13 +284,21 @@ class Tables:
         """A string as it is, from MUTF-8."""
         reader = Reader(self.data, self.numbers("string", string, "<I")[0])
         reader.uleb()
-        spelled = self.data[reader.at : self.data.index(0, reader.at)]
-        return (
-            spelled.replace(b"\xc0\x80", b"\0")
-            .decode("utf8", "surrogatepass")
-            .encode("utf-16-le", "surrogatepass")
-            .decode("utf-16-le", "surrogatepass")
-        )
+        return from_mutf8(self.data[reader.at : self.data.index(0, reader.at)])
+
+    def beginning(self, string, most):
+        """The first characters of a string, so many at most; and how many units it has if it has more, or else 0. What
+        lies behind them isn't looked at, since strings can overlap.
+        """
+        reader = Reader(self.data, self.numbers("string", string, "<I")[0])
+        units, begin = reader.uleb(), reader.at
+        end = self.data.find(0, begin, begin + LONGEST_CHARACTER * (most + 1))
+        if end < 0:
+            end = begin + LONGEST_CHARACTER * (most + 1)
+            while self.data[end] & 0xC0 == 0x80:
+                end -= 1
+        text = from_mutf8(self.data[begin:end])
+        return text[:most], units if len(text) > most else 0
 
     def type_name(self, index):
         return self.text(self.numbers("type", index, "<I")[0])
@@ -458,10 +476,28 @@ class Dex(Tables):
                 begin = self.at[table] + size * index
                 self.claim(begin, begin + size, kind if owner != NOBODY else UNUSED, owner)
         for index, owner in enumerate(of["string"]):
-            begin = Reader(self.data, self.numbers("string", index, "<I")[0])
-            at = begin.at
-            begin.uleb()
-            self.claim(at, self.data.index(0, begin.at) + 1, STRINGS if owner != NOBODY else UNUSED, owner)
+            self.claim(*self.string_data(index), STRINGS if owner != NOBODY else UNUSED, owner)
+
+    def string_data(self, index):
+        """Where a string's item begins, and where it ends."""
+        reader = Reader(self.data, self.numbers("string", index, "<I")[0])
+        begin = reader.at
+        reader.uleb()
+        return begin, self.data.index(0, reader.at) + 1
+
+    # ---- parts of what a class has
+
+    def claims_of_string(self, index):
+        """Those of a string: its row, and its item."""
+        kind = STRINGS if self.owners.of["string"][index] != NOBODY else UNUSED
+        row = self.at["string"] + self.row["string"] * index
+        return (row, row + self.row["string"], kind), (*self.string_data(index), kind)
+
+    def claims_of_code(self, at):
+        """Those of a code: its item, and its debug information where that could be followed."""
+        code = self.item(Code, at)
+        end = self.followed.get((read_debug, code.debug), (code.debug,))[0]
+        return [(at, code.end, CODE)] + [(code.debug, end, DEBUG)] * (end > code.debug > 0)
 
     # ---- what dexasm doesn't look at
 
@@ -551,16 +587,20 @@ def between(taken, rest):
             at += 1
 
 
-def sizes(dex):
-    """Each class's name, and the bytes of each kind that a class, several of them, none or the file itself has.
+def sizes(dex, parts=None):
+    """Each class's name, and the bytes of each kind that a class, several of them, none or the file itself has; and
+    those that one of `parts` has, where it has a claim to itself.
 
     Each byte is counted once: as the program's, if it has it, and as the first item's. So all of them are the file's
     length.
     """
+    parts = parts or {}
+    claims = {claim: parts.get(claim, owner) for claim, owner in dex.claims.items()}
     is_programs = lambda claim: claim[0][2] not in (DEBUG, UNUSED)
-    program = list(disjoint(filter(is_programs, dex.claims.items())))
-    rest = list(disjoint(claim for claim in dex.claims.items() if not is_programs(claim)))
-    taken = {owner: [0] * len(KINDS) for owner in (*range(len(dex.names)), SEVERAL, NOBODY, FILE)}
+    program = list(disjoint(filter(is_programs, claims.items())))
+    rest = list(disjoint(claim for claim in claims.items() if not is_programs(claim)))
+    owners = *range(len(dex.names)), SEVERAL, NOBODY, FILE, *parts.values()
+    taken = {owner: [0] * len(KINDS) for owner in owners}
     for begin, end, kind, owner in (*program, *between(program, rest)):
         taken[owner][kind] += end - begin
     taken[FILE][UNUSED] += len(dex.data) - sum(map(sum, taken.values()))

@@ -5,7 +5,7 @@ from __future__ import annotations
 
 import os
 import unicodedata
-from collections.abc import Callable, Iterator
+from collections.abc import Callable, Iterable, Iterator
 
 from dexasm_html import drawn_text, plain, row, seen, table, text
 
@@ -33,7 +33,8 @@ for (const head of document.querySelectorAll('th')) {
     const isName = at === head.parentNode.cells.length - 1;
     const value = (row) => row.cells[at].textContent.replaceAll(',', '');
     const number = (row) => Number(value(row)) || 0;
-    const order = (a, b) => isName ? value(a).localeCompare(value(b)) : number(b) - number(a);
+    const text = (a, b) => value(a).localeCompare(value(b));
+    const order = (a, b) => isName ? text(a, b) : number(b) - number(a) || text(a, b);
     const rows = [...body.rows].sort(order);
     if (head.getAttribute('aria-sort') === 'descending') rows.reverse();
     const isReversed = head.getAttribute('aria-sort') === 'descending';
@@ -219,20 +220,28 @@ def sums(title: str, columns, rows) -> Iterator[str]:
     yield table("By their bytes", (*columns, "name"), lines, row(total_of(rows.values()), "all"))
 
 
-def html_page(name: str, columns, rows, packages) -> str:
-    total = sum(numbers[0] for numbers in rows.values())
+def page_of(title: str, parts: Iterable[str]) -> str:
+    """A page that nothing of somebody else's making is obeyed on; `title` is no HTML yet."""
     policy = "default-src 'none'; style-src 'unsafe-inline'; script-src 'unsafe-inline'"
     return "\n".join(
         [
             '<!DOCTYPE html><html lang="en"><head><meta charset="utf-8">',
             f'<meta http-equiv="Content-Security-Policy" content="{policy}">',
             '<meta name="viewport" content="width=device-width, initial-scale=1">',
-            f"<title>{plain(name)}</title><style>{read('pages.css')}</style></head><body>",
-            f"<h1>What takes the space of {text(name)}: {total:,} bytes</h1>",
-            *picture(tree_of(rows)),
-            "<p>Click a column to sort by it. The column strip is what <code>dexasm strip</code> takes away.</p>",
-            *sums("Packages", columns, packages),
-            *sums("Classes", columns, rows),
+            f"<title>{plain(title)}</title><style>{read('pages.css')}</style></head><body>",
+            *parts,
             f"<script>{SCRIPT}</script></body></html>\n",
         ]
     )
+
+
+def html_page(name: str, columns, rows, packages) -> str:
+    total = sum(numbers[0] for numbers in rows.values())
+    parts = [
+        f"<h1>What takes the space of {text(name)}: {total:,} bytes</h1>",
+        *picture(tree_of(rows)),
+        "<p>Click a column to sort by it. The column strip is what <code>dexasm strip</code> takes away.</p>",
+        *sums("Packages", columns, packages),
+        *sums("Classes", columns, rows),
+    ]
+    return page_of(name, parts)
