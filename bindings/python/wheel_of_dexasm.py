@@ -15,6 +15,10 @@ BUILT = os.path.join(HERE, "..", "..", "crates", "dexasm_c", "out", "built", "li
 # What pip looks at: a Linux with glibc 2.17 or later, where the library loads (the program asks for 2.34). The name of a tag promises no more.
 TAG = "py3-none-manylinux_2_17_x86_64"
 EARLIEST = 315532800  # the first second that a zip archive can hold
+# What a page says to whoever has the repository alone.
+CHECKOUT = re.compile(r"^<!-- checkout -->\n.*?^<!-- /checkout -->\n\n?", re.S | re.M)
+# A link of a page, or code in which none is.
+LINK = re.compile(r"^```.*?^```|`[^`\n]*`|(!?)\[((?:[^][`]|`[^`\n]*`)*)\]\(([^)\s]+)\)", re.S | re.M)
 
 
 def get(*path):
@@ -30,6 +34,12 @@ def name_of_wheel():
     return f"dexasm-{version()}-{TAG}.whl"
 
 
+def described():
+    """The page as the wheel has it: without what needs the repository, and without links to what isn't there."""
+    page = CHECKOUT.sub("", get(HERE, "README.md").decode())
+    return LINK.sub(lambda found: found[0] if found[3] is None or re.match(r"\w+:|#", found[3]) else found[2], page).encode()
+
+
 def files_of_wheel(library):
     """Where each file stands in the wheel, and its bytes."""
     info = f"dexasm-{version()}.dist-info"
@@ -40,7 +50,7 @@ def files_of_wheel(library):
     head = ["Metadata-Version: 2.1", "Name: dexasm", f"Version: {version()}"]
     head += ["Summary: Checks, lists, assembles and strips .dex files, by libdexasm", "License: Apache-2.0"]
     head += ["Requires-Python: >=3.10", "Classifier: Operating System :: POSIX :: Linux", "Description-Content-Type: text/markdown"]
-    files[f"{info}/METADATA"] = "\n".join([*head, "", ""]).encode() + get(HERE, "README.md")
+    files[f"{info}/METADATA"] = "\n".join([*head, "", ""]).encode() + described()
     files[f"{info}/WHEEL"] = f"Wheel-Version: 1.0\nGenerator: dexasm\nRoot-Is-Purelib: false\nTag: {TAG}\n".encode()
     files[f"{info}/entry_points.txt"] = b"[console_scripts]\ndexasm = dexasm.__main__:main\n"
     rows = [f"{place},{digest(given)},{len(given)}\n" for place, given in sorted(files.items())]

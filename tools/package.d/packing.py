@@ -14,6 +14,7 @@ TOP = os.path.dirname(os.path.dirname(os.path.dirname(os.path.abspath(__file__))
 sys.path[:0] = [os.path.join(TOP, "bindings/python"), os.path.join(TOP, "bindings/java")]
 
 import jars_of_dexasm
+from wheel_of_dexasm import CHECKOUT, LINK
 
 HELPERS = sorted(os.listdir(f"{TOP}/contrib/bin"))
 # Where each file goes below the package's top, or below /usr.
@@ -48,8 +49,6 @@ FOLDERS = {
 # Where a shell looks for the words of each command: one file has those of all.
 COMPLETIONS = {"share/bash-completion/completions/%s": "dexasm", "share/fish/vendor_completions.d/%s.fish": "dexasm.fish"}
 LEFT_OUT = ("target", "man", "__pycache__", "Cargo.lock", ".gitignore")  # what is made, and what goes elsewhere
-# A link of a page, or code in which none is.
-LINK = re.compile(r"^```.*?^```|`[^`\n]*`|(!?)\[((?:[^][`]|`[^`\n]*`)*)\]\(([^)\s]+)\)", re.S | re.M)
 # The oldest C library that has what the program and libdexasm.so ask for.
 GLIBC = {"bin/dexasm": (2, 34), "lib/libdexasm.so.0": (2, 17)}
 
@@ -120,7 +119,18 @@ def below(folder, place):
         for name in sorted(set(names).difference(LEFT_OUT)):
             path = os.path.join(at, name)
             mode = 0o755 if os.access(path, os.X_OK) else 0o644
-            yield place + path.removeprefix(f"{TOP}/{folder}"), (get(path), mode)
+            yield place + path.removeprefix(f"{TOP}/{folder}"), (packed_page(path) or get(path), mode)
+
+
+def packed_page(path):
+    """A page without what needs the repository; README has there what docs/PACKAGE.md says. Nothing of what is no page."""
+    if not path.endswith(".md"):
+        return b""
+    text, instead = get(path).decode(), ""
+    if path == f"{TOP}/README.md":
+        page = get(f"{TOP}/docs/PACKAGE.md").decode().partition("\n\n")[2].rpartition("\n---\n")[0].strip()
+        instead = relinked(page, "docs/PACKAGE.md", {name: name for name in places()}, "README.md") + "\n\n"
+    return CHECKOUT.sub(lambda _: instead, text).encode()
 
 
 def places():
@@ -131,9 +141,10 @@ def places():
     return found
 
 
-def relinked(text, path, known):
+def relinked(text, path, known, goes=None):
     """A page's text with its links from where the page goes to where their targets go. To what isn't packed none leads:
     the words stay."""
+    here = os.path.dirname(goes or known[path])
 
     def moved(found):
         mark, words, target = found.groups()
@@ -143,8 +154,7 @@ def relinked(text, path, known):
         there = os.path.normpath(os.path.join(os.path.dirname(path), to))
         if there not in known:
             return words
-        at = os.path.relpath(known[there], os.path.dirname(known[path]))
-        return f"{mark}[{words}]({at}{'#' * bool(anchor)}{anchor})"
+        return f"{mark}[{words}]({os.path.relpath(known[there], here)}{'#' * bool(anchor)}{anchor})"
 
     return LINK.sub(moved, text)
 
@@ -176,7 +186,7 @@ def contents(program, library, is_given):
     for path, place in FOLDERS.items():
         held.update(below(path, place))
     for path, place in FILES.items():
-        held[place] = get(os.path.join(TOP, path)), 0o644
+        held[place] = packed_page(f"{TOP}/{path}") or get(f"{TOP}/{path}"), 0o644
     held.update({place % name: (to, 0o777) for place, to in COMPLETIONS.items() for name in HELPERS})
     return held
 
@@ -200,6 +210,8 @@ def java_of(library, time):
 def pack_tar(held, top, path, time):
     """The same bytes for the same files: sorted, with the commit's time, of nobody in particular."""
     held, packed = linked(held), io.BytesIO()
+    readme, known = packed_page(f"{TOP}/README.md").decode(), places()
+    held["README.md"] = relinked(readme, "README.md", known, "README.md").encode(), 0o644
     with tarfile.open(fileobj=packed, mode="w", format=tarfile.USTAR_FORMAT) as tar:
         for place in sorted(held):
             given, mode = held[place]

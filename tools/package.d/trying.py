@@ -11,6 +11,15 @@ import zipfile
 from packing import GLIBC, TOP, get
 
 LIMIT = 300  # seconds for a command
+# Pages that speak of how dexasm is made, and so of its toolchain; no other page of a package does.
+OF_MAKING = {f"docs/{name}.md" for name in ("COOKBOOK", "DECISIONS", "FILES", "MAP", "MEASURED", "PROVED")} | {"bench/LOG.md", "CHANGELOG.md"}
+TOOLCHAIN = re.compile(r"(?<![\w.-])rt(?![\w.-])|tools/(?:build|quick)|(?<![./])\./dexasm(?![\w-])|<!--")
+# What the lines of docs/PACKAGE.md are for.
+PATHS = """dexasm --version && dexasm-close --version && python3 -B -c 'import dexasm; print(dexasm.version())'
+if command -v pkg-config >/dev/null; then pkg-config --modversion dexasm; else echo none; fi
+if command -v man >/dev/null; then man -w dexasm-check | sed "s=^$PWD/=="; else echo none; fi
+complete -p dexasm | cut -c1-8
+"""
 # A helper over the module that they share, over a page, and over both modules.
 HELPED = (
     ("dexasm assemble hello.txt | dexasm-query calls", '{\n "LHello;->get(Z)I": []\n}\n'),
@@ -141,6 +150,7 @@ def headings(text):
 def try_links(tries, what, folder):
     """That each link of a page leads to what is packed, and to a heading that is there; and that there are some."""
     pages = sorted(glob.glob(f"{glob.escape(folder)}/share/doc/dexasm/**/*.md", recursive=True))
+    pages += glob.glob(f"{glob.escape(folder)}/README.md")
     lost, count = [], 0
     for page in pages:
         text = re.sub(r"^```.*?^```|`[^`\n]*`", "", get(page).decode(), flags=re.S | re.M)
@@ -152,6 +162,29 @@ def try_links(tries, what, folder):
     tries.check(f"{what}: links", count > 50 and not lost, (count, lost))
     names = {os.path.relpath(page, f"{folder}/share/doc/dexasm") for page in pages}
     tries.check(f"{what}: pages", {"README.md", "SECURITY.md", "CHANGELOG.md", "docs/PROVED.md"} <= names, names)
+
+
+def try_readers(tries, what, folder):
+    """That what a reader of a package meets speaks of no toolchain, which isn't there, and says where what lies."""
+    doc = f"{folder}/share/doc/dexasm"
+    pages = {os.path.relpath(page, doc): get(page).decode() for page in glob.glob(f"{glob.escape(doc)}/**/*.md", recursive=True)}
+    pages |= {name: get(f"{folder}/{name}").decode() for name in ("README.md",) if os.path.exists(f"{folder}/{name}")}
+    told = {name: TOOLCHAIN.findall(page) for name, page in pages.items() if name not in OF_MAKING}
+    tries.check(f"{what}: no page wants a toolchain", len(told) > 10 and not any(told.values()), {name: it for name, it in told.items() if it})
+    tries.check(f"{what}: README says where what lies", "\n## Install\n" in pages["README.md"] and "PKG_CONFIG_PATH" in pages["README.md"])
+
+
+def try_paths(tries, what, path, top, room):
+    """The lines of docs/PACKAGE.md for the archive, as they stand there, in a folder that has it."""
+    lines = re.search(r"^```bash\n(.*?)^```$", get(f"{TOP}/docs/PACKAGE.md").decode(), re.S | re.M)[1]
+    os.mkdir(f"{room}/sp ace")
+    shutil.copy(path, f"{room}/sp ace")
+    number = top.removeprefix("dexasm-").removesuffix("-linux-x86_64")
+    env = {"PATH": "/usr/local/bin:/usr/bin:/bin", "HOME": room, "LANG": "C.UTF-8"}
+    want = f"dexasm {number}\ndexasm-close {number}\n{number}\n"
+    want += f"{number if shutil.which('pkg-config', path=env['PATH']) else 'none'}\n"
+    want += f"{'share/man/man1/dexasm-check.1' if shutil.which('man', path=env['PATH']) else 'none'}\ncomplete\n"
+    tries.runs(f"{what}: the lines of PACKAGE", "bash", "-c", lines + PATHS, want=want, cwd=f"{room}/sp ace", env=env)
 
 
 def try_package(tries, path, top, sample):
@@ -168,6 +201,9 @@ def try_package(tries, path, top, sample):
         try_session(tries, what, folder, home)
         try_glibc(tries, what, folder)
         try_links(tries, what, folder)
+        try_readers(tries, what, folder)
+        if path.endswith(".gz"):
+            try_paths(tries, what, path, top, room)
         try_c(tries, what, folder, room)
         try_rust(tries, what, folder, room)
         try_java(tries, what, folder, room)
@@ -181,6 +217,11 @@ def try_wheels(tries, wheel, library, sample):
         with open(f"{room}/hello.dex", "wb") as file:
             file.write(sample)
         env = {name: value for name, value in os.environ.items() if name not in ("PYTHONPATH", "DEXASM_LIBRARY")}
+        with zipfile.ZipFile(wheel) as held:
+            told = held.read(next(name for name in held.namelist() if name.endswith("/METADATA"))).decode()
+        links = re.findall(r"\]\((?!https?:|#)[^)]*\)", told)
+        is_so = "## Programs as objects" in told and not links and not TOOLCHAIN.search(told)
+        tries.check("what the wheel says of itself", is_so, (links, TOOLCHAIN.findall(told)))
         for what, given, options in (
             (os.path.basename(wheel), wheel, env),
             ("bindings/python", f"{TOP}/bindings/python", {**env, "DEXASM_LIBRARY": f"{library}/libdexasm.so"}),

@@ -10,11 +10,13 @@ import pty
 import re
 import shlex
 import shutil
+import signal
 import socket
 import stat
 import struct
 import subprocess
 import sys
+import time
 import zipfile
 from urllib.parse import unquote_to_bytes
 from xml.etree import ElementTree
@@ -442,6 +444,34 @@ def try_limits():
     check("dexasm-check, nothing is left running", left == [], left)
 
 
+def try_interrupted():
+    """Control-C while a file is looked at: its status, no line, and nothing is left running."""
+    at = room("check interrupted")
+    program, slow = shlex.quote(Tries.program), '[ "$1" != check ] && exec {} "$@"\n: >"$0.begun"\nsleep 617'
+    command = fake(at, "fake/dexasm", slow.format(program))
+    put(at, "a.dex", assembled(LISTING))
+    env = {**Tries.env, "DEXASM_COMMAND": command}
+    streams = {"stdin": subprocess.DEVNULL, "stdout": subprocess.PIPE, "stderr": subprocess.PIPE}
+    # (a shell may have begun this test without that signal)
+    obeyed = {"preexec_fn": lambda: signal.signal(signal.SIGINT, signal.SIG_DFL)}
+    begun = subprocess.Popen([os.path.join(alone(), "dexasm-check"), "a.dex"], cwd=at, env=env, **streams, **obeyed)
+    for _ in range(200):
+        if os.path.exists(f"{command}.begun"):
+            break
+        time.sleep(0.05)
+    begun.send_signal(signal.SIGINT)
+    try:
+        said = begun.communicate(timeout=20)
+    except subprocess.TimeoutExpired:
+        begun.kill()
+        said = begun.communicate()
+    check("dexasm-check, interrupted", (begun.returncode, *said) == (130, b"", b""), (begun.returncode, said))
+    left = [one for one in os.listdir("/proc") if one.isdigit() and words_of(one) == [b"sleep", b"617"]]
+    check("dexasm-check, nothing is left running after it", left == [], left)
+    for one in left:
+        os.kill(int(one), signal.SIGKILL)
+
+
 def words_of(process):
     try:
         return get("/proc", process, "cmdline").split(b"\0")[:-1]
@@ -493,6 +523,23 @@ def try_many():
     for given, want in ((b"", 0), (b"\0\0\0", 0), (b"a.dex", 0), (b"a.dex\n", 3), (os.urandom(5000), 3)):
         seen = checked("-", at=at, given=given)
         check(f"dexasm-check, {given[:9]!r} on standard input", seen[0] == want and is_safe(seen[1]), seen)
+
+
+WORKERS = """
+import sys
+sys.path.insert(0, sys.argv[1])
+from dexasm_check import Verdict, count_workers
+for found, jobs in (([], 4), ([(b"a", 500)] * 1000, 4), ([(b"a", 500)] * 20000, 4), ([(b"a", 500)] * 20000, 2),
+    ([(b"a", 1 << 40)], 4), ([(b"a", 1 << 40)], 1), ([Verdict(b"a", "", None, "failed")] * 100000, 4)):
+    print(count_workers(found, jobs))
+"""
+
+
+def try_workers():
+    """A further worker is for what is worth one; the lines are the same (try_order)."""
+    share = os.path.join(TOP, "contrib", "share", "dexasm")
+    seen = run([sys.executable, "-B", "-c", WORKERS, share], at=room("check workers"))
+    check("dexasm-check, how many workers", seen == (0, "1\n1\n4\n2\n4\n1\n1\n", ""), seen)
 
 
 def try_order():
@@ -638,8 +685,10 @@ TRIES = (
     try_archives,
     try_bombs,
     try_limits,
+    try_interrupted,
     try_changes,
     try_many,
+    try_workers,
     try_order,
     try_commands,
     try_words,

@@ -130,6 +130,23 @@ def try_merged():
         check(f"RECIPES: several files in one, {name!r}", is_so and "PWNED" not in seen_in(at), seen)
 
 
+def try_words():
+    """Each command of the table of other tools' words ends well, and writes no more than it says."""
+    part = get(TOP, "docs/RECIPES.md").decode().partition("## Which word does it\n")[2].partition("\n## ")[0]
+    rows = [row.strip("|").replace("\\|", "\0").split("|") for row in re.findall(r"^\| .* \|$", part, re.M)[1:]]
+    commands = [one.replace("\0", "|") for row in rows for one in re.findall(r"`(dexasm[- ][^`]*)`", row[1])]
+    for command in commands:
+        at = prepared(f"word {command[:24]}".replace("/", ""), "")
+        put(at, "a.txt", TEXT)
+        status, out, said = shell(command, at)
+        wrote = [one for one in ("c.dex", "pages", "listings") if os.path.exists(os.path.join(at, one))]
+        # (one entry of the archive is refused, and the two files differ)
+        is_so = status == (1 if command.startswith(("dexasm-apk", "dexasm-diff")) else 0) and (out or wrote) and "Traceback" not in said
+        check(f"RECIPES: {command}", is_so and all(one in command for one in wrote), (status, out, said, wrote))
+    helpers = {command.split()[0] for command in commands}
+    check("RECIPES: words of other tools", len(commands) > 15 and len(rows) > 12 and len(helpers) > 9, commands)
+
+
 def try_signed():
     """README's three commands on a file that D8 before 1.6.20 signed: it is explained, closed and stripped."""
     lines = [line for line in blocks("README.md")["Recipes"][0].splitlines() if not line.startswith("#")]
@@ -331,4 +348,6 @@ def try_page():
     check("RECIPES: as many recipes as are tried", found == known, found)
 
 
-TRIES = (try_page, try_blocks, try_merged, try_signed, try_same, try_git, try_split, try_many, try_parallel)
+TRIES = (
+    try_page, try_blocks, try_words, try_merged, try_signed, try_same, try_git, try_split, try_many, try_parallel,
+)

@@ -15,6 +15,7 @@ sys.path[:0] = [os.path.join(TOP, "bindings", "java"), os.path.join(TOP, "tools"
 import jars_of_dexasm  # noqa: E402
 import out_cases  # noqa: E402
 from java_outs import QUICK, try_java_outs  # noqa: E402
+from java_places import try_places  # noqa: E402
 
 JAVA = os.path.join(TOP, "bindings", "java")
 JOBS = ("check", "list", "assemble", "align", "strip")
@@ -293,6 +294,7 @@ def try_java(check: Check, program: str, library: str, folder: str, paths: list[
         check("Java: it compiles", False, why)
         return
     try_cases(java, [*paths, *session(java)])
+    try_places(java)
     try_words(java, right)
     try_ends(java, right)
     try_streams(java, right)

@@ -1,6 +1,10 @@
 import dexasm.Dexasm;
 import dexasm.Refused;
+import java.io.ByteArrayInputStream;
+import java.io.ByteArrayOutputStream;
 import java.io.IOException;
+import java.io.ObjectInputStream;
+import java.io.ObjectOutputStream;
 import java.nio.ByteBuffer;
 import java.nio.ByteOrder;
 import java.nio.charset.StandardCharsets;
@@ -17,7 +21,8 @@ import java.util.zip.Adler32;
 
 /**
  * Tries the binding: {@code Tries FOLDER VERSION} on the cases that FOLDER/cases lists, each with what the command
- * answers; {@code Tries small FOLDER} with too small a heap. The last line is 'N tried, M failed'.
+ * answers; {@code Tries small FOLDER} with too small a heap; {@code Tries places FOLDER} on the listings that
+ * FOLDER/places lists, each with where it is refused. The last line is 'N tried, M failed'.
  */
 public final class Tries {
   private static final int BIG = 50_000_000; // bytes
@@ -36,6 +41,9 @@ public final class Tries {
   public static void main(String[] words) throws Exception {
     if (words[0].equals("small")) {
       trySmallHeap(Path.of(words[1]));
+    } else if (words[0].equals("places")) {
+      tryPlaces(Path.of(words[1]));
+      tryRefusals(Path.of(words[1]));
     } else {
       Path folder = Path.of(words[0]);
       for (String line : Files.readAllLines(folder.resolve("cases"))) {
@@ -196,6 +204,66 @@ public final class Tries {
     try (Stream<Path> names = Files.list(folder)) {
       check("what is left beside OUT", names.filter(name -> name.toString().endsWith(".part")).count(), 0L);
     }
+  }
+
+  /** Lines of places: file, whether aligned, the lines that may be told, class and member where these are asked. */
+  private static void tryPlaces(Path folder) throws IOException {
+    for (String line : Files.readAllLines(folder.resolve("places"))) {
+      String[] cells = line.split("\t", -1);
+      ByteBuffer text = ByteBuffer.wrap(Files.readAllBytes(folder.resolve(cells[0])));
+      Refused refused = refused(() -> Dexasm.assemble(text, cells[1].equals("1")));
+      Arrays.fill(text.array(), (byte) ' '); // (its owner may write it again)
+      String seen = refused == null ? "accepted" : String.valueOf(refused.line());
+      boolean isSo = List.of(cells[2].split(" ")).contains(seen);
+      check(cells[0] + ", a line of " + cells[2] + ", and not " + seen, isSo, true);
+      if (refused != null && !cells[3].isEmpty()) {
+        check(cells[0] + ", class and member", refused.className() + " " + refused.member(), cells[3]);
+      }
+    }
+  }
+
+  private static Refused refused(Action action) {
+    try {
+      action.run();
+    } catch (Refused refused) {
+      return refused;
+    } catch (Exception other) {
+      throw new AssertionError(other);
+    }
+    return null;
+  }
+
+  /** A refusal knows its place however the listing was given, and keeps no more than its words where it is sent. */
+  private static void tryRefusals(Path folder) throws Exception {
+    String listing = HELLO.replace("end class", "direct m ()V 9\ncode 1 0 0\nnop\nmove v0 v1\nend code\nend class");
+    Path file = Files.writeString(folder.resolve("refused.txt"), listing);
+    ByteBuffer direct = ByteBuffer.allocateDirect(listing.length() + 9);
+    direct.position(9);
+    direct.put(listing.getBytes(StandardCharsets.US_ASCII)).position(9);
+    for (Action each : List.<Action>of(
+        () -> Dexasm.assemble(listing, true),
+        () -> Dexasm.assemble(direct, false),
+        () -> {
+          Dexasm.assemble(file, folder.resolve("none"), false);
+          return null;
+        })) {
+      Refused refused = refused(each);
+      String seen = refused.number() + " " + refused.line() + " " + refused.className() + " " + refused.member();
+      check("the place of a refusal", seen, "118 6 LHello; LHello;->m()V");
+      check("its message", refused.getMessage(), "refused 118 Register at 0");
+    }
+    ByteArrayOutputStream sent = new ByteArrayOutputStream();
+    new ObjectOutputStream(sent).writeObject(refused(() -> Dexasm.assemble(listing, false)));
+    Refused come = (Refused) new ObjectInputStream(new ByteArrayInputStream(sent.toByteArray())).readObject();
+    check("a refusal that was sent", come.getMessage(), "refused 118 Register at 0");
+    check("its place", come.line() + " " + come.className() + " " + come.member(), "0 null null");
+    check("its size", sent.size() < 5000, true);
+    Refused of = refused(() -> Dexasm.assemble(HELLO.replace("0x1", "x"), false));
+    check("a fault of a line", of.number() + " " + of.line() + of.className() + of.member(), "102 2nullnull");
+    of = refused(() -> Dexasm.assemble("", false));
+    check("a fault of no line", of.number() + " " + of.line(), "106 0");
+    of = refused(() -> Dexasm.strip(new byte[118]));
+    check("a fault of a file", of.line() + of.className() + of.member(), "0nullnull");
   }
 
   /** Where Java is ending nothing waits for a file, so none is begun. */

@@ -16,22 +16,35 @@ from __future__ import annotations
 
 import ctypes
 import os
-import re
-import shutil
-import subprocess
 import sys
-from typing import Any
 
-from dexasm import faultline
-from dexasm.answers import is_answer
-from dexasm.faultline import Place
-from dexasm.names import FieldRef, MethodRef, Proto, Type, spelled
+TYPE_CHECKING = False  # (as in typing, which takes as long to read as all that is here)
+if TYPE_CHECKING:
+    from collections.abc import Iterable
+    from typing import Any
+
+    from dexasm.code import ArrayData, Catch, Code, Insn, Label, PackedSwitch, SparseSwitch, Try
+    from dexasm.faultline import Place
+    from dexasm.members import Class, Field, Method, Value
+    from dexasm.names import FieldRef, MethodRef, Proto, Type
+    from dexasm.program import Program
 
 __all__ = ["Refused", "assemble", "check", "fault_name", "strip", "version"]
 __all__ += ["ArrayData", "Catch", "Class", "Code", "Field", "FieldRef", "Insn", "Label", "Method", "MethodRef"]
 __all__ += ["PackedSwitch", "Place", "Program", "Proto", "SparseSwitch", "Try", "Type", "Value"]
 
 Data = bytes | bytearray | memoryview
+
+# What stands in which part. A part is read when it is first asked for: reading all takes several times as long as the
+# rest of this module, and whoever only checks or strips needs none.
+_PARTS = {
+    "code": ("ArrayData", "Catch", "Code", "Insn", "Label", "PackedSwitch", "SparseSwitch", "Try"),
+    "faultline": ("Place",),
+    "members": ("Class", "Field", "Method", "Value"),
+    "names": ("FieldRef", "MethodRef", "Proto", "Type"),
+    "program": ("Program",),
+}
+_PART_OF = {name: part for part, names in _PARTS.items() for name in names}
 
 _ANSWERED, _REFUSED, _MEMORY, _TOO_SMALL = 0, 1, 4, 5
 _INSIDE = "DEXASM_RUN_BY_PYTHON"  # set for a command that this module runs: that of a wheel is this module again
@@ -57,6 +70,8 @@ class Refused(ValueError):
     @property
     def where(self) -> Place | None:
         if self._listing is not None:
+            from dexasm import faultline
+
             self._where, self._listing = faultline.of(self._listing[0], self.number, self.place, self._listing[1]), None
         return self._where
 
@@ -91,6 +106,8 @@ class Refused(ValueError):
     def __str__(self) -> str:
         where, told = self.where, [str(self.args[0])]
         if where is not None and where.class_name is not None:
+            from dexasm.names import spelled
+
             at = "" if where.insn is None else f", instruction {where.insn}"
             told.append(f"{spelled(where.member or where.class_name)}{at}")
         if where is not None and where.sentence():
@@ -121,6 +138,8 @@ def _load() -> ctypes.CDLL | None:
 
 def _find_command() -> str:
     """The command, for where there is no library."""
+    import shutil
+
     if os.environ.get(_INSIDE):
         raise ImportError("libdexasm isn't found, and the command that was run for want of it is this module itself")
     asked = os.environ.get("DEXASM_COMMAND")
@@ -170,6 +189,11 @@ except (ImportError, OSError) as _error:
 
 def _run(job: str, given: bytes, *words: str) -> bytes:
     """The command's answer to a job."""
+    import re
+    import subprocess
+
+    from dexasm.answers import is_answer
+
     if _command is None:
         raise OSError(_missing)
     env = {**os.environ, _INSIDE: "1"}
@@ -269,7 +293,21 @@ def version() -> str:
     return _text(_library.dexasm_version)
 
 
-# (these call what is above)
-from dexasm.code import ArrayData, Catch, Code, Insn, Label, PackedSwitch, SparseSwitch, Try  # noqa: E402
-from dexasm.members import Class, Field, Method, Value  # noqa: E402
-from dexasm.program import Program  # noqa: E402
+if not TYPE_CHECKING:  # (by which a checker of types would take any name for one of this module)
+
+    def __getattr__(name: str) -> Any:
+        """A part, or what stands in one."""
+        from importlib import import_module
+
+        part = name if name in _PARTS else _PART_OF.get(name)
+        if part is None:
+            raise AttributeError(f"module {__name__!r} has no attribute {name!r}")
+        read = import_module(f"dexasm.{part}")
+        if part == name:
+            return read
+        globals()[name] = found = getattr(read, name)
+        return found
+
+
+def __dir__() -> Iterable[str]:
+    return sorted({*globals(), *_PARTS, *_PART_OF})

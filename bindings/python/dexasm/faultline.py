@@ -78,7 +78,7 @@ def _of_line(read: Listing, number: int, place: int) -> Place | None:
     spot = in_line(read, number, line, read.one(index, place - 1)) if number != 105 else None
     if number == 105:
         one = read.one(index)
-        spot = one and target_missing(one, line)
+        spot = target_missing(one, line) if one else None
     return _placed(read, index, spot or Spot(line), place)
 
 
@@ -91,7 +91,7 @@ def _placed(read: Listing, index: int, spot: Spot, last: int | None = None) -> P
     member, insn = one.member_at(number), None
     if member is not None and member.code is not None:
         insn = next((at for at, each in enumerate(member.code.insns) if each.number == number), None)
-    name, member_line = _class_name(one.head), member and member.line.number
+    name, member_line = _class_name(one.head), member.line.number if member else None
     ref = _ref(name, member.line) if name and member else None
     return Place(number, column, name, ref, insn, word, spot.why, one.head.number, member_line)
 
@@ -106,8 +106,8 @@ def _class_name(head: Line) -> Type | None:
 
 def _ref(owner: Type, line: Line) -> FieldRef | MethodRef | None:
     try:
-        of_kind = FieldRef.of if line.key in ("static", "instance") else MethodRef.of
-        return of_kind(owner, said(line.words[1]), said(line.words[2]))
+        name, of = said(line.words[1]), said(line.words[2])
+        return FieldRef.of(owner, name, of) if line.key in ("static", "instance") else MethodRef.of(owner, name, of)
     except (ValueError, LookupError):
         return None
 

@@ -54,7 +54,7 @@ def in_line(read: Listing, number: int, line: Line, before: Class | None) -> Spo
 def target_missing(one: Class, line: Line) -> Spot | None:
     """The first target of a line that leads to no instruction; what a try covers may end after the last one."""
     member = one.member_at(line.number)
-    code = member and member.code
+    code = member.code if member else None
     if code is None:
         return None
     for at, slot in enumerate(slots(line)):

@@ -16,7 +16,7 @@ from dexasm.names import spelled, unquoted, unspelled
 MEMBERS = ("static", "instance", "direct", "virtual")
 PAYLOADS = ("packed-switch-payload", "sparse-switch-payload", "array-payload")
 _WORD = re.compile(r'"(?:[^"\\]|\\.)*"|[^ ]+')
-_LINES = {
+_LINES: dict[str, tuple[str | int, ...]] = {
     "class": ("type", 32),
     "super": ("type",),
     "implements": ("type",),
@@ -137,7 +137,8 @@ class Class:
 class Listing:
     def __init__(self, data: bytes) -> None:
         self.rows = data.split(b"\n")
-        first = next((row.split() for row in self.rows if row.strip(b" ") and row.lstrip(b" ")[:1] != b"#"), [])
+        rows = (row.split() for row in self.rows if row.strip(b" ") and row.lstrip(b" ")[:1] != b"#")
+        first: list[bytes] = next(rows, [])
         self.is_first_form = first[2:] != [b"listing", b"2"]
         # The number of the line with which each class begins.
         self.heads = [at for at, row in enumerate(self.rows, 1) if row.lstrip(b" ")[:6] == b"class "]
@@ -204,13 +205,14 @@ def slots(line: Line) -> list[Slot]:
     if key[:1] == ":":
         return [Slot(line.words[0], "label")]
     if key in _LINES:
-        kinds: tuple[str | int, ...] = _LINES[key]
-        return [*map(Slot, words, kinds), *_value_slots(words[4:])]
+        return [*map(Slot, words, _LINES[key]), *_value_slots(words[4:])]
     if key == "packed-switch-payload":
         return [Slot(word, "target" if at else -32) for at, word in enumerate(words)]
     if key == "sparse-switch-payload":
         return [Slot(word, "target" if at % 2 else -32) for at, word in enumerate(words)]
-    return [*map(Slot, words, (16, "bytes"))] if key == "array-payload" else _insn_slots(words, key)
+    if key == "array-payload":
+        return [Slot(word, "bytes" if at else 16) for at, word in enumerate(words[:2])]
+    return _insn_slots(words, key)
 
 
 def _insn_slots(words: tuple[Word, ...], key: str) -> list[Slot]:

@@ -3,23 +3,17 @@
 A helper is given files and names by strangers. So no name becomes a part of a program's text or of a path that leads
 elsewhere, and what is printed of a name or of a line goes through `escaped`."""
 import argparse
-import ast
 import functools
-import importlib.util
-import json
 import os
 import re
-import select
-import shutil
-import subprocess
 import sys
 from collections.abc import Callable
 from types import ModuleType
 
-TOP = os.path.dirname(os.path.dirname(os.path.dirname(os.path.realpath(__file__))))
+from dexasm_basis import DEX, FAILED, MEMORY, REFUSED, TOP, USAGE, ZIP, Failed, reason
+
+# (what only some helpers call is imported where it is: that takes longer than most of what they do)
 REFUSAL = re.compile(r".*\brefused (\d{1,5}) (\w+) at (\d{1,20})(?:: .*)?$")
-REFUSED, USAGE, FAILED, MEMORY = 1, 2, 3, 4  # exit statuses, as those of dexasm
-DEX, ZIP = b"dex\n", b"PK"
 LONGEST = 160  # characters of a line that are shown where a line is a sign of more
 UNITS = {"K": 1 << 10, "M": 1 << 20, "G": 1 << 30}
 # What nobody sees though it counts as printable: Default_Ignorable_Code_Point of the Unicode Character Database
@@ -30,14 +24,6 @@ UNSEEN = re.compile(
     "\ufe00-\ufe0f\ufeff\uffa0\ufff0-\ufff8\U00013441\U00013442\U00016fe4\U0001bca0-\U0001bca3\U0001d159"
     "\U0001d173-\U0001d17a\U000e0000-\U000e0fff]"
 )
-
-
-class Failed(Exception):
-    """What is told on standard error before a helper ends, and its exit status."""
-
-    def __init__(self, line, status=FAILED):
-        super().__init__(line)
-        self.line, self.status = line, status
 
 
 class Usage(Failed):
@@ -86,7 +72,10 @@ class Words(argparse.ArgumentParser):
     def __init__(self):
         self.doc = manual().strip() + "\n"
         self.uses = "\n".join(re.search(r"^usage: .*(?:\n +.*)*", self.doc, re.M)[0].splitlines())
-        super().__init__(prog=os.path.basename(sys.argv[0]), allow_abbrev=False, usage="%(prog)s")
+        # (whose width is looked for otherwise, which takes a while, for a help that isn't printed)
+        formatter = functools.partial(argparse.HelpFormatter, width=80)
+        named = {"prog": os.path.basename(sys.argv[0]), "usage": "%(prog)s"}
+        super().__init__(**named, allow_abbrev=False, formatter_class=formatter)
         self.add_argument("--version", action=Version)
 
     def format_help(self):
@@ -120,12 +109,11 @@ def seconds(word: str) -> float:
 def manual() -> str:
     """The docstring of the helper that runs; out of its file where Python was told to keep none (-OO)."""
     program = sys.modules["__main__"]
-    return program.__doc__ or ast.get_docstring(ast.parse(get(program.__file__)), clean=False)
+    if program.__doc__:
+        return program.__doc__
+    import ast
 
-
-def reason(error):
-    """An error of the system in its own words, without a name."""
-    return error.strerror or str(error) or type(error).__name__
+    return ast.get_docstring(ast.parse(get(program.__file__)), clean=False)
 
 
 def get(path):
@@ -160,6 +148,8 @@ def deliver(path, given, through=True, name=None):
 
 def command():
     """The path of dexasm: the one that DEXASM_COMMAND names, or the PATH's, or the one that came with the helpers."""
+    import shutil
+
     named = os.environ.get("DEXASM_COMMAND")
     beside = os.path.join(TOP, "bin", "dexasm")
     if os.path.basename(TOP) == "contrib":
@@ -205,6 +195,8 @@ class Ended:
 
 def dexasm(*words, given=b""):
     """Runs dexasm over these bytes; the first of the words is the job."""
+    import subprocess
+
     try:
         done = subprocess.run([command(), *words], input=given, stdout=subprocess.PIPE, stderr=subprocess.PIPE)
     except OSError as error:
@@ -251,6 +243,8 @@ def page(name):
 
 def decoded(word):
     """A name or a text as it is: in a listing each character may stand as an escape. A lone surrogate stays one."""
+    import json
+
     return json.loads(word if word.startswith('"') else f'"{word}"')
 
 
@@ -288,6 +282,8 @@ def load(folder):
 
 def load_file(name, place, inner=None):
     """Reads a module from its file, by whatever name others have it in other folders."""
+    import importlib.util
+
     spec = importlib.util.spec_from_file_location(name, place, submodule_search_locations=inner)
     sys.modules[name] = made = importlib.util.module_from_spec(spec)
     try:
@@ -369,6 +365,8 @@ def finished(main, words, unread):
 
 def is_unread() -> bool:
     """Whether standard output is a pipe, or a socket, that its reader closed."""
+    import select
+
     poll = select.poll()
     poll.register(sys.stdout.fileno(), 0)
     return any(event & (select.POLLERR | select.POLLHUP) for _, event in poll.poll(0))

@@ -19,8 +19,9 @@ MENDS = {
     86: "`dexasm assemble --align` puts a nop before each such payload",
     87: "two tries with the same handlers cover what one can't",
 }
-# What stands alone where the pages' sentence leans on the one before it.
+# What stands alone where the pages' sentence leans on the one before it, or on a helper that says this.
 ALONE = {
+    9: "the SHA-1 differs: the file was changed after it was signed, or D8 before 1.6.20 wrote it",
     100: "the line isn't of the listing's form: a character or an escape that can't be, a text that isn't closed, an "
     "unknown first word, mnemonic or keyword, or words too many or too few for the line",
     102: "a word isn't what stands at its place in this line: a number of its range, a register, bits, bytes or, in "

@@ -7,28 +7,22 @@ marshal. What it says of a file before it looks at it tells which file it was th
 from __future__ import annotations
 
 import contextlib
-import hashlib
 import io
 import marshal
 import os
 import re
-import resource
 import signal
-import stat
 import subprocess
 import sys
 import threading
 import weakref
-from collections import Counter
 from collections.abc import Callable, Generator, Iterator
-from typing import Any
 
 if __name__ == "__main__":  # (Python may have been told not to look for modules there)
     sys.path.insert(0, os.path.dirname(os.path.realpath(__file__)))
-from dexasm_archive import dex_files, opened, taken_out
-from dexasm_contrib import DEX, MEMORY, TOP, ZIP, Failed, escaped, reason
+from dexasm_basis import DEX, MEMORY, TOP, ZIP, Failed
+from dexasm_worker import opened_file, work
 
-CLOCK = 10  # a file may take so many times its processor seconds by the clock
 TRIES = 3  # how often a job is begun whose worker was killed by somebody
 KEY = 16  # bytes of a SHA-256 by which a worker knows the files that are in
 # Where the module dexasm is, in the repository and in a package; otherwise it is installed.
@@ -52,29 +46,12 @@ def add_places(ways: list[str]) -> None:
 # ---- in the worker
 
 
-class Teller:
-    """Writes what a worker found; time that this takes isn't the file's."""
-
-    def __init__(self, seconds: float) -> None:
-        self.out, self.seconds = os.fdopen(os.dup(1), "wb"), seconds
-        os.dup2(2, 1)
-
-    def begin(self, seconds: float | None = None) -> None:
-        seconds = self.seconds if seconds is None else seconds
-        signal.setitimer(signal.ITIMER_PROF, seconds)
-        signal.setitimer(signal.ITIMER_REAL, CLOCK * seconds)
-
-    def tell(self, *found: object) -> None:
-        self.begin(0)
-        marshal.dump(found, self.out)
-        self.out.flush()
-        self.begin()
-
-
 class Job:
     """A path, which is a .dex file or an archive: whether it was named itself, its bytes if they were sent, the entries
     that aren't looked at again.
     """
+
+    needs = "hashlib", "collections", "dexasm_archive", "dexasm.program"
 
     def __init__(self, path: bytes, is_named: bool, given: bytes | None, skipped: tuple[str, ...]) -> None:
         self.path, self.is_named, self.given, self.skipped = path, is_named, given, skipped
@@ -90,12 +67,16 @@ class Job:
             first = file.read(len(DEX))
             file.seek(0)
             if first.startswith(ZIP):
+                from dexasm_archive import opened
+
                 with opened("", file) as archive:
                     self.look_into(archive, tell, is_known)
             elif first == DEX or self.is_named or self.path.endswith(b".dex"):
                 look_at("", file.read, tell, is_known)
 
     def look_into(self, archive, tell: Callable[..., None], is_known: Callable[[bytes], bool]) -> None:
+        from dexasm_archive import dex_files, taken_out
+
         for name, entries in dex_files(archive):
             if name in self.skipped:
                 continue
@@ -105,19 +86,12 @@ class Job:
                 tell("unread", name, "failed", failed.line)
 
 
-def opened_file(path: bytes) -> io.BufferedReader:
-    """The file, if it is one: nothing waits for who writes into a pipe, and no device is read."""
-    at = os.open(path, os.O_RDONLY | os.O_NONBLOCK | os.O_NOCTTY)
-    if not stat.S_ISREG(os.fstat(at).st_mode):
-        os.close(at)
-        raise Failed("no file")
-    return os.fdopen(at, "rb")
-
-
 def look_at(
     entry: str, read: Callable[[], bytes], tell: Callable[..., None], is_known: Callable[[bytes], bool]
 ) -> None:
     """Tells of one .dex file: that it is in, or first which it is, then what was found."""
+    import hashlib
+
     tell("begun", entry)
     given = read()
     sha = hashlib.sha256(given).digest()
@@ -140,6 +114,8 @@ def answer(given: bytes) -> tuple[object, ...]:
 
 def program(given: bytes) -> tuple[bytes, int, list[tuple[object, ...]]]:
     """SHA-256 and size of the stripped bytes, and the classes."""
+    import hashlib
+
     import dexasm
 
     stripped = dexasm.strip(given)
@@ -152,6 +128,9 @@ def facts(text: str) -> tuple[object, ...]:
     """A class: the SHA-256 of its text, name, superclass, flags, and by marshal its members, calls and strings. Names
     and strings are as the listing spells them.
     """
+    import hashlib
+    from collections import Counter
+
     from dexasm.members import Class
     from dexasm.names import quoted, spelled
 
@@ -190,39 +169,6 @@ def is_in(known: bytes, sha: bytes) -> bool:
     return False
 
 
-def work(seconds: float, memory: int, kind: Callable[..., Any] = Job) -> None:
-    """The worker: begins with what all jobs need (the keys of the files that are in), ends with its input or when
-    memory ran out.
-    """
-    teller, jobs = Teller(seconds), sys.stdin.buffer
-    known = marshal.load(jobs)
-    try:
-        import dexasm
-
-        teller.tell("ready", dexasm.version())
-    except (ImportError, OSError, AttributeError) as error:
-        teller.tell("not ready", str(error))
-        return
-    resource.setrlimit(resource.RLIMIT_AS, (memory, memory))
-    resource.setrlimit(resource.RLIMIT_CORE, (0, 0))
-    while True:
-        teller.begin(0)
-        try:
-            job = kind(*marshal.load(jobs))
-        except EOFError:
-            return
-        teller.begin()
-        try:
-            job.look(teller.tell, known)
-        except Failed as failed:
-            teller.tell("unread", "", "failed", failed.line.removeprefix(": "))
-        except OSError as error:
-            teller.tell("unread", "", "failed", reason(error))
-        except MemoryError:
-            os._exit(MEMORY)
-        teller.tell("end")
-
-
 # ---- who has workers
 
 
@@ -251,6 +197,8 @@ class Looker:
             self.stop()
             if ready == "not ready":
                 break
+        from dexasm_contrib import escaped
+
         raise Failed(f"a worker doesn't start: {escaped(said)}")
 
     def spawn(self) -> None:
@@ -288,6 +236,7 @@ class Looker:
     def said(self) -> tuple[object, ...] | None:
         """What the worker says next, or None where it has ended."""
         try:
+            self.worker.stdout.peek(1)  # (it is waited for here: marshal takes an interrupt for the end)
             return marshal.load(self.worker.stdout)
         except (EOFError, ValueError, TypeError):
             return None
@@ -402,4 +351,4 @@ def close_all() -> None:
 
 
 if __name__ == "__main__":
-    work(float(sys.argv[1]), int(sys.argv[2]))
+    work(float(sys.argv[1]), int(sys.argv[2]), Job)

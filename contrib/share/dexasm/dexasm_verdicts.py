@@ -5,11 +5,8 @@ takes a line that begins with `::`, or has `##[` in it, for a command.
 """
 from __future__ import annotations
 
-import json
 import re
 from typing import Any
-from urllib.parse import quote
-from xml.etree import ElementTree
 
 from dexasm_check import Verdict
 from dexasm_contrib import FAILED, MEMORY, REFUSED, escaped
@@ -41,6 +38,8 @@ def bare(path: bytes) -> bytes:
 
 def uri_of(path: bytes) -> str:
     """The very path, as RFC 3986 spells it."""
+    from urllib.parse import quote
+
     return ("file://" if path.startswith(b"/") else "") + quote(bare(path))
 
 
@@ -107,6 +106,8 @@ class Json(Text):
     """A line of JSON for each."""
 
     def lines(self, verdict: Verdict) -> list[str]:
+        import json
+
         found = {"file": name_of(verdict), "uri": uri_of(verdict.path), "kind": verdict.kind, "status": verdict.status}
         for field in ("number", "name", "place", "line", "column", "class_", "member", "instruction"):
             found[field.rstrip("_")] = getattr(verdict, field)
@@ -139,10 +140,14 @@ class JUnit(Text):
     """One document, as JUnit's own reports are."""
 
     def __init__(self) -> None:
+        from xml.etree import ElementTree
+
         self.suite = ElementTree.Element("testsuite", name="dexasm-check")
         self.counts = dict.fromkeys(("tests", "failures", "errors", "skipped"), 0)
 
     def lines(self, verdict: Verdict) -> list[str]:
+        from xml.etree import ElementTree
+
         case = ElementTree.SubElement(self.suite, "testcase", classname="dexasm-check", name=escaped(name_of(verdict)))
         self.counts["tests"] += 1
         kinds = {"ok": None, "empty": "skipped", "refused": "failure"}
@@ -156,6 +161,8 @@ class JUnit(Text):
         return []
 
     def end(self, status: int) -> list[str]:
+        from xml.etree import ElementTree
+
         for name, count in self.counts.items():
             self.suite.set(name, str(count))
         suites = ElementTree.Element("testsuites")
@@ -186,6 +193,8 @@ class Sarif(Text):
         return []
 
     def end(self, status: int) -> list[str]:
+        import json
+
         rules = []
         for number in self.rules:
             name, sentence, _ = sentences().get(number, ("Unknown", "", ""))

@@ -140,7 +140,13 @@ public final class Dexasm {
    * @throws Refused if the listing breaks a rule
    */
   public static byte[] assemble(ByteBuffer text, boolean align) throws Refused {
-    return answer(align ? Job.ALIGN : Job.ASSEMBLE, text);
+    ByteBuffer given = text.slice();
+    try {
+      return answer(align ? Job.ALIGN : Job.ASSEMBLE, given);
+    } catch (Refused refused) {
+      refused.keep(given, align);
+      throw refused;
+    }
   }
 
   /**
@@ -153,7 +159,7 @@ public final class Dexasm {
    * @throws IOException if reading or writing fails
    */
   public static void assemble(Path text, Path out, boolean align) throws Refused, IOException {
-    Output.write(out, answer(align ? Job.ALIGN : Job.ASSEMBLE, read(text)));
+    Output.write(out, assemble(read(text), align));
   }
 
   /**

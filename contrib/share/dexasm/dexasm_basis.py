@@ -1,0 +1,21 @@
+"""What helpers and their workers know alike. A worker reads this and no more where that does, since reading what is in
+dexasm_contrib takes as long as a hundred small files.
+"""
+import os
+
+TOP = os.path.dirname(os.path.dirname(os.path.dirname(os.path.realpath(__file__))))
+REFUSED, USAGE, FAILED, MEMORY = 1, 2, 3, 4  # exit statuses, as those of dexasm
+DEX, ZIP = b"dex\n", b"PK"
+
+
+class Failed(Exception):
+    """What is told on standard error before a helper ends, and its exit status."""
+
+    def __init__(self, line, status=FAILED):
+        super().__init__(line)
+        self.line, self.status = line, status
+
+
+def reason(error):
+    """An error of the system in its own words, without a name."""
+    return error.strerror or str(error) or type(error).__name__
