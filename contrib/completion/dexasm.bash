@@ -27,7 +27,7 @@ _dexasm_helper() {
     dexasm-explain) first='' options='--help --version --json' ;;
     dexasm-graph) first='' options='--help --version --format --calls --from --depth' ;;
     dexasm-info) first='' options='--help --version --json --hex' ;;
-    dexasm-lint) first='' options='--help --version' ;;
+    dexasm-lint) first='' options='--help --version --code --jobs --json --sarif' ;;
     dexasm-merge) first='' options='--help --version --same --output' ;;
     dexasm-query) first='classes strings calls fields tables show' options='--help --version --lines --addresses' ;;
     dexasm-size) first='' options='--help --version --by --sort --json --csv --csv-raw --html' ;;

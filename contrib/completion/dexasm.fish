@@ -72,6 +72,10 @@ complete -c dexasm-info -l json
 complete -c dexasm-info -l hex
 complete -c dexasm-lint -l help
 complete -c dexasm-lint -l version
+complete -c dexasm-lint -l code
+complete -c dexasm-lint -l jobs
+complete -c dexasm-lint -l json
+complete -c dexasm-lint -l sarif
 complete -c dexasm-merge -l help
 complete -c dexasm-merge -l version
 complete -c dexasm-merge -l same

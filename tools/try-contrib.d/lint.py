@@ -421,7 +421,8 @@ def try_words():
 
 def try_page():
     """docs/VERIFIERS.md and the help have each rule, and no other, and a case of each is tried."""
-    rules = re.findall(r"^  ([a-z-]+)  ", tool("dexasm-lint", "--help")[1], re.M)
+    own = tool("dexasm-lint", "--help")[1].partition("With --code")[0]
+    rules = re.findall(r"^  ([a-z][a-z-]+)  ", own, re.M)
     rows = re.findall(r"^\| [1-9] \| `([a-z-]+)` \|", get(TOP, "docs/VERIFIERS.md").decode(), re.M)
     check("VERIFIERS and the help have each rule", rules == rows, sorted(set(rules) ^ set(rows)))
     tried = {rule for _, _, _, rule, _ in ROWS if rule}

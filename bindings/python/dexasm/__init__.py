@@ -40,6 +40,8 @@ Data = bytes | bytearray | memoryview
 _PARTS = {
     "code": ("ArrayData", "Catch", "Code", "Insn", "Label", "PackedSwitch", "SparseSwitch", "Try"),
     "faultline": ("Place",),
+    "formats": (),
+    "listed": (),
     "members": ("Class", "Field", "Method", "Value"),
     "names": ("FieldRef", "MethodRef", "Proto", "Type"),
     "program": ("Program",),

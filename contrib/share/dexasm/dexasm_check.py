@@ -24,7 +24,8 @@ SOON = 0.5  # seconds after which the one who waits looks up
 
 class Verdict(NamedTuple):
     """What is known of a file, or of an entry of an archive. The status is `ok`, `refused`, `empty` (an archive without
-    a .dex file), or why it wasn't looked at: `failed`, `time`, `memory`, `killed`.
+    a .dex file), or why it wasn't looked at: `failed`, `time`, `memory`, `killed`. For dexasm-lint it is what is known
+    of a place of a program: `broken`, with the rule's word and the part of the page that it belongs to.
     """
 
     path: bytes
@@ -41,6 +42,10 @@ class Verdict(NamedTuple):
     instruction: int | None = None
     program: str | None = None
     why: str | None = None
+    rule: str | None = None
+    page: str | None = None
+    register: int | None = None
+    address: int | None = None
 
 
 # ---- who has workers

@@ -219,7 +219,11 @@ def is_listing(given: bytes) -> bool:
 
 def dex_of(path):
     """The bytes of a .dex file; of a listing those that dexasm makes of it."""
-    given, name = get(path), name_of(path)
+    return dex_from(get(path), name_of(path))
+
+
+def dex_from(given, name):
+    """The same of the bytes of a file of that name."""
     if is_listing(given):
         given = answer("assemble", given=given, name=name)
     if given.startswith(ZIP):

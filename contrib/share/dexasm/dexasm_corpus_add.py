@@ -20,7 +20,8 @@ from dexasm_paths import named, walked
 from dexasm_terminal import Line
 
 MANY, MUCH = 64, 16 << 20  # files and bytes of a batch
-MODULES = ("dexasm_basis", "dexasm_worker", "dexasm_contrib", "dexasm_archive", "dexasm_look")  # that a worker of Dask gets
+# What a worker of Dask gets.
+MODULES = ("dexasm_basis", "dexasm_worker", "dexasm_contrib", "dexasm_archive", "dexasm_look")
 GONE = "the scheduler is gone: the same command goes on when there is one"
 SOON, LATE = 30, 600  # seconds for which a scheduler and its workers are waited for, at first and when all were killed
 AGAIN = 10  # how often it goes on after workers of Dask were killed

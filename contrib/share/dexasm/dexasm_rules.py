@@ -5,7 +5,7 @@ breaks when it is stripped. What that verifier asks of later versions alone, and
 interfaces, constructors without code), is none of them."""
 from typing import Iterator, NamedTuple, Optional
 
-from dexasm_contrib import module, program_of
+from dexasm_contrib import module
 
 PUBLIC, PRIVATE, PROTECTED, STATIC, FINAL, SYNCHRONIZED = 0x1, 0x2, 0x4, 0x8, 0x10, 0x20
 VOLATILE, VARARGS, NATIVE, INTERFACE, ABSTRACT, STRICT, SYNTHETIC = 0x40, 0x80, 0x100, 0x200, 0x400, 0x800, 0x1000
@@ -96,10 +96,10 @@ class Broken(NamedTuple):
     by: str
 
 
-def program(path: Optional[str]) -> Iterator[Class]:
-    """The classes of a file or of a listing, with names and the first words of values as the listing spells them."""
+def classes_of(program) -> Iterator[Class]:
+    """The classes of a program, with names and the first words of values as a listing spells them."""
     spelled = module().names.spelled
-    for one in program_of(path).classes:
+    for one in program.classes:
         members = []
         for kind, fields in (("static", one.statics), ("instance", one.instances)):
             for field in fields:

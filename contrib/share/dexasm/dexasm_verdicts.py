@@ -1,4 +1,5 @@
-"""The forms in which dexasm-check tells verdicts: lines for people, and JSON, SARIF, JUnit and GitHub's for machines.
+"""The forms in which dexasm-check and dexasm-lint tell verdicts: lines for people, and JSON, SARIF, JUnit and GitHub's
+for machines.
 
 Names of files are anybody's. Each form escapes what its reader would obey, and GitHub's runner reads each of them: it
 takes a line that begins with `::`, or has `##[` in it, for a command.
@@ -12,7 +13,8 @@ from dexasm_check import Verdict
 from dexasm_contrib import FAILED, MEMORY, REFUSED, escaped
 from dexasm_faults import OF_CLASSES, OF_COUNTS, sentences
 
-STATUSES = {"ok": 0, "empty": 0, "refused": REFUSED, "memory": MEMORY}  # what isn't here couldn't be looked at
+# (what isn't here couldn't be looked at)
+STATUSES = {"ok": 0, "empty": 0, "refused": REFUSED, "broken": REFUSED, "memory": MEMORY}
 ACCEPTED = ("ok", "empty")
 NOWHERE = (90, 255)  # whose place is none
 OK, BAD, PLAIN = "\x1b[32m", "\x1b[1;31m", "\x1b[0m"
@@ -105,14 +107,18 @@ def harmless(name: str) -> str:
 class Json(Text):
     """A line of JSON for each."""
 
+    fields: tuple[str, ...] = ("number", "name", "place", "line", "column", "class_", "member", "instruction")
+
     def lines(self, verdict: Verdict) -> list[str]:
         import json
 
         found = {"file": name_of(verdict), "uri": uri_of(verdict.path), "kind": verdict.kind, "status": verdict.status}
-        for field in ("number", "name", "place", "line", "column", "class_", "member", "instruction"):
+        for field in self.fields:
             found[field.rstrip("_")] = getattr(verdict, field)
-        found |= {"sentence": sentence_of(verdict), "why": verdict.why, "program": verdict.program}
-        return [json.dumps(found)]
+        return [json.dumps(found | self.more(verdict))]
+
+    def more(self, verdict: Verdict) -> dict[str, Any]:
+        return {"sentence": sentence_of(verdict), "why": verdict.why, "program": verdict.program}
 
 
 class GitHub(Text):
@@ -175,8 +181,10 @@ class JUnit(Text):
 class Sarif(Text):
     """One document, of SARIF 2.1.0."""
 
+    tool = "dexasm-check"
+
     def __init__(self) -> None:
-        self.rules: dict[int, int] = {}
+        self.rules: dict[str, int] = {}
         self.results: list[dict[str, Any]] = []
         self.notes: list[dict[str, Any]] = []
 
@@ -184,24 +192,32 @@ class Sarif(Text):
         if verdict.status in ACCEPTED:
             return []
         said = f"{verdict.entry}{place_of(verdict)}: " if verdict.entry else ""
-        told = {"level": "error", "message": {"text": said + message_of(verdict)}, "locations": [location(verdict)]}
-        if verdict.number is None:
+        told = {"level": "error", "message": {"text": said + self.message(verdict)}, "locations": [location(verdict)]}
+        rule = verdict.rule if verdict.number is None else str(verdict.number)
+        if rule is None:
             self.notes.append({"descriptor": {"id": verdict.status}, **told})
         else:
-            at = self.rules.setdefault(verdict.number, len(self.rules))
-            self.results.append({"ruleId": str(verdict.number), "ruleIndex": at, **told})
+            at = self.rules.setdefault(rule, len(self.rules))
+            self.results.append({"ruleId": rule, "ruleIndex": at, **told})
         return []
+
+    def message(self, verdict: Verdict) -> str:
+        return message_of(verdict)
+
+    def named(self, rule: str) -> tuple[str, str]:
+        """A rule's name and its sentence."""
+        return sentences().get(int(rule), ("Unknown", "", ""))[:2]
 
     def end(self, status: int) -> list[str]:
         import json
 
         rules = []
-        for number in self.rules:
-            name, sentence, _ = sentences().get(number, ("Unknown", "", ""))
+        for rule in self.rules:
+            name, sentence = self.named(rule)
             more = {"shortDescription": {"text": sentence}} if sentence else {}
-            rules.append({"id": str(number), "name": name, **more})
+            rules.append({"id": rule, "name": name, **more})
         run = {
-            "tool": {"driver": {"name": "dexasm-check", "rules": rules}},
+            "tool": {"driver": {"name": self.tool, "rules": rules}},
             "invocations": [
                 {
                     "executionSuccessful": status in (0, REFUSED),

@@ -1,0 +1,86 @@
+"""What the steps of dexasm-lint --code ask of registers, and how they leave values in them.
+
+`line` has the kinds of the registers, and the method is told what is wrong (dexasm_verify has both)."""
+from __future__ import annotations
+
+from dexasm_kinds import ANY, NUMBERS, PAIRS, Kind
+
+Line = list[Kind]
+
+
+def ask_int(method, line: Line, register: int, place: int) -> None:
+    if not line[register].is_int:
+        method.wrong(line, register, place, "an int")
+
+
+def ask_float(method, line: Line, register: int, place: int) -> None:
+    if not line[register].is_float:
+        method.wrong(line, register, place, "a float")
+
+
+def ask_reference(method, line: Line, register: int, place: int) -> None:
+    if not line[register].is_ref:
+        method.wrong(line, register, place, "a reference")
+
+
+def ask_object(method, line: Line, register: int, place: int) -> None:
+    """A reference, or a new object whose constructor wasn't called."""
+    if not line[register].is_object:
+        method.wrong(line, register, place, "a reference")
+
+
+def ask_long(method, line: Line, register: int, place: int) -> None:
+    kind = line[register]
+    if not kind.is_long or line[register + 1] is not kind.other:
+        method.wrong_pair(line, register, place, "a long")
+
+
+def ask_double(method, line: Line, register: int, place: int) -> None:
+    kind = line[register]
+    if not kind.is_double or line[register + 1] is not kind.other:
+        method.wrong_pair(line, register, place, "a double")
+
+
+def ask_wide(method, line: Line, register: int, place: int) -> None:
+    kind = line[register]
+    if not kind.is_wide or line[register + 1] is not kind.other:
+        method.wrong_pair(line, register, place, "a long or a double")
+
+
+ASK = dict.fromkeys("ZBSCI", ask_int)
+ASK |= {"F": ask_float, "J": ask_long, "D": ask_double, "R": ask_reference, "O": ask_object}
+
+
+def ask_type(method, line: Line, register: int, place: int, type_: str, rule: str) -> None:
+    """Asks that a register has a value that can be one of this type."""
+    if type_[0] not in "L[":
+        ASK[type_](method, line, register, place)
+        return
+    kind = line[register]
+    if not kind.is_ref:
+        method.wrong(line, register, place, f"a reference (`{type_}`)")
+    elif kind.type is not None and method.classes.is_wrong(kind.type, type_):
+        method.wrong_type(line, register, place, type_, rule)
+
+
+def put(method, line: Line, register: int, place: int, type_: str) -> None:
+    """Leaves a value of this type in a register, and of a pair in the next one too."""
+    if type_ in PAIRS:
+        put_pair(method, line, register, place, PAIRS[type_])
+    else:
+        line[register] = NUMBERS[type_] if type_ in NUMBERS else method.kinds.ref(type_)
+
+
+def put_pair(method, line: Line, register: int, place: int, halves) -> None:
+    if register + 1 == method.registers:
+        method.tell(place, "pair-outside", f"v{register} is the last register of the code: a pair needs two")
+        line[register] = ANY
+    else:
+        line[register], line[register + 1] = halves
+
+
+def put_some(method, line: Line, to: int, place: int, some) -> None:
+    if len(some) == 2:
+        put_pair(method, line, to, place, some)
+    else:
+        line[to] = some[0]
