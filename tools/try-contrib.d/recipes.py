@@ -48,9 +48,11 @@ def blocks(page):
 
 
 def with_names(block, name):
-    """The recipe with another name before each .dex, .apk, .html and .txt, as a shell takes it."""
+    """The recipe with another name before each .dex, .apk, .html and .txt, as a shell takes it; a line of what is told,
+    in a comment, stays as it is.
+    """
     return re.sub(
-        r"(?<![\w.*'/])(\w+)(\.(?:dex|apk|html|stripped|txt))\b",
+        r"(?<![\w.*'/])(\w+)(\.(?:dex|apk|html|stripped|txt))\b(?!:\d)",
         lambda found: shlex.quote(f"{name}{found[1]}{found[2]}"),
         block,
     )
