@@ -319,6 +319,23 @@ def try_rows():
     check("dexasm-lint --code, three codes of each rule", not few, few)
 
 
+END = " / return-void"
+
+
+def try_loops():
+    """What is wrong is told in a loop too, to whose beginning the register comes back as one that was told of."""
+    rows = [
+        (number, (rule, head, f":again / {text[: -len(END)]} / goto/32 :again", *more))
+        for number, (rule, head, text, *more) in enumerate(ROWS)
+        if text.endswith(END) and text[0] != ":" and rule != "constructor-return"
+    ]
+    _, told, said = lint(listing(0, rows), at=room("lint loops"))
+    found = {}
+    for one in told:
+        found.setdefault(one["class"], set()).add(one["instruction"])
+    check("dexasm-lint --code, loops", len(rows) > 60 and said == "", (len(rows), said))
+    for number, row in rows:
+        check(f"dexasm-lint --code, a loop of {row}", place_of(row) in found.get(f"LT{number};", ()), found)
 
 
 def try_fine():
@@ -686,4 +703,7 @@ def try_page():
     check("each rule of code is tried", tried == {*rules}, tried ^ {*rules})
 
 
-TRIES = (try_page, try_bounds, try_rows, try_fine, try_named, try_laws, try_monotone, try_places, try_forms, try_hostile)
+TRIES = (
+    try_page, try_bounds, try_rows, try_loops, try_fine, try_named, try_laws, try_monotone, try_places, try_forms,
+    try_hostile,
+)  # fmt: skip

@@ -57,6 +57,9 @@ class Method:
         self.steps = [step_of(insn.mnemonic) for insn in self.insns]
         self.news: dict[int, Kind] = {}
         self.told: dict[tuple[int, str, int], Wrong] | None = None
+        self.early: dict[tuple[int, str, int], Wrong] = {}  # while ways are followed, by place, rule and register
+        self.first: dict[int, list[Wrong]] = {}  # the same by place
+        self.mentioned: set[int] = set()  # registers that were told of
         self.is_suspect = False
         self.work = 0
         self.wrote: dict[int, dict[int, Kind]] = {}
@@ -87,8 +90,10 @@ class Method:
 
     def tell(self, place: int, rule: str, text: str, register: int = -1, kind: Kind = UNSET) -> None:
         self.is_suspect = True
-        if self.told is not None:
-            self.told.setdefault((place, rule, register), Wrong(place, rule, text, register, kind))
+        told = self.early if self.told is None else self.told
+        told.setdefault((place, rule, register), Wrong(place, rule, text, register, kind))
+        if told is self.told:
+            self.mentioned.add(register)
 
     def wrong(self, line: list[Kind], register: int, place: int, wanted: str) -> None:
         """A register isn't what the instruction takes."""
@@ -234,6 +239,7 @@ class Method:
         handlers = () if is_last else self.handlers[block]
         before: list[Kind] | None = None
         first, end = self.starts[block], self.starts[block + 1]
+        unknown = {one for one in range(self.registers if is_last else 0) if line[one] is ANY}
         self.spend(STEP * (end - first) + len(line) // 4)
         for place in range(first, end):
             step = steps[place]
@@ -242,8 +248,25 @@ class Method:
                 for handler in handlers:
                     self.merge(line, handler)
                 before = line[:]
+            lost = self.lost(place, line, unknown) if unknown else ()
             step.run(self, insns[place], line, place)
+            for wrong in lost:
+                self.tell(place, wrong.rule, wrong.text, wrong.register, wrong.kind or UNSET)
         self.leave(block, end - 1, line, is_last)
+
+    def lost(self, place: int, line: list[Kind], unknown: set[int]) -> list[Wrong]:
+        """What was told of an instruction on the first way to it, where a loop has led back a register since that was
+        told of. (What is wrong on one way is wrong on all together.) `unknown` are those at the block's beginning; one
+        of which something was told before isn't told of again.
+        """
+
+        def is_lost(wrong: Wrong) -> bool:
+            # (of a pair that is told of at its second register the first one may be it)
+            pair = (wrong.register - 1, wrong.register)[wrong.rule != "pair-broken" :]
+            is_new = self.mentioned.isdisjoint(pair)
+            return wrong.register < 0 or is_new and any(one in unknown and line[one] is ANY for one in pair)
+
+        return [wrong for wrong in self.first.get(place, ()) if is_lost(wrong)]
 
     def leave(self, block: int, last: int, line: list[Kind], is_last: bool) -> None:
         """Leads to what comes behind a block."""
@@ -306,6 +329,8 @@ class Method:
         if not self.is_suspect:
             return []
         self.told = {}
+        for wrong in self.early.values():
+            self.first.setdefault(wrong.place, []).append(wrong)
         if self.first_line() is not None:
             for block, line in enumerate(self.before):
                 if line is not None:
