@@ -20,6 +20,7 @@ complete -c dexasm-browse -l output -r -F
 complete -c dexasm-browse -l graphs -x -a 'all'
 complete -c dexasm-check -l help
 complete -c dexasm-check -l version
+complete -c dexasm-check -l lint
 complete -c dexasm-check -l quiet
 complete -c dexasm-check -l color -x -a 'auto always never'
 complete -c dexasm-check -l jobs

@@ -197,6 +197,147 @@ def try_programs():
         check(f"dexasm-check --program by {how}", found == [want] * 3 + [None] and seen[0] == 1, seen)
 
 
+# ---- what a device would refuse
+
+LINTED = HEAD + b"""class LA; 0x1
+static n I 0x9 = long 5
+direct m (I)V 0x9
+code 3 1 0
+  new-instance v0 Ljava/lang/Object;
+  add-int v1 v0 v0
+  return-void
+end code
+end class
+"""
+VALUE = "a static field's value is of another type: long in I"
+USED = "v0 holds a new object (java.lang.Object, from {}), and add-int takes an int: first call invoke-direct {{ v0 .. }} "
+USED += "Ljava/lang/Object;-><init>"
+IN_FILE = (
+    f"LA;->n:I: error: {VALUE} (value-type, dex-format, class_def_item)",
+    f"LA;->m(I)V: 1 (0x02): error: {USED.format('instruction 0')} (uninitialized-use, B6, B8)",
+)
+IN_TEXT = (f": {IN_FILE[0]}", f":7:17: error: {USED.format('line 6')} (uninitialized-use, B6, B8)")
+
+
+def linted(at):
+    """Files of which some break rules of dexasm-lint, and what is told of them."""
+    good = LINTED.replace(b"long", b"int").replace(b"v0 v0", b"v2 v2")
+    bad = assembled(LINTED)
+    put(at, "a.txt", LINTED)
+    put(at, "b.txt", good)
+    put(at, "c.txt", LINTED.replace(b"v0 v0", b"v9 v0"))
+    put(at, "d.dex", bad)
+    put(at, "e.dex", damaged(bad))
+    put(at, "f.apk", archive(("classes.dex", bad), ("classes2.dex", assembled(good)), ("classes3.dex", bad)))
+    told = [f"a.txt{line}" for line in IN_TEXT] + ["b.txt: ok"]
+    told += ["c.txt:7:14: error: 118 Register: v9 of 3 registers (in m(I)V, instruction 1)"]
+    told += [f"d.dex: {line}" for line in IN_FILE] + ["e.dex:0x08: error: 8 Checksum: the Adler-32 differs"]
+    told += [f"f.apk!classes.dex: {line}" for line in IN_FILE] + ["f.apk!classes2.dex: ok"]
+    told += [f"f.apk!classes3.dex: {line}" for line in IN_FILE] + ["none: error: No such file or directory"]
+    return ("a.txt", "b.txt", "c.txt", "d.dex", "e.dex", "f.apk", "none"), told
+
+
+def try_lint():
+    """What dexasm accepts and a device would refuse, with each thing that is refused in its place."""
+    at = room("check lint")
+    names, told = linted(at)
+    for how, runs in (("the library", checked), ("the command", by_command)):
+        for jobs in ("1", "4"):
+            seen = runs("--lint", "--jobs", jobs, *names, at=at)
+            want = (3, "".join(f"{line}\n" for line in told), "")
+            check(f"dexasm-check --lint by {how}, --jobs {jobs}", seen == want, seen)
+    for words, want in (("--lint d.dex", 1), ("--lint b.txt", 0), ("--lint --quiet b.txt", 0), ("d.dex", 0)):
+        check(f"dexasm-check {words}, its status", checked(*words.split(), at=at)[0] == want)
+    both = run([os.path.join(TOOLS, "dexasm-lint"), "--code", "a.txt", "d.dex"], at=at)[1].splitlines()
+    check("dexasm-lint --code tells the same of code", [line for line in told if line in both] == both[1::2], both)
+    shown = on_terminal(at, "--lint", "a.txt", "b.txt", "d.dex")
+    check("dexasm-check --lint on a terminal", f"LA;->n:I: {ESC}[1;31merror:{ESC}[0m a static" in shown, shown)
+
+
+def try_lint_forms():
+    """The same for machines."""
+    at = room("check lint forms")
+    linted(at)
+    found = [*map(json.loads, checked("--lint", "--json", "--program", "a.txt", "d.dex", at=at)[1].splitlines())]
+    place = ("status", "line", "column", "class", "member", "instruction", "address", "register", "rule", "number")
+    want = [
+        ("broken", None, None, "LA;", "n:I", None, None, None, "value-type", None),
+        ("broken", 7, 17, "LA;", "m(I)V", 1, None, 0, "uninitialized-use", None),
+        ("broken", None, None, "LA;", "n:I", None, None, None, "value-type", None),
+        ("broken", None, None, "LA;", "m(I)V", 1, 2, 0, "uninitialized-use", None),
+    ]
+    seen = [tuple(one[name] for name in place) for one in found]
+    check("dexasm-check --lint --json", seen == want, found)
+    sentence = "an object is used before its constructor is called"
+    check("dexasm-check --lint --json, sentences", [found[n]["sentence"] for n in (1, 3)] == [sentence] * 2, found)
+    sum_ = hashlib.sha256(dexasm("strip", given=get(at, "d.dex"))).hexdigest()
+    check("dexasm-check --lint --program", [one["program"] for one in found] == [sum_] * 4, found)
+    without = json.loads(checked("--json", "d.dex", at=at)[1])
+    check("dexasm-check --json without --lint", {*found[0]} - {*without} == {"address", "register", "rule", "page"})
+    document = json.loads(checked("--lint", "--sarif", "a.txt", "d.dex", "f.apk", at=at)[1])
+    results = document["runs"][0]["results"]
+    check("dexasm-check --lint --sarif, the schema", [*faults(document)] == [] and len(results) == 8, document)
+    check("dexasm-check --lint --sarif", results[1]["message"]["text"] == USED.format("line 6"), results[1])
+    lines = checked("--lint", "--github", "a.txt", "b.txt", "d.dex", at=at)[1].splitlines()
+    said = USED.format("instruction 0")
+    want = [
+        f"::error file=a.txt,title=value-type::a.txt: {VALUE} (in LA;->n:I)",
+        f"::error file=a.txt,line=7,col=17,title=uninitialized-use::a.txt:7:17: {USED.format('line 6')} (in LA;->m(I)V)",
+        f"::error file=d.dex,title=value-type::d.dex: {VALUE} (in LA;->n:I)",
+        f"::error file=d.dex,title=uninitialized-use::d.dex: instruction 1 (0x02): {said} (in LA;->m(I)V)",
+    ]
+    check("dexasm-check --lint --github", lines == want, lines)
+    out = checked("--lint", "--junit", "a.txt", "b.txt", "d.dex", at=at)[1]
+    cases = [(case.get("name"), len(case)) for case in ElementTree.fromstring(out).findall("testsuite/testcase")]
+    want = [("a.txt", 1), ("a.txt:7:17", 1), ("b.txt", 0), ("d.dex", 1), ("d.dex", 1)]
+    check("dexasm-check --lint --junit", cases == want, out)
+
+
+def try_lint_limits():
+    """A program that takes too long to be linted, and one at which the worker is killed: what was told stays, once."""
+    at = room("check lint limits")
+    linted(at)
+    program = shlex.quote(Tries.program)
+    # (the command is asked twice of a file with --lint: whether it is accepted, and for its listing)
+    does = '[ "$1" = list ] || exec {0} "$@"\ncat >"$0.$$"\n{1}\nexec {0} "$@" <"$0.$$"'
+    slow = fake(at, "slow/dexasm", does.format(program, "sleep 611"))
+    seen = by_command("--lint", "--seconds", "0.3", "d.dex", "none", at=at, DEXASM_COMMAND=slow)
+    want = "d.dex: error: it takes longer than --seconds\nnone: error: No such file or directory\n"
+    check("dexasm-check --lint, too slow", seen == (3, want, ""), seen)
+    killed = fake(at, "killed/dexasm", does.format(program, "kill -9 $PPID"))
+    seen = by_command("--lint", "d.dex", "b.txt", at=at, DEXASM_COMMAND=killed)
+    want = "d.dex: error: its worker was killed\nb.txt: error: its worker was killed\n"
+    check("dexasm-check --lint, killed", seen == (3, want, ""), seen)
+    seen = run([sys.executable, "-B", "-c", TOLD_ONCE, os.path.join(TOP, "contrib", "share", "dexasm")], at=at)
+    check("dexasm-check --lint, told once", seen == (0, "broken broken broken killed broken ok\n", ""), seen)
+    head = LINTED.replace(b"add-int v1 v0 v0", b"nop").replace(b"long 5", b"int 5")
+    many = head.replace(b"end class", b"end class\n" + b"".join(
+        b"class LB%d; 0x1\nstatic n I 0x9 = long 5\nend class\n" % number for number in range(3000)
+    ), 1).replace(b"\n\n", b"\n")
+    put(at, "many.txt", many)
+    status, out, said = checked("--lint", "many.txt", at=at)
+    check("dexasm-check --lint, many", (status, said, out.count("\n")) == (1, "", 3000), (status, out[:300], said))
+
+
+# Of a worker that is killed at its second file when it told of one rule, at the next try of two, and then of none.
+TOLD_ONCE = """
+import sys
+sys.path.insert(0, sys.argv[1])
+import dexasm_check
+from dexasm_check import Checker
+class asked: jobs, seconds, memory, program, lint = 1, 60, 1 << 30, False, True
+wrong, ok = ("broken", "", {"kind": "dex", "status": "broken"}), ("verdict", "", {"kind": "dex", "status": "ok"})
+says = [wrong, ok, wrong, None, wrong, wrong, None, None, wrong, ok, ok, ("end",)]
+class Told(Checker):
+    def start(self): self.worker = 1
+    def send(self, given): pass
+    def said(self): return says.pop(0)
+    def ended(self): self.worker = None
+    def stop(self): pass
+print(*[one.status for one in Told(asked).judge([b"a", b"b", b"c", b"d"])])
+"""
+
+
 # ---- names
 
 
@@ -483,7 +624,7 @@ CHANGES = """
 import os, sys
 sys.path.insert(0, sys.argv[1])
 from dexasm_check import inputs, judge_all, lead
-class asked: jobs, seconds, memory, program = 1, 60, 1 << 30, False
+class asked: jobs, seconds, memory, program, lint = 1, 60, 1 << 30, False, False
 found = [*inputs(["f"])]
 os.remove("f/a.dex")
 os.remove("f/b.dex"); os.mkfifo("f/b.dex")
@@ -529,9 +670,13 @@ WORKERS = """
 import sys
 sys.path.insert(0, sys.argv[1])
 from dexasm_check import Verdict, count_workers
+class asked: lint = False
 for found, jobs in (([], 4), ([(b"a", 500)] * 1000, 4), ([(b"a", 500)] * 20000, 4), ([(b"a", 500)] * 20000, 2),
     ([(b"a", 1 << 40)], 4), ([(b"a", 1 << 40)], 1), ([Verdict(b"a", "", None, "failed")] * 100000, 4)):
-    print(count_workers(found, jobs))
+    asked.jobs = jobs
+    print(count_workers(found, asked))
+asked.jobs, asked.lint = 4, True
+print(count_workers([(b"a", 500)] * 1000, asked))
 """
 
 
@@ -539,7 +684,7 @@ def try_workers():
     """A further worker is for what is worth one; the lines are the same (try_order)."""
     share = os.path.join(TOP, "contrib", "share", "dexasm")
     seen = run([sys.executable, "-B", "-c", WORKERS, share], at=room("check workers"))
-    check("dexasm-check, how many workers", seen == (0, "1\n1\n4\n2\n4\n1\n1\n", ""), seen)
+    check("dexasm-check, how many workers", seen == (0, "1\n1\n4\n2\n4\n1\n1\n4\n", ""), seen)
 
 
 def try_order():
@@ -595,6 +740,7 @@ def try_words():
         "--memory 5X a.dex",
         "--color sometimes a.dex",
         "--jso a.dex",
+        "--lint",
     ):
         seen = checked(*words.split(), at=at)
         check(f"dexasm-check {words}", seen[:2] == (2, "") and seen[2].startswith("usage: dexasm-check "), seen)
@@ -678,6 +824,9 @@ TRIES = (
     try_places,
     try_names_decide,
     try_programs,
+    try_lint,
+    try_lint_forms,
+    try_lint_limits,
     try_names,
     try_sarif,
     try_no_files,

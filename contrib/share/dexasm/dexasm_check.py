@@ -19,6 +19,7 @@ AHEAD = 4  # times as much as the workers do is given out before
 # So many bytes are worth a further worker, which takes as long to begin as the first one takes for most of them; a file
 # counts some more than its own.
 ENOUGH, EACH = 16 << 20, 2 << 10
+LINTED = 32  # times as much time a file takes with --lint, so that workers are given so much less
 SOON = 0.5  # seconds after which the one who waits looks up
 
 
@@ -56,6 +57,11 @@ class Checker(Looker):
 
     script = os.path.join(os.path.dirname(os.path.realpath(__file__)), "dexasm_judge.py")
 
+    def __init__(self, asked: Any) -> None:
+        super().__init__(asked.seconds, asked.memory, asked.program)
+        self.is_linted = asked.lint
+        self.broken = 0  # how many rules that the file breaks at which the worker is were told
+
     def judge(self, paths: list[bytes]) -> Iterator[Verdict]:
         """Verdicts of the paths, in their order."""
         skipped: list[str] = []
@@ -63,7 +69,7 @@ class Checker(Looker):
         while paths:
             if self.worker is None:
                 self.start()
-            self.send((paths, tuple(skipped)))
+            self.send((paths, tuple(skipped), self.is_linted))
             done, entry = yield from self.hear_all(paths, skipped)
             if done:
                 paths, killed = paths[done:], 0
@@ -73,7 +79,7 @@ class Checker(Looker):
             # (what a worker held of files before counts as its memory, so that is tried in a new one)
             if status is None and killed < TRIES or status == "memory" and self.jobs:
                 continue
-            killed, status = 0, status or "killed"
+            killed, status, self.broken = 0, status or "killed", 0
             yield Verdict(paths[0], entry, None, status, why=SAID[status])
             if entry:
                 skipped.append(entry)
@@ -82,12 +88,20 @@ class Checker(Looker):
 
     def hear_all(self, paths: list[bytes], skipped: list[str]) -> Generator[Verdict, None, tuple[int, str]]:
         """What the worker tells, and then how many paths are done, and in which entry of the next one it ended."""
-        done, entry = 0, ""
+        done, entry, broken = 0, "", 0
         while (said := self.said()) is not None and said[0] != "end":
             what, entry = said[:2]
+            if what == "broken":
+                broken += 1
+                if broken > self.broken:  # (what a worker told that was killed isn't told again)
+                    self.broken = broken
+                    yield Verdict(paths[done], entry, **said[2])
+                continue
             if what == "verdict":
-                yield Verdict(paths[done], entry, **said[2])
+                if not broken:
+                    yield Verdict(paths[done], entry, **said[2])
                 self.jobs += 1
+                broken = self.broken = 0
                 skipped.append(entry)
             if what == "next" or what == "verdict" and not entry:
                 done += 1
@@ -130,11 +144,12 @@ def inputs(words: list[str]) -> Iterator[tuple[bytes, int] | Verdict]:
             yield wrongs.pop(0)
 
 
-def batches(found: Iterable[tuple[bytes, int] | Verdict]) -> Iterator[list[bytes] | Verdict]:
+def batches(found: Iterable[tuple[bytes, int] | Verdict], is_linted: bool) -> Iterator[list[bytes] | Verdict]:
+    enough = MUCH // LINTED if is_linted else MUCH
     paths: list[bytes] = []
     much = 0
     for one in found:
-        if paths and (isinstance(one, Verdict) or len(paths) == MANY or much >= MUCH):
+        if paths and (isinstance(one, Verdict) or len(paths) == MANY or much >= enough):
             yield paths
             paths, much = [], 0
         if isinstance(one, Verdict):
@@ -146,17 +161,17 @@ def batches(found: Iterable[tuple[bytes, int] | Verdict]) -> Iterator[list[bytes
         yield paths
 
 
-def count_workers(found: list[tuple[bytes, int] | Verdict], jobs: int) -> int:
+def count_workers(found: list[tuple[bytes, int] | Verdict], asked: Any) -> int:
     """How many workers these files are worth."""
-    much = sum(EACH + one[1] for one in found if not isinstance(one, Verdict))
-    return min(jobs, 1 + much // ENOUGH)
+    much = sum(EACH + one[1] for one in found if not isinstance(one, Verdict)) * (LINTED if asked.lint else 1)
+    return min(asked.jobs, 1 + much // ENOUGH)
 
 
 def judge_all(
     found: list[tuple[bytes, int] | Verdict], asked: Any, wait: Callable[[], None]
 ) -> Iterator[Verdict]:
     """Verdicts in the order of what was found. `wait` is called now and then while none is there."""
-    workers = count_workers(found, asked.jobs)
+    workers = count_workers(found, asked)
     yield from judge_in_turn(found, asked, wait) if workers == 1 else judge_at_once(found, asked, wait, workers)
 
 
@@ -164,10 +179,10 @@ def judge_in_turn(
     found: Iterable[tuple[bytes, int] | Verdict], asked: Any, wait: Callable[[], None]
 ) -> Iterator[Verdict]:
     """By one worker."""
-    checker = Checker(asked.seconds, asked.memory, asked.program)
+    checker = Checker(asked)
     wait()
     try:
-        for one in batches(found):
+        for one in batches(found, asked.lint):
             if isinstance(one, Verdict):
                 yield one
             else:
@@ -185,7 +200,7 @@ def judge_at_once(
     idle: list[Checker] = []
 
     def judge(paths: list[bytes]) -> list[Verdict]:
-        checker = idle.pop() if idle else Checker(asked.seconds, asked.memory, asked.program)
+        checker = idle.pop() if idle else Checker(asked)
         try:
             made = [*checker.judge(paths)]
         except BaseException:
@@ -196,7 +211,7 @@ def judge_at_once(
 
     pool = concurrent.futures.ThreadPoolExecutor(workers)
     due: collections.deque[Any] = collections.deque()
-    work = batches(found)
+    work = batches(found, asked.lint)
     try:
         while True:
             while len(due) < AHEAD * workers and (batch := next(work, None)) is not None:

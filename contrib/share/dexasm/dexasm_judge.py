@@ -20,7 +20,7 @@ TYPE_CHECKING = False  # (as in typing, which takes as long to read as all else 
 if TYPE_CHECKING:
     import io
     import zipfile
-    from collections.abc import Callable
+    from collections.abc import Callable, Iterator
     from typing import Any
 
 ARCHIVES = (b".apk", b".jar", b".zip")
@@ -30,14 +30,16 @@ class Batch:
     """Paths; of the first one the entries that aren't looked at again."""
 
     needs = ()
-    # What archives and listings need, read before the first of these so that it takes no file's time.
+    # What archives and listings need, and the rules of dexasm-lint, read before the first of these so that it takes no
+    # file's time.
     more = "dexasm_archive", "dexasm_faults", "dexasm.faultline"
+    rules = "dexasm.program", "dexasm_lint_code"
 
-    def __init__(self, paths: list[bytes], skipped: tuple[str, ...]) -> None:
-        self.paths, self.skipped = paths, skipped
-        if not all(path.lower().endswith(b".dex") for path in paths):
-            for name in self.more:
-                __import__(name)
+    def __init__(self, paths: list[bytes], skipped: tuple[str, ...], is_linted: bool) -> None:
+        self.paths, self.skipped, self.is_linted = paths, skipped, is_linted
+        are_files = all(path.lower().endswith(b".dex") for path in paths)
+        for name in (() if are_files else self.more) + (self.rules if is_linted else ()):
+            __import__(name)
 
     def look(self, tell: Callable[..., None], is_hashed: bool) -> None:
         """Tells a verdict of each path that is a file. Of an archive it tells which entry it begins, a verdict of each,
@@ -52,14 +54,51 @@ class Batch:
                         from dexasm_archive import opened
 
                         with opened("", file) as archive:
-                            look_into(path, archive, self.skipped, tell, is_hashed)
+                            self.look_into(path, archive, tell, is_hashed)
                     else:
-                        tell("verdict", "", judged(file.read(), kind, is_hashed))
+                        self.judge("", file.read(), kind, tell, is_hashed)
             except Failed as failed:
                 tell("verdict", "", unread(failed.line.removeprefix(": "), kind))
             except OSError as error:
                 tell("verdict", "", unread(reason(error), kind))
             self.skipped = ()
+
+    def look_into(
+        self, path: bytes, archive: zipfile.ZipFile, tell: Callable[..., None], is_hashed: bool
+    ) -> None:
+        from dexasm_archive import dex_files, taken_out
+
+        found = dex_files(archive)
+        if not found:
+            # (a .jar needn't have any, and each project of Gradle has one that hasn't)
+            is_apk = path.lower().endswith(b".apk")
+            why = "no classes*.dex in it"
+            tell("verdict", "", unread(why, "archive") if is_apk else told("archive", "empty", why=why))
+            return
+        for name, entries in found:
+            if name in self.skipped:
+                continue
+            tell("begun", name)
+            try:
+                # (as it says itself: zipfile reads no more of it, and copies it again and again)
+                if entries[0].file_size > resource.getrlimit(resource.RLIMIT_AS)[0]:
+                    raise MemoryError
+                given = taken_out(archive, entries)
+            except Failed as failed:
+                tell("verdict", name, unread(failed.line))
+            else:
+                self.judge(name, given, "dex", tell, is_hashed)
+        tell("next", None)
+
+    def judge(
+        self, entry: str, given: bytes, kind: str | None, tell: Callable[..., None], is_hashed: bool
+    ) -> None:
+        """Tells what is known of these bytes, and before it each rule of dexasm-lint that their program breaks."""
+        made, verdict = judged(given, kind, is_hashed)
+        if made is not None and self.is_linted:
+            for found in broken(given, made, verdict["kind"] == "listing"):
+                tell("broken", entry, found | {"program": verdict["program"]})
+        tell("verdict", entry, verdict)
 
 
 def kind_of(path: bytes, file: io.BufferedReader) -> str | None:
@@ -70,36 +109,8 @@ def kind_of(path: bytes, file: io.BufferedReader) -> str | None:
     return "archive" if name.endswith(ARCHIVES) or file.peek(len(ZIP)).startswith(ZIP) else None
 
 
-def look_into(
-    path: bytes, archive: zipfile.ZipFile, skipped: tuple[str, ...], tell: Callable[..., None], is_hashed: bool
-) -> None:
-    from dexasm_archive import dex_files, taken_out
-
-    found = dex_files(archive)
-    if not found:
-        # (a .jar needn't have any, and each project of Gradle has one that hasn't)
-        is_apk = path.lower().endswith(b".apk")
-        why = "no classes*.dex in it"
-        tell("verdict", "", unread(why, "archive") if is_apk else told("archive", "empty", why=why))
-        return
-    for name, entries in found:
-        if name in skipped:
-            continue
-        tell("begun", name)
-        try:
-            # (as it says itself: zipfile reads no more of it, and copies it again and again)
-            if entries[0].file_size > resource.getrlimit(resource.RLIMIT_AS)[0]:
-                raise MemoryError
-            given = taken_out(archive, entries)
-        except Failed as failed:
-            tell("verdict", name, unread(failed.line))
-        else:
-            tell("verdict", name, judged(given, "dex", is_hashed))
-    tell("next", None)
-
-
-def judged(given: bytes, kind: str | None, is_hashed: bool) -> dict[str, object]:
-    """What the library says of these bytes."""
+def judged(given: bytes, kind: str | None, is_hashed: bool) -> tuple[bytes | None, dict[str, object]]:
+    """The .dex file of these bytes, where it is accepted, and what the library says."""
     import dexasm
 
     if kind is None:
@@ -114,8 +125,19 @@ def judged(given: bytes, kind: str | None, is_hashed: bool) -> dict[str, object]
             made = given
     except dexasm.Refused as refused:
         fault = {"number": refused.number, "name": refused.name, "place": refused.place}
-        return told(kind, "refused", **fault, **(place_in(given, refused) if kind == "listing" else {}))
-    return told(kind, "ok", program=program_of(made) if is_hashed else None)
+        return None, told(kind, "refused", **fault, **(place_in(given, refused) if kind == "listing" else {}))
+    return made, told(kind, "ok", program=program_of(made) if is_hashed else None)
+
+
+def broken(given: bytes, made: bytes, is_text: bool) -> Iterator[dict[str, object]]:
+    """Which rules of dexasm-lint a program breaks, and where."""
+    import dexasm
+    from dexasm_lint_code import broken_by, looked_at
+
+    program = dexasm.Program.read(made)
+    for found in (broken_by(b"", is_text, program), looked_at(b"", given, is_text, program, 1)):
+        for verdict in found:
+            yield {name: known for name, known in verdict._asdict().items() if name not in ("path", "entry")}
 
 
 def told(kind: str | None, status: str, **more: object) -> dict[str, object]:

@@ -1,5 +1,5 @@
-"""What is wrong in the code of a program, for dexasm-lint --code: from a file to lines, with the place of each in the
-listing where one was given.
+"""What is wrong in a program, for dexasm-lint and dexasm-check --lint: from a file to lines, with the place of what is
+wrong in its code in the listing where one was given.
 
 With --jobs N this very file is also run as a worker, which is given the listing once and numbers of classes after it.
 """
@@ -21,6 +21,8 @@ from dexasm_classes import Classes
 from dexasm_contrib import LONGEST, Failed, module
 from dexasm_kinds import Kind, Kinds
 from dexasm_look import Looker
+from dexasm_rules import PAGE, broken, classes_of, said_of
+from dexasm_rules import RULES as FILE_RULES
 from dexasm_uses import fresh
 from dexasm_verify import MOST_TOLD, TooMuch, Wrong, check
 
@@ -353,12 +355,33 @@ def member_of(verdict: Verdict) -> list[str]:
 
 def looked_at(path: bytes, given: bytes, is_text: bool, program, jobs: int) -> Iterator[Verdict]:
     """What is wrong in the code of a file."""
-    places = Places(path, "listing" if is_text else "dex", program, given if is_text else None)
+    places = Places(path, kind_of(is_text), program, given if is_text else None)
     for told in look(program, jobs):
         yield places.verdict(told)
 
 
-def line_of(name: str, verdict: Verdict) -> str:
+def broken_by(path: bytes, is_text: bool, program) -> Iterator[Verdict]:
+    """Which rules of files a program breaks: each as the help of dexasm-lint has it, and by what."""
+    for one in classes_of(program):
+        for where, rule, by in broken(one):
+            yield Verdict(
+                path,
+                "",
+                kind_of(is_text),
+                "broken",
+                class_=one.name,
+                member=where.partition("->")[2] or None,
+                why=f"{said_of()[rule]}: {by}",
+                rule=rule,
+                page=f"{PAGE}, {FILE_RULES[rule]}",
+            )
+
+
+def kind_of(is_text: bool) -> str:
+    return "listing" if is_text else "dex"
+
+
+def line_of(name: str, verdict: Verdict, error: str = "error:") -> str:
     """A line for people: where the listing was given its line, otherwise the member and the instruction."""
     member = "->".join(word if len(word) <= LONGEST else f"{word[:LONGEST]}..." for word in member_of(verdict))
     at = f"{name}: {member}"
@@ -367,7 +390,7 @@ def line_of(name: str, verdict: Verdict) -> str:
     elif verdict.instruction is not None:
         at += f": {verdict.instruction} (0x{verdict.address:02x})"
     end = f"({verdict.rule}, {verdict.page})" if verdict.rule else f"(in {member})"
-    return f"{at}: error: {verdict.why} {end}"
+    return f"{at}: {error} {verdict.why} {end}"
 
 
 if __name__ == "__main__":

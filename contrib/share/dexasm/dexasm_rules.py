@@ -3,9 +3,13 @@
 The rules are those of ART 14 (libdexfile, dex_file_verifier.cc) that a file can break which dexasm accepts, and still
 breaks when it is stripped. What that verifier asks of later versions alone, and only warns of in 035 (members of
 interfaces, constructors without code), is none of them."""
+import ast
+import functools
+import os
+import re
 from typing import Iterator, NamedTuple, Optional
 
-from dexasm_contrib import module
+from dexasm_contrib import TOP, get, module
 
 PUBLIC, PRIVATE, PROTECTED, STATIC, FINAL, SYNCHRONIZED = 0x1, 0x2, 0x4, 0x8, 0x10, 0x20
 VOLATILE, VARARGS, NATIVE, INTERFACE, ABSTRACT, STRICT, SYNTHETIC = 0x40, 0x80, 0x100, 0x200, 0x400, 0x800, 0x1000
@@ -94,6 +98,14 @@ class Broken(NamedTuple):
     where: str
     rule: str
     by: str
+
+
+@functools.cache
+def said_of() -> dict[str, str]:
+    """What is wrong where a rule is broken, one of these or of code, as the help of dexasm-lint has it."""
+    help_ = ast.get_docstring(ast.parse(get(os.path.join(TOP, "bin", "dexasm-lint"))), clean=False)
+    found = re.findall(r"^  ([a-z-]+)  (\S.*(?:\n {6}.*)*)", help_, re.M)
+    return {rule: " ".join(text.split()) for rule, text in found}
 
 
 def classes_of(program) -> Iterator[Class]:

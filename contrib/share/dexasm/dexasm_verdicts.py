@@ -46,7 +46,11 @@ def uri_of(path: bytes) -> str:
 
 
 def sentence_of(verdict: Verdict) -> str | None:
-    """What is wrong, as the pages have it, or why it wasn't looked at."""
+    """What is wrong, as the pages and the help have it, or why it wasn't looked at."""
+    if verdict.rule is not None:
+        from dexasm_rules import said_of
+
+        return said_of().get(verdict.rule)
     if verdict.number is None:
         return verdict.why
     return sentences().get(verdict.number, ("", "", ""))[1] or None
@@ -63,11 +67,27 @@ def place_of(verdict: Verdict) -> str:
 
 def message_of(verdict: Verdict) -> str:
     """What is wrong, in short: why this word can't stand there, or the beginning of the pages' sentence."""
-    sentence = escaped(sentence_of(verdict) or "")
     if verdict.number is None:
-        return sentence
+        at = "" if verdict.address is None else f"instruction {verdict.instruction} (0x{verdict.address:02x}): "
+        return at + escaped(verdict.why or "")
+    sentence = escaped(sentence_of(verdict) or "")
     short = escaped(verdict.why) if verdict.why else sentence.partition(": ")[0]
     return f"{verdict.number} {verdict.name}" + (f": {short}" if short else "") + where(verdict)
+
+
+def is_of_member(verdict: Verdict) -> bool:
+    """Whether it is of a member of a program that is accepted, as dexasm-lint tells it."""
+    return verdict.number is None and verdict.class_ is not None
+
+
+def titled(verdict: Verdict) -> str:
+    """What is wrong, in a word or two."""
+    return f"{verdict.number} {verdict.name}" if verdict.number else verdict.rule or "not looked at"
+
+
+def whole(verdict: Verdict) -> str:
+    """A message that says where in the program it is."""
+    return message_of(verdict) + (where(verdict) if is_of_member(verdict) else "")
 
 
 def where(verdict: Verdict) -> str:
@@ -75,6 +95,8 @@ def where(verdict: Verdict) -> str:
     if verdict.number in OF_COUNTS:
         return f" ({verdict.place} are needed)"
     named = verdict.member or verdict.class_
+    if is_of_member(verdict):
+        return f" (in {escaped('->'.join(filter(None, (verdict.class_, verdict.member))))})"
     if named is not None:
         part = f", instruction {verdict.instruction}" if verdict.instruction is not None else ""
         return f" (in {escaped(named)}{part})"
@@ -93,6 +115,10 @@ class Text:
             return [f"{name}: {self.ok}ok{self.plain}"]
         if verdict.status == "empty":
             return [f"{name}: {self.ok}{verdict.why}{self.plain}"]
+        if is_of_member(verdict):
+            from dexasm_lint_code import line_of
+
+            return [harmless(line_of(name, verdict, f"{self.bad}error:{self.plain}"))]
         return [f"{name}{place_of(verdict)}: {self.bad}error:{self.plain} {message_of(verdict)}"]
 
     def end(self, status: int) -> list[str]:
@@ -108,6 +134,10 @@ class Json(Text):
     """A line of JSON for each."""
 
     fields: tuple[str, ...] = ("number", "name", "place", "line", "column", "class_", "member", "instruction")
+
+    def __init__(self, is_linted: bool = False) -> None:
+        super().__init__()
+        self.fields += ("address", "register", "rule", "page") if is_linted else ()
 
     def lines(self, verdict: Verdict) -> list[str]:
         import json
@@ -131,9 +161,9 @@ class GitHub(Text):
         if not verdict.entry and verdict.line is not None:
             words |= {"line": str(verdict.line)}
             words |= {"col": str(verdict.column)} if verdict.column is not None else {}
-        words["title"] = f"{verdict.number} {verdict.name}" if verdict.number else "not looked at"
+        words["title"] = titled(verdict)
         head = ",".join(f"{name}={commanded(text)}" for name, text in words.items())
-        message = commanded(f"{name_of(verdict)}{place_of(verdict)}: {message_of(verdict)}", "%\r\n")
+        message = commanded(f"{name_of(verdict)}{place_of(verdict)}: {whole(verdict)}", "%\r\n")
         return [f"::error {head}::{message}"]
 
 
@@ -154,15 +184,16 @@ class JUnit(Text):
     def lines(self, verdict: Verdict) -> list[str]:
         from xml.etree import ElementTree
 
-        case = ElementTree.SubElement(self.suite, "testcase", classname="dexasm-check", name=escaped(name_of(verdict)))
+        name = escaped(name_of(verdict)) + (place_of(verdict) if is_of_member(verdict) else "")
+        case = ElementTree.SubElement(self.suite, "testcase", classname="dexasm-check", name=name)
         self.counts["tests"] += 1
-        kinds = {"ok": None, "empty": "skipped", "refused": "failure"}
+        kinds = {"ok": None, "empty": "skipped", "refused": "failure", "broken": "failure"}
         kind = kinds.get(verdict.status, "error")
         if kind is not None:
             self.counts["skipped" if kind == "skipped" else f"{kind}s"] += 1
-            told = ElementTree.SubElement(case, kind, message=message_of(verdict))
+            told = ElementTree.SubElement(case, kind, message=whole(verdict))
             if kind != "skipped":
-                told.set("type", verdict.name or verdict.status)
+                told.set("type", verdict.name or verdict.rule or verdict.status)
                 told.text = Text().lines(verdict)[0]
         return []
 
@@ -192,7 +223,7 @@ class Sarif(Text):
         if verdict.status in ACCEPTED:
             return []
         said = f"{verdict.entry}{place_of(verdict)}: " if verdict.entry else ""
-        told = {"level": "error", "message": {"text": said + self.message(verdict)}, "locations": [location(verdict)]}
+        told = {"level": "error", "message": {"text": said + message_of(verdict)}, "locations": [location(verdict)]}
         rule = verdict.rule if verdict.number is None else str(verdict.number)
         if rule is None:
             self.notes.append({"descriptor": {"id": verdict.status}, **told})
@@ -201,12 +232,13 @@ class Sarif(Text):
             self.results.append({"ruleId": rule, "ruleIndex": at, **told})
         return []
 
-    def message(self, verdict: Verdict) -> str:
-        return message_of(verdict)
-
     def named(self, rule: str) -> tuple[str, str]:
         """A rule's name and its sentence."""
-        return sentences().get(int(rule), ("Unknown", "", ""))[:2]
+        if rule.isdecimal():
+            return sentences().get(int(rule), ("Unknown", "", ""))[:2]
+        from dexasm_rules import said_of
+
+        return rule, said_of().get(rule, "")
 
     def end(self, status: int) -> list[str]:
         import json
