@@ -96,7 +96,7 @@ class Batch:
         """Tells what is known of these bytes, and before it each rule of dexasm-lint that their program breaks."""
         made, verdict = judged(given, kind, is_hashed)
         if made is not None and self.is_linted:
-            for found in broken(given, made, verdict["kind"] == "listing"):
+            for found in broken_rules(given, made, verdict["kind"] == "listing"):
                 tell("broken", entry, found | {"program": verdict["program"]})
         tell("verdict", entry, verdict)
 
@@ -129,7 +129,7 @@ def judged(given: bytes, kind: str | None, is_hashed: bool) -> tuple[bytes | Non
     return made, told(kind, "ok", program=program_of(made) if is_hashed else None)
 
 
-def broken(given: bytes, made: bytes, is_text: bool) -> Iterator[dict[str, object]]:
+def broken_rules(given: bytes, made: bytes, is_text: bool) -> Iterator[dict[str, object]]:
     """Which rules of dexasm-lint a program breaks, and where."""
     import dexasm
     from dexasm_lint_code import broken_by, looked_at

@@ -355,7 +355,7 @@ def member_of(verdict: Verdict) -> list[str]:
 
 def looked_at(path: bytes, given: bytes, is_text: bool, program, jobs: int) -> Iterator[Verdict]:
     """What is wrong in the code of a file."""
-    places = Places(path, kind_of(is_text), program, given if is_text else None)
+    places = Places(path, kind_by(is_text), program, given if is_text else None)
     for told in look(program, jobs):
         yield places.verdict(told)
 
@@ -367,7 +367,7 @@ def broken_by(path: bytes, is_text: bool, program) -> Iterator[Verdict]:
             yield Verdict(
                 path,
                 "",
-                kind_of(is_text),
+                kind_by(is_text),
                 "broken",
                 class_=one.name,
                 member=where.partition("->")[2] or None,
@@ -377,7 +377,8 @@ def broken_by(path: bytes, is_text: bool, program) -> Iterator[Verdict]:
             )
 
 
-def kind_of(is_text: bool) -> str:
+def kind_by(is_text: bool) -> str:
+    """What a verdict calls what was given."""
     return "listing" if is_text else "dex"
 
 
