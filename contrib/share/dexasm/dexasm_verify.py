@@ -19,7 +19,7 @@ from dexasm_steps import step_of
 
 MOST_CELLS = 1 << 25  # kinds that are kept: registers by blocks
 STEP = 16  # registers that can be joined while one instruction is gone through
-MOST_WORK, MOST_EACH = 1 << 20, 5000  # joined registers for a method, and more for each of its instructions
+MOST_WORK, MOST_EACH = 1 << 20, 2400  # joined registers for a method, and more for each of its instructions
 MOST_TOLD = 5  # lines about one method
 MOST_WAYS = 64  # places that are looked at for where a register has its kind from
 
