@@ -14,7 +14,7 @@ use Rattle.code_read.specs.Handlers.{Handler, AllBy}
 use Rattle.code_read.specs.Tries.{handler_of}
 use Rattle.code_read.specs.Places.{Rises}
 use Rattle.code_put.specs.Packs.{IsFirstUse, PacksHandler, PacksCatch}
-use Rattle.code_put.specs.Writing.{Numbers, IsDistinct, joined_keys}
+use Rattle.code_put.specs.Writing.{IsNumbered, IsDistinct, joined_keys}
 use Rattle.code_put.proofs.ListLaws.{all-at}
 use Rattle.dex_base.proofs.ListFacts.{zip_length, zip_more, get_last, slice_left, all_get, all_append}
 
@@ -112,7 +112,7 @@ module _ (N : ℕ → Name → Type 0) (ss : List ℕ) (ts : List Try)
   }
 
   pub distinct-more : (i n : ℕ) (old new : List (List ℕ)) (numbers more : List ℕ) (bytes : List ℕ) → i < length ts → IsDistinct N ss ts i old numbers → PacksHandler N ss bytes (handler_of (try_at ts i)) → AllBytes bytes
-      → Numbers old new bytes n → more ≡ numbers ++ n ∷ [] → IsDistinct N ss ts (i + 1) new more
+      → IsNumbered old new bytes n → more ≡ numbers ++ n ∷ [] → IsDistinct N ss ts (i + 1) new more
   distinct-more i n old new numbers more bytes inside d p small s m = elim s.is_new [
     | inl same ↦
         let there = subst (λ (ks : List (List ℕ)). slice_get ks n ≡ Some bytes) same s.there in

@@ -12,7 +12,7 @@ use Rattle.code_read.specs.Places.{Rises, target_at}
 use Rattle.code_read.specs.Walk.{Walks, starts, raw_at, address}
 use Rattle.code_read.specs.Symbols.{linked, name_in}
 use Rattle.code_read.specs.Linked.{lead, payload_of, SpellsInsns}
-use Rattle.code_read.specs.ByAddress.{offsets_of, CountFrom, LeadsTo, LeadsByAddress}
+use Rattle.code_read.specs.ByAddress.{offsets_of, CountFrom, OffsetLeadsTo, LeadsByAddress}
 use Rattle.code_read.proofs.Runs.{run-rises, length-of_starts}
 use Rattle.code_read.proofs.PlaceLaws.{target-there}
 use Rattle.code_read.proofs.LinkLaws.{kind-linked}
@@ -45,7 +45,7 @@ lead-there : (ss : List ℕ) (base : ℕ) (z : ℤ) → lead ss base z < length 
 unfolding lead
 lead-there ss base z h = some-below (target_at ss base z) (length ss) h
 
-leads-to : (rs : List Raw) (from : ℕ) (z : ℤ) → Rises (starts rs) → lead (starts rs) (address rs from) z < length rs → LeadsTo rs from z (lead (starts rs) (address rs from) z)
+leads-to : (rs : List Raw) (from : ℕ) (z : ℤ) → Rises (starts rs) → lead (starts rs) (address rs from) z < length rs → OffsetLeadsTo rs from z (lead (starts rs) (address rs from) z)
 leads-to rs from z r h =
     let n = length-of_starts rs in
     let p = target-there (starts rs) (address rs from) z _ (lead-there (starts rs) (address rs from) z (omega (arith, n, h))) in
@@ -54,7 +54,7 @@ leads-to rs from z r h =
 -- ---- the offsets of one instruction
 
 all-lead : (rs : List Raw) (from : ℕ) (zs : List ℤ) → Rises (starts rs) → AllByRecursion (λ to. to < length rs) (map (lead (starts rs) (address rs from)) zs)
-    → AllZip (LeadsTo rs from) zs (map (lead (starts rs) (address rs from)) zs)
+    → AllZip (OffsetLeadsTo rs from) zs (map (lead (starts rs) (address rs from)) zs)
 all-lead rs from [] r h = tt
 all-lead rs from (z ∷ zs) r h = (leads-to rs from z r h.0, all-lead rs from zs r h.1)
 
@@ -103,5 +103,5 @@ leads-by_address N us rs is s k m =
       from = x.origin;
       counts = counts;
       only = λ j c. count-one is k j x.origin (raw_at rs k) kind p c counts;
-      leads = subst (AllZip (LeadsTo rs x.origin) zs) (sym led) (all-lead rs x.origin zs (walk-rises us rs s.walk) (subst (λ (d : ℕ). AllByRecursion (λ (to : ℕ). to < d) (map T zs)) n inside));
+      leads = subst (AllZip (OffsetLeadsTo rs x.origin) zs) (sym led) (all-lead rs x.origin zs (walk-rises us rs s.walk) (subst (λ (d : ℕ). AllByRecursion (λ (to : ℕ). to < d) (map T zs)) n inside));
     }

@@ -30,7 +30,7 @@ CountFrom is k (raw.Sparse keys offsets) from = RefersToPayload is from k
 CountFrom is k _ from = from ≡ k
 
 -- From one instruction the offset leads to the other: the one, and no other, whose address is the sum.
-pub record LeadsTo (rs : List Raw) (from : ℕ) (offset : ℤ) (to : ℕ) : Type 0 where
+pub record OffsetLeadsTo (rs : List Raw) (from : ℕ) (offset : ℤ) (to : ℕ) : Type 0 where
   pub there : to < length rs
   pub sum : pos (address rs to) ≡ (pos (address rs from) +ℤ offset)
   pub only : (n : ℕ) → n < length rs → pos (address rs n) ≡ (pos (address rs from) +ℤ offset) → n ≡ to
@@ -40,4 +40,4 @@ pub record LeadsByAddress (rs : List Raw) (is : List Insn) (k : ℕ) : Type 0 wh
   pub from : ℕ
   pub counts : CountFrom is k (raw_at rs k) from
   pub only : (j : ℕ) → CountFrom is k (raw_at rs k) j → j ≡ from
-  pub leads : AllZip (LeadsTo rs from) (offsets_of (raw_at rs k)) (insn_leads (insn_at is k))
+  pub leads : AllZip (OffsetLeadsTo rs from) (offsets_of (raw_at rs k)) (insn_leads (insn_at is k))

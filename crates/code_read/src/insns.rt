@@ -192,10 +192,7 @@ fn past_registers(insns: &[Insn<'_>], starts: &[u32], count: u16) -> Option<u32>
     ensures among { IfNone result (AllHold (AmongAt count (map insn insns.now)) (length (map insn insns.now))) }
     ensures past { IfSome result (IsPast count (map insn insns.now)) }
 {
-    match first_past(count, insns) {
-        Some(k) => Some(starts[k]),
-        None => None,
-    }
+    Some(starts[first_past(count, insns)?])
 }
 
 /// Reads the instructions of a code of so many registers, whose first unit is at the place `base`: at once where there are no payloads;

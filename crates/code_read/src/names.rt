@@ -16,8 +16,5 @@ pub(crate) fn named<'a>(tables: &Tables<'a>, op: u8, index: u32) -> Option<Name<
     ensures some { IfSome result (λ n. IndexStandsFor (NameIsAt tables.now) op index (name n)) }
     ensures none { IfNone result ((n : content.Name) → ¬ IndexStandsFor (NameIsAt tables.now) op index n) }
 {
-    match index_kind_of(op) {
-        Some(kind) => tables.name(kind, index),
-        None => None,
-    }
+    tables.name(index_kind_of(op)?, index)
 }

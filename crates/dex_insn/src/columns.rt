@@ -31,10 +31,7 @@ fn row_of(op: u8) -> Option<Opcode<&'static str>>
 pub fn format_of(op: u8) -> Option<Format>
     ensures { result ≡ format_of op }
 {
-    match row_of(op) {
-        Some(row) => Some(row.format),
-        None => None,
-    }
+    Some(row_of(op)?.format)
 }
 
 /// The table that the index in an opcode's instructions is a row of: `None` where their format has none, and where the
@@ -42,10 +39,7 @@ pub fn format_of(op: u8) -> Option<Format>
 pub fn index_kind_of(op: u8) -> Option<IndexKind>
     ensures { result ≡ index_kind_of op }
 {
-    match row_of(op) {
-        Some(row) => row.index,
-        None => None,
-    }
+    row_of(op)?.index
 }
 
 /// The mnemonic of an opcode ("Dalvik bytecode", column "Mnemonic / Syntax"): empty where the opcode is unused.

@@ -20,10 +20,7 @@ fn greatest(regs: &[u8]) -> Option<u8>
 fn greatest_named(n: u8, regs: &[u8; 5]) -> Option<u32>
     ensures { result ≡ reduce max (take n regs.now) }
 {
-    match greatest(&regs[..usize::from(n).min(5)]) {
-        Some(one) => Some(u32::from(one)),
-        None => None,
-    }
+    Some(u32::from(greatest(&regs[..usize::from(n).min(5)])?))
 }
 
 /// The last of `n` registers from `first` on.

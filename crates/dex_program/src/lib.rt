@@ -14,7 +14,7 @@
 //! docs/MAP.md says where this crate stands among the others.
 #![tactic(auto)]
 
-pub use program_rules::{well_formed, well_formed_in, well_formed_named_in};
+pub use program_rules::{well_formed, well_formed_in};
 pub use program_types::{
     Catch, Class, Code, Desc, FieldRef, Insn, Member, Method, MethodRef, Name, Program, Proto, Str,
     Try, Value, alloc_descs, alloc_proto, alloc_str, shorty_of,

@@ -39,8 +39,5 @@ pub(crate) fn named<'a>(tables: &Tables<'a>, ty: NameType, low: &[u8]) -> Option
         IsNameOfType (name_code ty) which → ¬ NameIsAt tables.now (unsigned_of low.now) which) }
 {
     let index = unsigned(low) as u32;
-    match tables.name(name_kind(ty), index) {
-        Some(name) => Some(name_value(ty, name)),
-        None => None,
-    }
+    Some(name_value(ty, tables.name(name_kind(ty), index)?))
 }

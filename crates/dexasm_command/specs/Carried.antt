@@ -21,6 +21,10 @@ pub record Around : Type 0 where
   pub taken : Option (List ℕ)
   pub output_failed : Bool
 
+abbrev pub around : Bool → Files → Option (List ℕ) → Bool → Option (List ℕ) → Bool → Around
+around known files left input_failed taken output_failed =
+    record { known = known; files = files; left = left; input_failed = input_failed; taken = taken; output_failed = output_failed }
+
 -- all was given, and each moment on the way of its answer to OUT is safe
 pub record IsOnItsWay (known : Type 0) (job : Job) (had left : Option (List ℕ)) (f g : Files) (out : Path) (answer : List ℕ) : Type 0 where
   pub given : List ℕ

@@ -1,6 +1,6 @@
 //! A job carried out: what FILE or standard input gives is read, and the answer goes to OUT or to standard output.
 ghost use Rattle.std.specs.Prelude.{◌≡◌, false, true, [], None, Some};
-ghost use Rattle.dexasm_command.specs.Carried.{AnswersFrom, CarriesOut, GoesTo, HandsOver};
+ghost use Rattle.dexasm_command.specs.Carried.{AnswersFrom, CarriesOut, GoesTo, HandsOver, around};
 
 use dex_base::Seed;
 use dexasm_job::Job;
@@ -24,22 +24,8 @@ pub fn carry_out<W: World, I: Source, O: Sink>(
     requires input_goes_on { I.ended input.old ≡ false }
     requires output_works { O.failed output.old ≡ false }
     ensures { CarriesOut job file.entry out.entry
-        (record {
-          known = W.is_known;
-          files = W.files world.old;
-          left = I.remaining input.old;
-          input_failed = I.failed input.old;
-          taken = O.contents output.old;
-          output_failed = O.failed output.old;
-        })
-        (record {
-          known = W.is_known;
-          files = W.files world.new;
-          left = I.remaining input.new;
-          input_failed = I.failed input.new;
-          taken = O.contents output.new;
-          output_failed = O.failed output.new;
-        })
+        (around W.is_known (W.files world.old) (I.remaining input.old) (I.failed input.old) (O.contents output.old) (O.failed output.old))
+        (around W.is_known (W.files world.new) (I.remaining input.new) (I.failed input.new) (O.contents output.new) (O.failed output.new))
         result }
 {
     match file {
@@ -47,8 +33,7 @@ pub fn carry_out<W: World, I: Source, O: Sink>(
         Some(path) => match read_all(alloc, world, path) {
             Ok(given) => answer_given(alloc, seed, job, given, out, world, output),
             Err(Refusal::Memory) => Err(RunFault::Memory),
-            Err(Refusal::Missing) => Err(RunFault::Input),
-            Err(Refusal::Other) => Err(RunFault::Input),
+            Err(_) => Err(RunFault::Input),
         },
     }
 }
@@ -64,22 +49,8 @@ fn answer_given<W: World, O: Sink>(
     output: &mut O,
 ) -> Result<(), RunFault>
     ensures { AnswersFrom job out.entry (Some given.items) (Some []) false
-        (record {
-          known = W.is_known;
-          files = W.files world.old;
-          left = None;
-          input_failed = false;
-          taken = O.contents output.old;
-          output_failed = O.failed output.old;
-        })
-        (record {
-          known = W.is_known;
-          files = W.files world.new;
-          left = None;
-          input_failed = false;
-          taken = O.contents output.new;
-          output_failed = O.failed output.new;
-        })
+        (around W.is_known (W.files world.old) None false (O.contents output.old) (O.failed output.old))
+        (around W.is_known (W.files world.new) None false (O.contents output.new) (O.failed output.new))
         result }
 {
     match answer_bytes(alloc, seed, job, given) {
@@ -105,22 +76,8 @@ fn answer_from<W: World, I: Source, O: Sink>(
     requires input_goes_on { I.ended input.old ≡ false }
     requires output_works { O.failed output.old ≡ false }
     ensures { AnswersFrom job out.entry (I.remaining input.old) (I.remaining input.new) (I.failed input.new)
-        (record {
-          known = W.is_known;
-          files = W.files world.old;
-          left = I.remaining input.old;
-          input_failed = I.failed input.old;
-          taken = O.contents output.old;
-          output_failed = O.failed output.old;
-        })
-        (record {
-          known = W.is_known;
-          files = W.files world.new;
-          left = I.remaining input.new;
-          input_failed = I.failed input.new;
-          taken = O.contents output.new;
-          output_failed = O.failed output.new;
-        })
+        (around W.is_known (W.files world.old) (I.remaining input.old) (I.failed input.old) (O.contents output.old) (O.failed output.old))
+        (around W.is_known (W.files world.new) (I.remaining input.new) (I.failed input.new) (O.contents output.new) (O.failed output.new))
         result }
 {
     match out {

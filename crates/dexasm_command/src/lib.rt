@@ -28,8 +28,7 @@ pub use dex_base::Seed;
 pub use dexasm_job::Job;
 pub use dexasm_plan::{plan, usage_status};
 pub use dexasm_run::{
-    Line, RunFault, Sink, Source, Watched, answer, answer_owned, line_text, run, run_seeded,
-    status, write_all,
+    Line, RunFault, Sink, Source, Watched, answer, line_text, run, run_seeded, status, write_all,
 };
 pub use dexasm_world::deliver;
 pub use laws::{out_is_never_lost, statuses_tell};

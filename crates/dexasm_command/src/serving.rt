@@ -3,6 +3,7 @@ ghost use Rattle.std.specs.Prelude.{◌≡◌, false, true, Result, Option};
 ghost use Rattle.clap.specs.Words.{kind_of};
 ghost use Rattle.dexasm_plan.specs.Plans.{texts_of};
 ghost use Rattle.dexasm_command.specs.Told.{EndsTold, Misuses, PutsLine, Shows, terminal_line};
+ghost use Rattle.dexasm_command.specs.Carried.{around};
 ghost use Rattle.dexasm_command.specs.Served.{Serves};
 
 use crate::carrying::carry_out;
@@ -40,22 +41,8 @@ pub fn serve<W: World, I: Source, O: Sink, E: Sink>(
     ensures { Serves (record {
       words = texts_of words.entry.now;
       terminals = terminals;
-      before = record {
-        known = W.is_known;
-        files = W.files world.old;
-        left = I.remaining input.old;
-        input_failed = I.failed input.old;
-        taken = O.contents output.old;
-        output_failed = O.failed output.old;
-      };
-      after = record {
-        known = W.is_known;
-        files = W.files world.new;
-        left = I.remaining input.new;
-        input_failed = I.failed input.new;
-        taken = O.contents output.new;
-        output_failed = O.failed output.new;
-      };
+      before = around W.is_known (W.files world.old) (I.remaining input.old) (I.failed input.old) (O.contents output.old) (O.failed output.old);
+      after = around W.is_known (W.files world.new) (I.remaining input.new) (I.failed input.new) (O.contents output.new) (O.failed output.new);
       said = E.contents errors.old;
       says = E.contents errors.new;
       errors_failed = E.failed errors.new;

@@ -62,37 +62,9 @@ pub fn answer_seeded(alloc: Global, seed: Seed, job: Job, given: &[u8]) -> Resul
     }
 }
 
-/// The answer to a job on bytes that are given away, as `answer` gives it. A listing is let go before its file is written, so that
-/// both are never held.
-///
-/// ```
-/// use dexasm_job::Job;
-/// use dexasm_run::answer_owned;
-///
-/// let listing = Vec::from_slice(alloc, b"dex 035 listing 2\n")?;
-/// let file = answer_owned(alloc, Job::Assemble { align: false }, listing)?;
-/// assert_eq!(rt; file.len(), 140);
-/// ```
-pub fn answer_owned(alloc: Global, job: Job, given: Vec<u8>) -> Result<Vec<u8>, Fault>
-    ensures answered { IfOk result (λ made. Answer job given.items made.items) }
-    ensures refused { IfErr result (λ fault. fault ≢ memory → Refusal job given.items fault) }
-{
-    answer_owned_seeded(alloc, Seed::fixed(), job, given)
-}
-
-/// The answer to a job on bytes that are given away, as `answer_owned` gives it. Hashes begin with this seed, as those of
-/// `answer_seeded` do.
-///
-/// ```
-/// use dex_base::Seed;
-/// use dexasm_job::Job;
-/// use dexasm_run::answer_owned_seeded;
-///
-/// let listing = Vec::from_slice(alloc, b"dex 035 listing 2\n")?;
-/// let file = answer_owned_seeded(alloc, Seed::new(0x5eed), Job::Assemble { align: false }, listing)?;
-/// assert_eq!(rt; file.len(), 140);
-/// ```
-pub fn answer_owned_seeded(
+/// The answer to a job on bytes that are given away, as `answer_seeded` gives it. A listing is let go before its file is written, so
+/// that both are never held.
+pub(crate) fn answer_owned(
     alloc: Global,
     seed: Seed,
     job: Job,

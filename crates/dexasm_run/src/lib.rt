@@ -20,7 +20,7 @@ mod sink;
 mod source;
 mod watched;
 
-pub use answers::{answer, answer_owned, answer_owned_seeded, answer_seeded};
+pub use answers::{answer, answer_seeded};
 pub use error::{Line, RunFault, line_text, status};
 pub use laws::{listed_and_assembled_is_stripped, one_answer, one_outcome};
 pub use running::{answer_bytes, make, run, run_seeded, write_all};

@@ -3,7 +3,7 @@ ghost use Rattle.std.specs.Prelude.{◌≡◌, ◌≢◌, ◌<◌, vec_len, true
 ghost use Rattle.std.specs.Io.KnownBytes.{Keeps};
 ghost use Rattle.dexasm_run.specs.Runs.{Answers, AnswersTo, BeginsAnswer, Makes, MatchRun, Refuses, ReadsAll, WritesAll};
 
-use crate::answers::answer_owned_seeded;
+use crate::answers::answer_owned;
 use crate::error::RunFault;
 use crate::sink::Sink;
 use crate::source::Source;
@@ -141,7 +141,7 @@ pub fn answer_bytes(
 ) -> Result<Vec<u8>, RunFault>
     ensures { AnswersTo job given.items result }
 {
-    match answer_owned_seeded(alloc, seed, job, given) {
+    match answer_owned(alloc, seed, job, given) {
         Ok(made) => Ok(made),
         Err(fault) => Err(refusal(fault)),
     }

@@ -11,7 +11,7 @@ use Rattle.file_classes.specs.declared.class_data.Entries.{Entries}
 use Rattle.file_classes.specs.declared.members.Bare.{Bare}
 use Rattle.file_classes.specs.declared.heads.Head.{Head}
 use Rattle.file_classes.specs.declared.members.Members.{Members}
-use Rattle.file_classes.specs.declared.methods.Found.{Found}
+use Rattle.file_classes.specs.declared.methods.FoundCode.{FoundCode}
 use Rattle.file_classes.specs.ClassData.{EntriesAre}
 use Rattle.file_classes.specs.declared.statics.Statics.{Statics}
 use Rattle.file_classes.specs.ClassData as numbers
@@ -115,7 +115,7 @@ IsNotAmong ts m n = (j : ℕ) (t : content.Units) → j < m → slice_get ts j �
 -- ---- methods with their code
 
 -- This is the body at an offset, and the code stands or this is the fault of its registers.
-pub record IsFound (b : List ℕ) (off : ℕ) (x : Found) : Type 0 where
+pub record IsFound (b : List ℕ) (off : ℕ) (x : FoundCode) : Type 0 where
   pub body : BodyAt b off (option_map (λ c. code c.now) x.code)
   pub hold : IfNone x.past (CodeHolds b off)
   pub past : IfSome x.past (RegistersFail b off)

@@ -20,7 +20,7 @@ use tables_rows::Tables;
 
 /// The names and flags of a class.
 #[derive(Clone, Copy)]
-pub(crate) struct Row<'a> {
+pub(crate) struct ClassRow<'a> {
     pub ty: Desc<'a>,
     pub flags: u32,
     pub superclass: Option<Desc<'a>>,
@@ -120,7 +120,7 @@ pub(crate) fn read_row<'a>(
     sections: &Sections<'_>,
     tables: &Tables<'a>,
     i: u32,
-) -> Result<Row<'a>, Fault>
+) -> Result<ClassRow<'a>, Fault>
     requires names { AreNamesOf sections.now tables.now }
     requires row { i < size_of sections.now section.class_defs }
     ensures ok { IfOk result (λ r. RowIs sections.now i (desc r.ty) r.flags (option_map desc r.superclass) (option_map str r.source)) }
@@ -151,7 +151,7 @@ pub(crate) fn read_row<'a>(
         return Err(Fault::at(fault::CLASS_KIND, place));
     }
     let flags = class_word(sections, i, word::ACCESS_FLAGS);
-    Ok(Row {
+    Ok(ClassRow {
         ty,
         flags,
         superclass,

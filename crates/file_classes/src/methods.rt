@@ -28,7 +28,7 @@ use tables_rows::Tables;
 
 /// The code at an offset, and what is wrong with its registers, if anything is.
 #[derive(Clone, Copy)]
-pub(crate) struct Found<'a> {
+pub(crate) struct FoundCode<'a> {
     pub(crate) code: Option<&'a Code<'a>>,
     pub(crate) past: Option<Fault>,
 }
@@ -54,7 +54,7 @@ fn read_code_at<'a>(
     sections: &Sections<'_>,
     tables: &Tables<'a>,
     off: u32,
-) -> Result<Found<'a>, Fault>
+) -> Result<FoundCode<'a>, Fault>
     requires names { AreNamesOf sections.now tables.now }
     ensures ok { IfOk result (λ x. BodyAt sections.now off (option_map (λ c. view.code c.now) x.code)) }
     ensures hold { IfOk result (λ x. IfNone x.past (CodeHolds sections.now off)) }
@@ -62,14 +62,14 @@ fn read_code_at<'a>(
     ensures err { IfErr result (λ e. e ≢ memory → BodyFails sections.now off e) }
 {
     if off == 0 {
-        return Ok(Found {
+        return Ok(FoundCode {
             code: None,
             past: None,
         });
     }
     let body = read_body(alloc, arena, tables, sections, off)?;
     let placed: &'a Code<'a> = arena.try_alloc(body.code)?;
-    Ok(Found {
+    Ok(FoundCode {
         code: Some(placed),
         past: body.past,
     })
@@ -81,9 +81,9 @@ fn code_at<'a>(
     arena: &'a Bump,
     sections: &Sections<'_>,
     tables: &Tables<'a>,
-    cached: &mut IndexMap<u32, Found<'a>>,
+    cached: &mut IndexMap<u32, FoundCode<'a>>,
     off: u32,
-) -> Result<Found<'a>, Fault>
+) -> Result<FoundCode<'a>, Fault>
     requires names { AreNamesOf sections.now tables.now }
     requires cached { AreCached (IsFound sections.now) cached.old }
     ensures ok { IfOk result (IsFound sections.now off) }
@@ -104,7 +104,7 @@ fn read_methods<'a>(
     arena: &'a Bump,
     sections: &Sections<'_>,
     tables: &Tables<'a>,
-    cached: &mut IndexMap<u32, Found<'a>>,
+    cached: &mut IndexMap<u32, FoundCode<'a>>,
     bares: &[Bare<'a>],
 ) -> Result<Methods<'a>, Fault>
     requires names { AreNamesOf sections.now tables.now }
@@ -138,7 +138,7 @@ fn read_class<'a>(
     arena: &'a Bump,
     sections: &Sections<'_>,
     tables: &Tables<'a>,
-    cached: &mut IndexMap<u32, Found<'a>>,
+    cached: &mut IndexMap<u32, FoundCode<'a>>,
     i: u32,
     head: Head<'a, '_>,
     statics: Statics<'a>,

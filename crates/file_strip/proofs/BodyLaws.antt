@@ -21,7 +21,7 @@ use Rattle.program_types.specs.Sizes.{addresses_of}
 use Rattle.tables_names.specs.Closure.{Five, AreRising, NameRanks}
 use Rattle.file_renumber.specs.Marked.{Columns}
 use Rattle.file_strip.specs.Bodies.{AreNear, AreOwned, IsCarriedBody, IsCarriedSome, IsFar, IsFirstFar, IsOwned, bodies_alone}
-use Rattle.file_strip.specs.declared.codes.Body.{Body}
+use Rattle.file_strip.specs.declared.codes.PlacedBody.{PlacedBody}
 use Rattle.file_strip.specs.Moved.{IsItem}
 use Rattle.dex_base.proofs.ListFacts.{zip_length, some_inj}
 
@@ -97,7 +97,7 @@ near_body b numbers s off v align kept more old new place x u =
 -- ---- bodies one by one
 
 -- each of them stands where the entry of its method says
-pub owned_at : (b : List ℕ) (numbers : Columns) (s : Five) (es : List Body) (xs : List (ℕ × Option Code)) (i : ℕ) (d : Body) (x : ℕ × Option Code) → i < length es → AreOwned b numbers s es xs → IsOwned b numbers s (get_or es i d) (get_or xs i x)
+pub owned_at : (b : List ℕ) (numbers : Columns) (s : Five) (es : List PlacedBody) (xs : List (ℕ × Option Code)) (i : ℕ) (d : PlacedBody) (x : ℕ × Option Code) → i < length es → AreOwned b numbers s es xs → IsOwned b numbers s (get_or es i d) (get_or xs i x)
 owned_at b numbers s [] xs i d x lt z = absurd (omega (arith, lt))
 owned_at b numbers s (e ∷ es) [] i d x lt z = absurd z
 owned_at b numbers s (e ∷ es) (y ∷ xs) zero d x lt z = z.0
@@ -109,13 +109,13 @@ turn_of [] i = refl
 turn_of (y ∷ xs) zero = refl
 turn_of (y ∷ xs) (suc i) = turn_of xs i
 
-pub carried_at : (b : List ℕ) (numbers : Columns) (s : Five) (es : List Body) (xs : List (ℕ × Option Code)) (i : ℕ) → i < length es → AreOwned b numbers s es xs
+pub carried_at : (b : List ℕ) (numbers : Columns) (s : Five) (es : List PlacedBody) (xs : List (ℕ × Option Code)) (i : ℕ) → i < length es → AreOwned b numbers s es xs
     → ((get_or es i (record { class = 0; code = 0 })).class ≡ (get_or xs i (0, None)).0) × IsCarriedBody b numbers s (get_or es i (record { class = 0; code = 0 })).code (get_or (bodies_alone xs) i None)
 carried_at b numbers s es xs i lt z =
     let o = owned_at b numbers s es xs i (record { class = 0; code = 0 }) (0, None) lt z in
     (o.class, subst (IsCarriedBody b numbers s (get_or es i (record { class = 0; code = 0 })).code) (sym (turn_of xs i)) o.body)
 
-pub owned_long : (b : List ℕ) (numbers : Columns) (s : Five) (es : List Body) (xs : List (ℕ × Option Code)) → AreOwned b numbers s es xs → (length es ≡ length xs) × (length es ≡ length (bodies_alone xs))
+pub owned_long : (b : List ℕ) (numbers : Columns) (s : Five) (es : List PlacedBody) (xs : List (ℕ × Option Code)) → AreOwned b numbers s es xs → (length es ≡ length xs) × (length es ≡ length (bodies_alone xs))
 owned_long b numbers s es xs z =
     let n = zip_length (IsOwned b numbers s) es xs z in
     (n, n ∙ sym (length-map xs (λ (x : ℕ × Option Code). x.1)))

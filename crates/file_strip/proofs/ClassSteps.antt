@@ -20,7 +20,7 @@ use Rattle.file_classes.specs.ClassData.{Entries, EntriesAt}
 use Rattle.file_classes.specs.Classes.{CodesAre, MembersAre, SpellsClass}
 use Rattle.file_classes.proofs.EntryLaws.{entries_one, entry_at}
 use Rattle.file_strip.specs.Survey.{AreFound, FindsNames, SpellsMembers, names_of_head, names_of_members}
-use Rattle.file_strip.specs.declared.survey.Found.{Found}
+use Rattle.file_strip.specs.declared.survey.Surveyed.{Surveyed}
 use Rattle.file_strip.proofs.WalkLaws.{take_next}
 
 pub spells_members : (b : List ℕ) → IsFramed b → (i : ℕ) (c : Class) (e : Entries) → SpellsClass b i c → EntriesAt b (class_word b i 6) e → SpellsMembers b e (class_word b i 7) c
@@ -57,7 +57,7 @@ next_names p i c at =
     ap (flat_map names_of_class) (take_next p i c at) ∙ flat_map-append names_of_class (take i p) (c ∷ []) ∙ ap (λ (ns : List Name). flat_map names_of_class (take i p) ++ ns) (append-nil (names_of_class c))
 
 -- one class more was looked at
-pub next_class : (b : List ℕ) (old new : Found) (p : Program) (i : ℕ) (c : Class) → slice_get p i ≡ Some c → AreFound b old (with_names nothing (flat_map names_of_class (take i p))) → FindsNames b old new (names_of_class c)
+pub next_class : (b : List ℕ) (old new : Surveyed) (p : Program) (i : ℕ) (c : Class) → slice_get p i ≡ Some c → AreFound b old (with_names nothing (flat_map names_of_class (take i p))) → FindsNames b old new (names_of_class c)
     → AreFound b new (with_names nothing (flat_map names_of_class (take (i + 1) p)))
 next_class b old new p i c at a f =
     subst (AreFound b new) (sym (ap (with_names nothing) (next_names p i c at) ∙ names_append nothing (flat_map names_of_class (take i p)) (names_of_class c)))

@@ -26,7 +26,7 @@ use Rattle.tables_names.proofs.NeededLemmas.{holds_part, names_append, with_name
 use Rattle.tables_rows.specs.Cached.{AreCached}
 use Rattle.file_renumber.specs.Marked.{AddsNames, HasMarks, Marked}
 use Rattle.file_strip.specs.Survey.{AreFound, ArrayIsFound, CodeIsFound, FindsNames, HasFound}
-use Rattle.file_strip.specs.declared.survey.Found.{Found}
+use Rattle.file_strip.specs.declared.survey.Surveyed.{Surveyed}
 
 -- ---- names that are held
 
@@ -53,20 +53,20 @@ codes_stay b s more m kept off n at = let c = kept off n at in record { wide = c
 pub arrays_stay : {S : Type 0} (b : List ℕ) (s : Five) (more : List Name) (m : HashMap ℕ ℕ S) → AreCached (ArrayIsFound b s) m → AreCached (ArrayIsFound b (with_names s more)) m
 arrays_stay b s more m kept off n at = let c = kept off n at in record { wide = c.wide; names = λ most vs st. still_held s more (flat_map names_of_value vs) (c.names most vs st) }
 
-pub finds_marked : (b : List ℕ) (old : Found) (marks : Marked) (ns : List Name) → AddsNames b old.marks marks ns → FindsNames b old (record old { marks = marks }) ns
+pub finds_marked : (b : List ℕ) (old : Surveyed) (marks : Marked) (ns : List Name) → AddsNames b old.marks marks ns → FindsNames b old (record old { marks = marks }) ns
 finds_marked b old marks ns f s a = record { marks = f s a.marks; codes = codes_stay b s ns old.codes a.codes; arrays = arrays_stay b s ns old.arrays a.arrays; section = a.section }
 
-pub finds_more : (b : List ℕ) (old mid new : Found) (xs ys : List Name) → FindsNames b old mid xs → FindsNames b mid new ys → FindsNames b old new (xs ++ ys)
+pub finds_more : (b : List ℕ) (old mid new : Surveyed) (xs ys : List Name) → FindsNames b old mid xs → FindsNames b mid new ys → FindsNames b old new (xs ++ ys)
 finds_more b old mid new xs ys f g s a = subst (AreFound b new) (sym (names_append s xs ys)) (g (with_names s xs) (f s a))
 
-pub has_found_after : (b : List ℕ) (old new : Found) (ns : List Name) → HasFound b old → FindsNames b old new ns → HasFound b new
+pub has_found_after : (b : List ℕ) (old new : Surveyed) (ns : List Name) → HasFound b old → FindsNames b old new ns → HasFound b new
 has_found_after b old new ns h f = (with_names h.0 ns, f h.0 h.1)
 
-pub has_marks : (b : List ℕ) (f : Found) → HasFound b f → HasMarks b f.marks
+pub has_marks : (b : List ℕ) (f : Surveyed) → HasFound b f → HasMarks b f.marks
 has_marks b f h = (h.0, h.1.marks)
 
 -- names that were found before
-pub finds_held : (b : List ℕ) (f : Found) (ns : List Name) → ((s : Five) → AreFound b f s → AllByRecursion (Holds s) ns) → FindsNames b f f ns
+pub finds_held : (b : List ℕ) (f : Surveyed) (ns : List Name) → ((s : Five) → AreFound b f s → AllByRecursion (Holds s) ns) → FindsNames b f f ns
 finds_held b f ns held s a = subst (AreFound b f) (held_add_nothing s ns a.marks.closed a.marks.rise (held s a)) a
 
 -- ---- what stands at an offset that isn't 0

@@ -30,7 +30,7 @@ use Rattle.file_renumber.specs.Marked.{Columns, IsColumn, kind_of}
 use Rattle.file_renumber.specs.Numbers.{Carries, Counts, column_of}
 use Rattle.tables_rows.specs.Stands.{NameStands}
 use Rattle.file_strip.specs.Bodies.{AreFirstBodies, AreOwned, IsCarriedBody, IsCarriedSome, body_of, numbered}
-use Rattle.file_strip.specs.declared.codes.Body.{Body}
+use Rattle.file_strip.specs.declared.codes.PlacedBody.{PlacedBody}
 use Rattle.file_strip.specs.Keeping.{Keeps}
 use Rattle.file_strip.proofs.KeepLaws.{carried, class_holds, number_is}
 use Rattle.file_strip.proofs.FarLaws.{pairs}
@@ -107,7 +107,7 @@ module _ (b : List ℕ) (numbers : Columns) (p : Program) (k : Keeps b numbers p
     methods_owned n class es ms are (omega (arith, count)) (λ j x y at_x at_y. codes (suc j) x y at_x at_y) (all_back (Holds (needed p)) (if_any names_of_code m.code) (flat_map (names_of_method class) ms) held.1) (omega (arith, short)),
   )
 
-owned_append : (b : List ℕ) (numbers : Columns) (s : Five) (es fs : List Body) (xs ys : List (ℕ × Option Code)) → AreOwned b numbers s es xs → AreOwned b numbers s fs ys → AreOwned b numbers s (es ++ fs) (xs ++ ys)
+owned_append : (b : List ℕ) (numbers : Columns) (s : Five) (es fs : List PlacedBody) (xs ys : List (ℕ × Option Code)) → AreOwned b numbers s es xs → AreOwned b numbers s fs ys → AreOwned b numbers s (es ++ fs) (xs ++ ys)
 owned_append b numbers s [] fs [] ys z w = w
 owned_append b numbers s [] fs (x ∷ xs) ys z w = absurd z
 owned_append b numbers s (e ∷ es) fs [] ys z w = absurd z
@@ -146,10 +146,10 @@ numbered_next p i c at =
     ap (λ (j : ℕ). numbered 0 (take j p)) one ∙ numbered_more 0 p i c at ∙ ap (λ (m : ℕ). numbered 0 (take i p) ++ map (λ (v : Option Code). (m, v)) (bodies_of c)) own
     ∙ ap (λ (l : List (ℕ × Option Code)). numbered 0 (take i p) ++ l) (pairs i c)
 
-pushed_twice : (i : ℕ) (old mid new : List Body) (ds vs directs virtuals : List held_method.MethodEntry) → directs ≡ ds → virtuals ≡ vs → mid ≡ old ++ map (body_of i) directs → new ≡ mid ++ map (body_of i) virtuals
+pushed_twice : (i : ℕ) (old mid new : List PlacedBody) (ds vs directs virtuals : List held_method.MethodEntry) → directs ≡ ds → virtuals ≡ vs → mid ≡ old ++ map (body_of i) directs → new ≡ mid ++ map (body_of i) virtuals
     → new ≡ old ++ (map (body_of i) ds ++ map (body_of i) vs)
 pushed_twice i old mid new ds vs directs virtuals e1 e2 m n =
-    n ∙ ap (λ (l : List Body). l ++ map (body_of i) virtuals) m ∙ append_assoc old (map (body_of i) directs) (map (body_of i) virtuals) ∙ (λ j. old ++ (map (body_of i) (e1 j) ++ map (body_of i) (e2 j)))
+    n ∙ ap (λ (l : List PlacedBody). l ++ map (body_of i) virtuals) m ∙ append_assoc old (map (body_of i) directs) (map (body_of i) virtuals) ∙ (λ j. old ++ (map (body_of i) (e1 j) ++ map (body_of i) (e2 j)))
 
 module _ (b : List ℕ) (numbers : Columns) (p : Program) (k : Keeps b numbers p) where
   class_owned : (i : ℕ) (c : Class) (all : held.Entries) → slice_get p i ≡ Some c → AreBytes b → EntriesAt b (class_word b i 6) (entries all) → wide_all wide_body (body_values p) < 2 ^ 32
@@ -164,23 +164,23 @@ module _ (b : List ℕ) (numbers : Columns) (p : Program) (k : Keeps b numbers p
       (methods_owned b numbers p k i c.ty all.directs.items c.directs are (st.head.members.directs.count ∙ ap (λ (y : Entries). length y.directs) same) (subst (λ (y : Entries). CodesAre b y.directs c.directs) same st.directs) (directs_kept (Holds (needed p)) c held) (omega (arith, short, w, a)))
       (methods_owned b numbers p k i c.ty all.virtuals.items c.virtuals are (st.head.members.virtuals.count ∙ ap (λ (y : Entries). length y.virtuals) same) (subst (λ (y : Entries). CodesAre b y.virtuals c.virtuals) same st.virtuals) (virtuals_kept (Holds (needed p)) c held) (omega (arith, short, w, a)))
 
-  class_next : (i : ℕ) (c : Class) (all : held.Entries) (old new : List Body) → slice_get p i ≡ Some c → AreBytes b → EntriesAt b (class_word b i 6) (entries all) → wide_all wide_body (body_values p) < 2 ^ 32
+  class_next : (i : ℕ) (c : Class) (all : held.Entries) (old new : List PlacedBody) → slice_get p i ≡ Some c → AreBytes b → EntriesAt b (class_word b i 6) (entries all) → wide_all wide_body (body_values p) < 2 ^ 32
       → new ≡ old ++ (map (body_of i) all.directs.items ++ map (body_of i) all.virtuals.items) → AreFirstBodies b numbers p i old → AreFirstBodies b numbers p (i + 1) new
   class_next i c all old new at are stands short bodies z =
       let es = map (body_of i) all.directs.items ++ map (body_of i) all.virtuals.items in
       let xs : List (ℕ × Option Code) = map (λ v. (i, v)) (bodies_in c.directs) ++ map (λ v. (i, v)) (bodies_in c.virtuals) in
       let more = owned_append b numbers (needed p) old es (numbered 0 (take i p)) xs z (class_owned i c all at are stands short) in
-      subst (λ (l : List Body). AreOwned b numbers (needed p) l (numbered 0 (take (i + 1) p))) (sym bodies)
+      subst (λ (l : List PlacedBody). AreOwned b numbers (needed p) l (numbered 0 (take (i + 1) p))) (sym bodies)
       (subst (λ (l : List (ℕ × Option Code)). AreOwned b numbers (needed p) (old ++ es) l) (sym (numbered_next p i c at)) more)
 
-  pub class_pushed : (i : ℕ) (all : held.Entries) (old mid new : List Body) (directs virtuals : List held_method.MethodEntry) → AreBytes b → i < size_of b 5 → EntriesAt b (class_word b i 6) (entries all) → wide_all wide_body (body_values p) < 2 ^ 32
+  pub class_pushed : (i : ℕ) (all : held.Entries) (old mid new : List PlacedBody) (directs virtuals : List held_method.MethodEntry) → AreBytes b → i < size_of b 5 → EntriesAt b (class_word b i 6) (entries all) → wide_all wide_body (body_values p) < 2 ^ 32
       → directs ≡ all.directs.items → virtuals ≡ all.virtuals.items → mid ≡ old ++ map (body_of i) directs → new ≡ mid ++ map (body_of i) virtuals → AreFirstBodies b numbers p i old → AreFirstBodies b numbers p (i + 1) new
   class_pushed i all old mid new directs virtuals are lt stands short e1 e2 m n z =
       let count = k.classes.count in
       let x = entry_at p i (omega (arith, count, lt)) in
       class_next i x.0 all old new x.1 are stands short (pushed_twice i old mid new all.directs.items all.virtuals.items directs virtuals e1 e2 m n) z
 
-  pub all_pushed : (i : ℕ) (es : List Body) → i ≡ size_of b 5 → AreFirstBodies b numbers p i es → AreOwned b numbers (needed p) es (numbered 0 p)
+  pub all_pushed : (i : ℕ) (es : List PlacedBody) → i ≡ size_of b 5 → AreFirstBodies b numbers p i es → AreOwned b numbers (needed p) es (numbered 0 p)
   all_pushed i es e z =
       let count = k.classes.count in
       subst (λ (q : Program). AreOwned b numbers (needed p) es (numbered 0 q)) (take_all i p (omega (arith, count, e))) z

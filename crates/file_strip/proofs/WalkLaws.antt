@@ -21,7 +21,7 @@ use Rattle.file_classes.specs.Reading.{field_entry, method_entry}
 use Rattle.file_classes.proofs.EntryLaws.{entry_at}
 use Rattle.file_classes.proofs.MemberLaws.{next_index, there}
 use Rattle.file_strip.specs.Survey.{FindsNames}
-use Rattle.file_strip.specs.declared.survey.Found.{Found}
+use Rattle.file_strip.specs.declared.survey.Surveyed.{Surveyed}
 use Rattle.file_strip.proofs.FoundLaws.{finds_more}
 
 pub take_next : {X : Type 0} (xs : List X) (k : ℕ) (x : X) → slice_get xs k ≡ Some x → take (k + 1) xs ≡ take k xs ++ x ∷ []
@@ -57,7 +57,7 @@ next_field b old mid new class ms k m at f g =
     (adds_more b old mid new (map (field_of_class class) (take k ms)) (field_of_class class m ∷ []) f g)
 
 -- one method more is looked at
-pub next_method : (b : List ℕ) (old mid new : Found) (class : Units) (ms : List Method) (k : ℕ) (m : Method) → slice_get ms k ≡ Some m
+pub next_method : (b : List ℕ) (old mid new : Surveyed) (class : Units) (ms : List Method) (k : ℕ) (m : Method) → slice_get ms k ≡ Some m
     → FindsNames b old mid (flat_map (names_of_method class) (take k ms)) → FindsNames b mid new (names_of_method class m) → FindsNames b old new (flat_map (names_of_method class) (take (k + 1) ms))
 next_method b old mid new class ms k m at f g =
     subst (λ (ns : List Name). FindsNames b old new ns)

@@ -13,7 +13,7 @@ use Rattle.program_types.specs.Formed.{IsFormed}
 use Rattle.tables_names.specs.Closure.{Five, NameRanks}
 use Rattle.tables_names.specs.Needed.{needed}
 use Rattle.file_renumber.specs.Marked.{Columns}
-use Rattle.file_strip.specs.declared.codes.Body.{Body}
+use Rattle.file_strip.specs.declared.codes.PlacedBody.{PlacedBody}
 use Rattle.file_strip.specs.Moved.{IsItem}
 
 -- The body is a code that stands at this offset, by these numbers each name in it has its rank among names s; it is well
@@ -42,12 +42,12 @@ numbered n [] = []
 numbered n (c ∷ p) = map (λ v. (n, v)) (bodies_of c) ++ numbered (n + 1) p
 
 -- The body of a method of the class with this number stands where the method's entry says.
-pub record IsOwned (b : List ℕ) (numbers : Columns) (s : Five) (e : Body) (x : ℕ × Option Code) : Type 0 where
+pub record IsOwned (b : List ℕ) (numbers : Columns) (s : Five) (e : PlacedBody) (x : ℕ × Option Code) : Type 0 where
   pub class : e.class ≡ x.0
   pub body : IsCarriedBody b numbers s e.code x.1
 
 -- The bodies of methods, each of the class with its number, stand where the methods' entries say.
-abbrev pub AreOwned : List ℕ → Columns → Five → List Body → List (ℕ × Option Code) → Type 0
+abbrev pub AreOwned : List ℕ → Columns → Five → List PlacedBody → List (ℕ × Option Code) → Type 0
 AreOwned b numbers s es xs = AllZip (IsOwned b numbers s) es xs
 
 -- the bodies alone
@@ -55,11 +55,11 @@ abbrev pub bodies_alone : List (ℕ × Option Code) → List (Option Code)
 bodies_alone xs = map (λ x. x.1) xs
 
 -- of a method's entry: the number of its class, and where its body stands
-abbrev pub body_of : ℕ → MethodEntry → Body
+abbrev pub body_of : ℕ → MethodEntry → PlacedBody
 body_of n e = record { class = n; code = e.code }
 
 -- The bodies of the first n classes are these.
-abbrev pub AreFirstBodies : List ℕ → Columns → Program → ℕ → List Body → Type 0
+abbrev pub AreFirstBodies : List ℕ → Columns → Program → ℕ → List PlacedBody → Type 0
 AreFirstBodies b numbers p n es = AreOwned b numbers (needed p) es (numbered 0 (take n p))
 
 -- ---- handlers that begin too far after the list's begin

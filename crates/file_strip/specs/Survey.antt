@@ -22,7 +22,7 @@ use Rattle.file_classes.specs.Reading.{field_entry, method_entry}
 use Rattle.file_classes.specs.declared.class_data.FieldEntry.{FieldEntry}
 use Rattle.file_classes.specs.declared.class_data.MethodEntry.{MethodEntry}
 use Rattle.tables_names.specs.Needed.{needed}
-use Rattle.file_strip.specs.declared.survey.Found.{Found}
+use Rattle.file_strip.specs.declared.survey.Surveyed.{Surveyed}
 use Rattle.file_strip.specs.declared.survey.Survey.{Survey}
 
 -- A code that stands at the offset takes at most n bytes, and the names s have those that it mentions.
@@ -36,18 +36,18 @@ pub record ArrayIsFound (b : List ℕ) (s : Five) (off n : ℕ) : Type 0 where
   pub names : (most : ℕ) (vs : List Value) → ArrayStands (NameStands b) b off most vs → AllByRecursion (Holds s) (flat_map names_of_value vs)
 
 -- The names s were found: just their rows are marked, what is known of codes and arrays is so, and the section is that of codes.
-pub record AreFound (b : List ℕ) (f : Found) (s : Five) : Type 0 where
+pub record AreFound (b : List ℕ) (f : Surveyed) (s : Five) : Type 0 where
   pub marks : AreMarks b f.marks s
   pub codes : AreCached (CodeIsFound b s) f.codes
   pub arrays : AreCached (ArrayIsFound b s) f.arrays
   pub section : IsSectionOf b 0x2001 f.section
 
 -- What was found is so of some names.
-abbrev pub HasFound : List ℕ → Found → Type 0
+abbrev pub HasFound : List ℕ → Surveyed → Type 0
 HasFound b f = (s : Five) × AreFound b f s
 
 -- Beside what was found before these names are, with their parts.
-abbrev pub FindsNames : List ℕ → Found → Found → List Name → Type 0
+abbrev pub FindsNames : List ℕ → Surveyed → Surveyed → List Name → Type 0
 FindsNames b old new names = (s : Five) → AreFound b old s → AreFound b new (with_names s names)
 
 -- ---- a class

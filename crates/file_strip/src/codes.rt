@@ -29,7 +29,7 @@ use std::alloc::Global;
 
 /// Where the body of a method stands, 0 for none, and the number of the method's class.
 #[derive(Clone, Copy)]
-struct Body {
+struct PlacedBody {
     class: u32,
     code: u32,
 }
@@ -40,7 +40,7 @@ fn renumber_body(
     numbers: &Numbers,
     sections: &Sections<'_>,
     codes: Section,
-    body: Body,
+    body: PlacedBody,
 ) -> Result<Vec<u8>, Fault>
     requires codes { IsSectionOf sections.now 0x2001 codes }
     requires body { (s : Five) × (v : Option content.Code) × IsCarriedSome sections.now numbers.now s body.code v }
@@ -71,7 +71,7 @@ fn add_body(
     numbers: &Numbers,
     sections: &Sections<'_>,
     codes: Section,
-    body: Body,
+    body: PlacedBody,
 ) -> Result<u32, Fault>
     requires codes { IsSectionOf sections.now 0x2001 codes }
     requires body { (s : Five) × (v : Option content.Code) × IsCarriedBody sections.now numbers.now s body.code v × (length out.old.items + wide_body v < 2 ^ 32) }
@@ -98,7 +98,7 @@ fn place_bodies(
     out: &mut Vec<u8>,
     numbers: &Numbers,
     sections: &Sections<'_>,
-    bodies: &[Body],
+    bodies: &[PlacedBody],
 ) -> Result<Placed, Fault>
     requires front { 0 < length out.old.items }
     requires bodies { (s : Five) × (xs : List (ℕ × Option content.Code)) × AreOwned sections.now numbers.now s bodies.now xs × (length out.old.items + wide_all wide_body (bodies_alone xs) < 2 ^ 32) }
@@ -123,12 +123,16 @@ fn place_bodies(
 }
 
 /// Appends the bodies of the methods of these entries, of the class with this number.
-fn push_bodies(bodies: &mut Vec<Body>, class: u32, entries: &[MethodEntry]) -> Result<(), Fault>
+fn push_bodies(
+    bodies: &mut Vec<PlacedBody>,
+    class: u32,
+    entries: &[MethodEntry],
+) -> Result<(), Fault>
     ensures ok { OnOk result (bodies.new.items ≡ bodies.old.items ++ map (body_of class) entries.now) }
     ensures memory { IsOkUnless result memory }
 {
     for entry in entries {
-        bodies.push(Body {
+        bodies.push(PlacedBody {
             class,
             code: entry.code,
         })?;
@@ -139,7 +143,7 @@ fn push_bodies(bodies: &mut Vec<Body>, class: u32, entries: &[MethodEntry]) -> R
 /// Appends the bodies of the methods of row i, the direct ones, then the virtual ones.
 fn push_class(
     alloc: Global,
-    bodies: &mut Vec<Body>,
+    bodies: &mut Vec<PlacedBody>,
     sections: &Sections<'_>,
     i: u32,
 ) -> Result<(), Fault>
@@ -159,7 +163,7 @@ fn push_class(
 }
 
 /// The bodies of all methods: by class, direct methods, then virtual ones.
-fn all_bodies(alloc: Global, sections: &Sections<'_>) -> Result<Vec<Body>, Fault>
+fn all_bodies(alloc: Global, sections: &Sections<'_>) -> Result<Vec<PlacedBody>, Fault>
     requires kept { (numbers : Columns) × (p : Program) × Keeps sections.now numbers p }
     ensures ok { IfOk result (λ bodies. (numbers : Columns) (p : Program) → Keeps sections.now numbers p → wide_all wide_body (body_values p) < 2 ^ 32
         → AreOwned sections.now numbers (needed p) bodies.items (numbered 0 p)) }

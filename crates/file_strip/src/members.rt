@@ -12,7 +12,7 @@ ghost use Rattle.file_limits.specs.Wide.{bodies_in, wide_body};
 ghost use Rattle.file_classes.specs.Classes.{CodeAt};
 ghost use Rattle.file_strip.specs.Survey.{FindsNames, HasFields, HasFound, HasMethods};
 
-use crate::survey::Found;
+use crate::survey::Surveyed;
 use dex_base::Fault;
 use dex_container::Sections;
 use dex_insn::IndexKind;
@@ -43,7 +43,7 @@ pub(crate) fn mark_fields(
 /// Looks at the code at an offset, 0 for none, and answers how many bytes it takes at most. One that was looked at before is known.
 fn look_at_code(
     alloc: Global,
-    found: &mut Found,
+    found: &mut Surveyed,
     sections: &Sections<'_>,
     off: u32,
 ) -> Result<u64, Fault>
@@ -67,7 +67,7 @@ fn look_at_code(
 /// Marks the methods of a list of entries, looks at their codes, and answers how many bytes these take at most.
 pub(crate) fn look_at_methods(
     alloc: Global,
-    found: &mut Found,
+    found: &mut Surveyed,
     sections: &Sections<'_>,
     entries: &[MethodEntry],
 ) -> Result<u64, Fault>

@@ -33,7 +33,7 @@ use std::collections::HashMap;
 /// What was found so far: the marks, and of each code and each array that was looked at how many bytes it takes at most; the section in
 /// which codes stand.
 #[derive(Drop)]
-pub(crate) struct Found {
+pub(crate) struct Surveyed {
     pub marks: Marks,
     pub codes: HashMap<u32, u64>,
     pub arrays: HashMap<u32, u64>,
@@ -48,7 +48,7 @@ pub struct Survey {
 }
 
 /// Looks at the static values at an offset, 0 for none, and answers how many bytes they take at most.
-fn look_at_values(found: &mut Found, sections: &Sections<'_>, off: u32) -> Result<u64, Fault>
+fn look_at_values(found: &mut Surveyed, sections: &Sections<'_>, off: u32) -> Result<u64, Fault>
     requires found { HasFound sections.now found.old }
     requires values { (most : ℕ) × (vs : List Value) × StaticsAt sections.now off most vs }
     ensures found { OnOk result ((most : ℕ) (vs : List Value) → StaticsAt sections.now off most vs
@@ -100,7 +100,7 @@ fn mark_source(marks: &mut Marks, sections: &Sections<'_>, index: u32) -> Result
 /// Looks at the members of a class and at its static values, and answers how many bytes its class data, they and the codes take at most.
 fn look_at_members(
     alloc: Global,
-    found: &mut Found,
+    found: &mut Surveyed,
     sections: &Sections<'_>,
     all: &Entries,
     values: u32,
@@ -144,7 +144,7 @@ fn mark_head(marks: &mut Marks, sections: &Sections<'_>, i: u32) -> Result<(), F
 /// Looks at the class of row `i`, and answers how many bytes it takes at most.
 fn look_at_class(
     alloc: Global,
-    found: &mut Found,
+    found: &mut Surveyed,
     sections: &Sections<'_>,
     i: u32,
 ) -> Result<u64, Fault>
@@ -176,7 +176,7 @@ pub fn look_at_classes(alloc: Global, seed: Seed, sections: &Sections<'_>) -> Re
     ensures ok { IfOk result (λ survey. (p : Program) → AreRows SpellsClass sections.now section.class_defs p → IsSurvey sections.now survey p) }
     ensures memory { IsOkUnless result memory }
 {
-    let mut found = Found {
+    let mut found = Surveyed {
         marks: Marks::new(alloc, seed, sections)?,
         codes: HashMap::new(alloc),
         arrays: HashMap::new(alloc),
@@ -186,6 +186,6 @@ pub fn look_at_classes(alloc: Global, seed: Seed, sections: &Sections<'_>) -> Re
     for i in 0..class_count(sections) {
         wide = plus(wide, look_at_class(alloc, &mut found, sections, i)?);
     }
-    let Found { marks, .. } = found;
+    let Surveyed { marks, .. } = found;
     Ok(Survey { marks, wide })
 }

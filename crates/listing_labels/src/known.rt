@@ -136,10 +136,7 @@ fn find_hashed(rest: &IndexMap<&[u8], Place, Seed>, near: usize, name: &[u8]) ->
     if let Some(place) = hashed_at(rest, near, name) {
         return Some(place);
     }
-    match rest.get(name) {
-        Some(place) => Some(*place),
-        None => None,
-    }
+    rest.get(name).copied()
 }
 
 impl<'t> Labels<'t> {

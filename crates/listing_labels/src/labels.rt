@@ -174,10 +174,7 @@ fn read_byte<'a>(mark: Mark, most: u8, one: Word<'_, '_>) -> Option<Datum<'a>>
     ensures none { IfNone result ((d : Said) → SpellsSlot (Slot.Byte mark most) (word one.entry) d → ⊥) }
     ensures valid { IfSome result (λ d. IsValidDatum (datum d)) }
 {
-    match read_marked(mark, one, most as u64) {
-        Some(n) => Some(Datum::Byte(n as u8)),
-        None => None,
-    }
+    Some(Datum::Byte(read_marked(mark, one, most as u64)? as u8))
 }
 
 /// What a word says in a slot of the second form. Most slots are of labels, keywords and short numbers: these come first.
@@ -223,7 +220,7 @@ pub fn read_all<'a, 'b>(
     near: usize,
     slots: &[Slot],
     words: &[Word<'a, 'b>],
-    says: &mut Vec<Datum<'a>, &'a Bump>,
+    says: &mut Vec<Datum<'a>>,
 ) -> Result<Option<u16>, Fault>
     requires { length slots.now ≡ length words.now }
     ensures all { IfOk result (λ r. IfNone r (SpellsAll labels.now slots.now (map word words.now) (map datum says.new.items))) }

@@ -11,7 +11,7 @@ use Rattle.listing_lines.specs.declared.form.Form.{Form}
 use Rattle.listing_lines.specs.declared.form.Form.TheVariants.{One, Two}
 use Rattle.listing_lines.specs.Needs.{Need, with_need, insn_needs}
 use Rattle.listing_lines.specs.Places.{is_insns}
-use Rattle.listing_parse.specs.States.{State, Open, Body, stage_of, counted, add, inside}
+use Rattle.listing_parse.specs.States.{State, Open, OpenBody, stage_of, counted, add, inside}
 use Rattle.listing_labels.specs.Labels.{Label, lookup}
 use Rattle.listing_parse.specs.Text.{line_of_form}
 use Rattle.listing_parse.specs.declared.form_line.FormLine.TheVariants.{Mark}
@@ -55,7 +55,7 @@ abbrev before_insn : Form → List ℕ → ℕ → ℕ → ℕ
 before_insn One ns n k = n
 before_insn Two ns n k = past_mark ns n k
 
-mark_runs : (form : Form) (ns : List ℕ) (es : List Label) (done : List Class) (o : Open) (late : Option ℕ) (is : List Insn) (b : Body) (n k : ℕ) → k < 2 ^ 64 → AreAhead form ns es n k is
+mark_runs : (form : Form) (ns : List ℕ) (es : List Label) (done : List Class) (o : Open) (late : Option ℕ) (is : List Insn) (b : OpenBody) (n k : ℕ) → k < 2 ^ 64 → AreAhead form ns es n k is
     → RunsTo (frame form es) (among done o late b n) (label_if_named form ns k) (among done o late b (before_insn form ns n k))
 mark_runs One ns es done o late is b n k h a = nothing_runs (frame One es) (among done o late b n)
 mark_runs Two ns es done o late is b n k h a = elim (by_kind (is_named ns k)) [
@@ -82,15 +82,15 @@ need_fits c needs line count h a = elim (cases_lt 0 count) [
 one_more : (is : List Insn) (i : Insn) (k : ℕ) → length is ≡ k → length (is ++ i ∷ []) ≡ k + 1
 one_more is i k e = length-append is (i ∷ []) ∙ ap (λ n. n + 1) e
 
-with_insn_more : Body → Insn → ℕ → Body
+with_insn_more : OpenBody → Insn → ℕ → OpenBody
 with_insn_more b i n = record b { needs = with_need b.needs (n + 1) (insn_needs i); insns = b.insns ++ i ∷ [] }
 
-step : (form : Form) (es : List Label) (done : List Class) (o : Open) (late : Option ℕ) (b : Body) (n k : ℕ) (i : Insn) → k < 2 ^ 64 → OpcodeFits i → FitOperands (insn_operands i) → TargetsAreMarked form es (insn_operands i) → length b.insns ≡ k
+step : (form : Form) (es : List Label) (done : List Class) (o : Open) (late : Option ℕ) (b : OpenBody) (n k : ℕ) (i : Insn) → k < 2 ^ 64 → OpcodeFits i → FitOperands (insn_operands i) → TargetsAreMarked form es (insn_operands i) → length b.insns ≡ k
     → RunsTo (frame form es) (among done o late b n) (insn_text form k i) (among done o late (with_insn_more b i n) (n + 1))
 unfolding add inside with_insn_more
 step form es done o late b n k i h c f g e = insn_runs form es (among done o late b n) (among done o late (with_insn_more b i n) (n + 1)) k i h c f g refl e refl
 
-pub insns_run : (form : Form) (ns : List ℕ) (es : List Label) (done : List Class) (o : Open) (late : Option ℕ) (is : List Insn) (b : Body) (n k c : ℕ) → k + length is < 2 ^ 64 → InstructionsFit c is → MarkAll form ns es c
+pub insns_run : (form : Form) (ns : List ℕ) (es : List Label) (done : List Class) (o : Open) (late : Option ℕ) (is : List Insn) (b : OpenBody) (n k c : ℕ) → k + length is < 2 ^ 64 → InstructionsFit c is → MarkAll form ns es c
     → AllByRecursion (λ i. AreNamed ns (insn_leads i)) is → AreAhead form ns es n k is → length b.insns ≡ k → NeedsFit c b.needs
     → (m : ℕ) × (needs : List Need) × RunsTo (frame form es) (among done o late b n) (insns_text form ns k is) (among done o late (record b { insns = b.insns ++ is; needs = needs }) m) × NeedsFit c needs
 unfolding with_insn_more

@@ -3,7 +3,7 @@ use Rattle.std.proofs.Common.{◌≡◌, ℕ, ◌≤◌, List, [], ◌++◌, Opt
 use Rattle.std.specs.List.{AllByRecursion}
 use Rattle.program_types.specs.Content.{Catch, Try, Class}
 use Rattle.listing_lines.specs.Needs.{Need}
-use Rattle.listing_parse.specs.States.{State, Open, ClassPart, Body, CodePart, at_insns, in_try, at_top, in_class, in_code, all_tries}
+use Rattle.listing_parse.specs.States.{State, Open, ClassPart, OpenBody, CodePart, at_insns, in_try, at_top, in_class, in_code, all_tries}
 use Rattle.listing_labels.specs.Lines.{lines}
 use Rattle.listing_lines.specs.declared.form.Form.{Form}
 use Rattle.listing_labels.specs.Labels.{Label}
@@ -47,11 +47,11 @@ abbrev pub within : ClassPart → List Class → Open → Option ℕ → ℕ →
 within p done o late n = record { done = done; block = in_class o p; lines = n; late = late }
 
 -- In a code of a class.
-abbrev pub coding : CodePart → List Class → Open → Option ℕ → Body → ℕ → State
+abbrev pub coding : CodePart → List Class → Open → Option ℕ → OpenBody → ℕ → State
 coding p done o late b n = record { done = done; block = in_code o b p; lines = n; late = late }
 
 -- The same among the instructions of the code.
-abbrev pub among : List Class → Open → Option ℕ → Body → ℕ → State
+abbrev pub among : List Class → Open → Option ℕ → OpenBody → ℕ → State
 among done o late b n = coding at_insns done o late b n
 
 -- A try is open, with these catches.
@@ -59,11 +59,11 @@ abbrev pub trying : ℕ → ℕ → List Catch → CodePart
 trying from to xs = in_try (record { from = from; to = to; catches = xs })
 
 -- The code with these tries.
-abbrev pub with_handlers : Body → List Try → List Need → Body
+abbrev pub with_handlers : OpenBody → List Try → List Need → OpenBody
 with_handlers b ts needs = record b { tries = ts; needs = needs }
 
 -- From state s, the text leads into the same code with these tries.
-pub record Tried (f : Frame) (c : ℕ) (done : List Class) (o : Open) (late : Option ℕ) (b : Body) (s : State) (text : List ℕ) (ts : List Try) : Type 0 where
+pub record Tried (f : Frame) (c : ℕ) (done : List Class) (o : Open) (late : Option ℕ) (b : OpenBody) (s : State) (text : List ℕ) (ts : List Try) : Type 0 where
   pub part : CodePart
   pub tries : List Try
   pub needs : List Need

@@ -7,7 +7,7 @@ use Rattle.program_types.specs.Content.{Catch, Try, Class}
 use Rattle.listing_lines.specs.Lines.{catch_line, catch_all_line, try_line}
 use Rattle.listing_lines.specs.Places.{may_stand}
 use Rattle.listing_lines.specs.Needs.{Need, with_need}
-use Rattle.listing_parse.specs.States.{State, Open, Body, CodePart, after_try, all_tries, add, inside}
+use Rattle.listing_parse.specs.States.{State, Open, OpenBody, CodePart, after_try, all_tries, add, inside}
 use Rattle.listing_print.specs.Printed.{line_operands, keyed_text_in}
 use Rattle.listing_print.specs.Canon.{all_numbers, try_numbers, is_named, catches_text, catch_all_text, try_text}
 use Rattle.listing_print.specs.Reading.{FitOperands}
@@ -23,19 +23,19 @@ use Rattle.listing_laws.proofs.CodeRuns.{nothing_runs, need_fits}
 use Rattle.listing_laws.proofs.Targets.{MarkAll, AreNamed}
 use Rattle.listing_parse.proofs.StageLaws.{code_goes_on}
 
-need_more : Body → Catch → ℕ → Body
+need_more : OpenBody → Catch → ℕ → OpenBody
 need_more b x n = record b { needs = with_need b.needs (n + 1) (x.at + 1) }
 
 catch_marked : (form : Form) (ns : List ℕ) (es : List Label) (c : ℕ) (x : Catch) → MarkAll form ns es c → CatchFits c x → is_named ns x.at ≡ true → TargetsAreMarked form es (line_operands (catch_line x.ty x.at))
 catch_marked One ns es c x m f y = first_marked es (line_operands (catch_line x.ty x.at))
 catch_marked Two ns es c x m f y = (tt, (m x.at y (omega (arith, f.1)) f.0.1.0.0, tt))
 
-catch_step : (g : Frame) (done : List Class) (o : Open) (late : Option ℕ) (from to : ℕ) (xs : List Catch) (b : Body) (n : ℕ) (x : Catch) → FitOperands (line_operands (catch_line x.ty x.at)) → TargetsAreMarked g.form g.labels (line_operands (catch_line x.ty x.at))
+catch_step : (g : Frame) (done : List Class) (o : Open) (late : Option ℕ) (from to : ℕ) (xs : List Catch) (b : OpenBody) (n : ℕ) (x : Catch) → FitOperands (line_operands (catch_line x.ty x.at)) → TargetsAreMarked g.form g.labels (line_operands (catch_line x.ty x.at))
     → RunsTo g (coding (trying from to xs) done o late b n) (keyed_text_in g.form (catch_line x.ty x.at)) (coding (trying from to (xs ++ x ∷ [])) done o late (need_more b x n) (n + 1))
 unfolding add inside need_more may_stand
 catch_step g done o late from to xs b n x f m = try_line_runs g (coding (trying from to xs) done o late b n) (coding (trying from to (xs ++ x ∷ [])) done o late (need_more b x n) (n + 1)) (catch_line x.ty x.at) tt tt f m refl refl
 
-catches_run : (g : Frame) (ns : List ℕ) (done : List Class) (o : Open) (late : Option ℕ) (from to : ℕ) (xs ys : List Catch) (b : Body) (n c : ℕ) → AllByRecursion (CatchFits c) ys → MarkAll g.form ns g.labels c → AreNamed ns (map (λ (x : Catch). x.at) ys) → NeedsFit c b.needs
+catches_run : (g : Frame) (ns : List ℕ) (done : List Class) (o : Open) (late : Option ℕ) (from to : ℕ) (xs ys : List Catch) (b : OpenBody) (n c : ℕ) → AllByRecursion (CatchFits c) ys → MarkAll g.form ns g.labels c → AreNamed ns (map (λ (x : Catch). x.at) ys) → NeedsFit c b.needs
     → (m : ℕ) × (needs : List Need) × RunsTo g (coding (trying from to xs) done o late b n) ((catches_text g.form) ys) (coding (trying from to (xs ++ ys)) done o late (record b { needs = needs }) m) × NeedsFit c needs
 unfolding need_more
 catches_run g ns done o late from to xs [] b n c f m k a = (n, b.needs, subst (λ (zs : List Catch). RunsTo g (coding (trying from to xs) done o late b n) [] (coding (trying from to zs) done o late b n)) (sym (append-nil xs)) (nothing_runs g (coding (trying from to xs) done o late b n)), a)
@@ -55,7 +55,7 @@ try_marked Two ns es c from to m f h y z =
     (m from y (omega arith) f.0.0, (m to z (omega arith) f.1.0.0, tt))
 
 -- the try is open
-opened_try : (g : Frame) (p : CodePart) (done : List Class) (o : Open) (late : Option ℕ) (b : Body) (n from to : ℕ) → FitOperands (line_operands (try_line from to)) → TargetsAreMarked g.form g.labels (line_operands (try_line from to))
+opened_try : (g : Frame) (p : CodePart) (done : List Class) (o : Open) (late : Option ℕ) (b : OpenBody) (n from to : ℕ) → FitOperands (line_operands (try_line from to)) → TargetsAreMarked g.form g.labels (line_operands (try_line from to))
     → RunsTo g (coding p done o late b n) (keyed_text_in g.form (try_line from to)) (coding (trying from to []) done o late (with_handlers b (all_tries p None b.tries) (with_need b.needs (n + 1) (max (from + 1) to))) (n + 1))
 unfolding add inside may_stand
 opened_try g p done o late b n from to f m = try_line_runs g (coding p done o late b n) (coding (trying from to []) done o late (with_handlers b (all_tries p None b.tries) (with_need b.needs (n + 1) (max (from + 1) to))) (n + 1)) (try_line from to) tt tt f m (code_goes_on p) refl
@@ -65,7 +65,7 @@ all_marked One ns es c k m f y = first_marked es (line_operands (catch_all_line 
 all_marked Two ns es c k m f y = (m k y (omega (arith, f.1)) f.0.0.0, tt)
 
 -- its last handler
-last_handler : (g : Frame) (ns : List ℕ) (done : List Class) (o : Open) (late : Option ℕ) (b : Body) (ts : List Try) (from to : ℕ) (xs : List Catch) (needs : List Need) (n c : ℕ) (all : Option ℕ) → CatchAllFits c all → MarkAll g.form ns g.labels c → AreNamed ns (all_numbers all) → NeedsFit c needs
+last_handler : (g : Frame) (ns : List ℕ) (done : List Class) (o : Open) (late : Option ℕ) (b : OpenBody) (ts : List Try) (from to : ℕ) (xs : List Catch) (needs : List Need) (n c : ℕ) (all : Option ℕ) → CatchAllFits c all → MarkAll g.form ns g.labels c → AreNamed ns (all_numbers all) → NeedsFit c needs
     → Tried g c done o late b (coding (trying from to xs) done o late (with_handlers b ts needs) n) ((catch_all_text g.form) all) (ts ++ record { from = from; to = to; catches = xs; catch_all = all } ∷ [])
 unfolding add inside may_stand
 last_handler g ns done o late b ts from to xs needs n c None f m y a = record { part = trying from to xs; tries = ts; needs = needs; lines = n; runs = nothing_runs g (coding (trying from to xs) done o late (with_handlers b ts needs) n); has = refl; fit = a }
@@ -75,7 +75,7 @@ last_handler g ns done o late b ts from to xs needs n c (Some k) f m y a =
     record { part = after_try; tries = us; needs = more; lines = n + 1; runs = try_line_runs g _ _ (catch_all_line k) tt tt f.0 (all_marked g.form ns g.labels c k m f y.0) refl refl; has = refl; fit = need_fits c needs (n + 1) (k + 1) f.1 a }
 
 -- in front of what was tried
-in_front : (g : Frame) (c : ℕ) (done : List Class) (o : Open) (late : Option ℕ) (b : Body) (s t : State) (text more : List ℕ) (ts : List Try) → RunsTo g s text t → Tried g c done o late b t more ts → Tried g c done o late b s (text ++ more) ts
+in_front : (g : Frame) (c : ℕ) (done : List Class) (o : Open) (late : Option ℕ) (b : OpenBody) (s t : State) (text more : List ℕ) (ts : List Try) → RunsTo g s text t → Tried g c done o late b t more ts → Tried g c done o late b s (text ++ more) ts
 in_front g c done o late b s t text more ts r h = record {
   part = h.part;
   tries = h.tries;
@@ -90,7 +90,7 @@ both_named : (ns xs ys : List ℕ) → AreNamed ns (xs ++ ys) → AreNamed ns xs
 both_named ns [] ys h = (tt, h)
 both_named ns (x ∷ xs) ys h = let r = both_named ns xs ys h.1 in ((h.0, r.0), r.1)
 
-try_runs : (g : Frame) (ns : List ℕ) (p : CodePart) (done : List Class) (o : Open) (late : Option ℕ) (b : Body) (n c : ℕ) (t : Try) → TryFits c t → MarkAll g.form ns g.labels c → AreNamed ns (try_numbers t) → NeedsFit c b.needs
+try_runs : (g : Frame) (ns : List ℕ) (p : CodePart) (done : List Class) (o : Open) (late : Option ℕ) (b : OpenBody) (n c : ℕ) (t : Try) → TryFits c t → MarkAll g.form ns g.labels c → AreNamed ns (try_numbers t) → NeedsFit c b.needs
     → Tried g c done o late b (coding p done o late b n) ((try_text g.form) t) (all_tries p None b.tries ++ t ∷ [])
 try_runs g ns p done o late b n c t f m z a =
     let h = both_named ns (map (λ (x : Catch). x.at) t.catches) (all_numbers t.catch_all) z.1.1 in
@@ -102,7 +102,7 @@ try_runs g ns p done o late b n c t f m z a =
     in_front g c done o late b _ _ _ _ _ (opened_try g p done o late b n t.from t.to f.0 (try_marked g.form ns g.labels c t.from t.to m f.0 f.1 z.0 z.1.0))
     (in_front g c done o late b _ _ _ _ _ y.2 l)
 
-pub tries_run : (g : Frame) (ns : List ℕ) (ts : List Try) (p : CodePart) (done : List Class) (o : Open) (late : Option ℕ) (b : Body) (n c : ℕ) → AllByRecursion (TryFits c) ts → MarkAll g.form ns g.labels c → AllByRecursion (λ t. AreNamed ns (try_numbers t)) ts → NeedsFit c b.needs
+pub tries_run : (g : Frame) (ns : List ℕ) (ts : List Try) (p : CodePart) (done : List Class) (o : Open) (late : Option ℕ) (b : OpenBody) (n c : ℕ) → AllByRecursion (TryFits c) ts → MarkAll g.form ns g.labels c → AllByRecursion (λ t. AreNamed ns (try_numbers t)) ts → NeedsFit c b.needs
     → Tried g c done o late b (coding p done o late b n) (flat_map (try_text g.form) ts) (all_tries p None b.tries ++ ts)
 tries_run g ns [] p done o late b n c f m z a = record { part = p; tries = b.tries; needs = b.needs; lines = n; runs = nothing_runs g (coding p done o late b n); has = sym (append-nil (all_tries p None b.tries)); fit = a }
 tries_run g ns (t ∷ ts) p done o late b n c f m z a =

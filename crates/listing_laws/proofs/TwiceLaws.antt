@@ -11,7 +11,7 @@ use Rattle.listing_lines.specs.declared.stage.Stage.{Stage}
 use Rattle.listing_lines.specs.declared.stage.Stage.TheVariants.{Heads, Insns, Caught}
 use Rattle.listing_lines.specs.Places.{is_start, is_top, is_heads, is_in_class, is_after, is_insns, is_in_code, is_caught, may_stand}
 use Rattle.listing_parse.specs.Members.{Given, given_key, is_held, with_member}
-use Rattle.listing_parse.specs.States.{Open, ClassPart, Body, at_heads, after_method, CodePart, at_insns, in_try, Block, at_start, at_top, in_class, in_code, State, stage_of, code_stage, is_among, with_superclass, with_source, with_interface, with_static, with_instance, with_direct, with_virtual, class_line, noted, code_line, inside, class_of, owner_of, code_ended, add}
+use Rattle.listing_parse.specs.States.{Open, ClassPart, OpenBody, at_heads, after_method, CodePart, at_insns, in_try, Block, at_start, at_top, in_class, in_code, State, stage_of, code_stage, is_among, with_superclass, with_source, with_interface, with_static, with_instance, with_direct, with_virtual, class_line, noted, code_line, inside, class_of, owner_of, code_ended, add}
 use Rattle.listing_laws.specs.Twice.{has_already, is_twice}
 
 some_map : {X Y : Type 0} (f : X → Y) (o : Option X) → is_some (option_map f o) ≡ is_some o
@@ -39,7 +39,7 @@ in_a_class P f (in_code o b at_insns) e = absurd cc
 in_a_class P f _ e = absurd cc
 
 -- where a line of a code may stand, a code is open
-in_a_code : (P : Block → Type 0) → ((o : Open) (c : Body) (p : CodePart) → P (in_code o c p)) → (b : Block) → is_in_code (stage_of b) ≡ true → P b
+in_a_code : (P : Block → Type 0) → ((o : Open) (c : OpenBody) (p : CodePart) → P (in_code o c p)) → (b : Block) → is_in_code (stage_of b) ≡ true → P b
 in_a_code P f (in_code o c p) e = f o c p
 in_a_code P f (in_class o at_heads) e = absurd cc
 in_a_code P f _ e = absurd cc
@@ -62,7 +62,7 @@ class_says : (b : Block) (n : ℕ) (line : Line) → is_in_class (stage_of b) �
 unfolding inside
 class_says b n line e f = in_a_class (λ c. is_some (inside c n line) ≡ not (is_twice c line)) (λ o p. rw some_map (f o)) b e
 
-code_says : (b : Block) (n : ℕ) (line : Line) → is_in_code (stage_of b) ≡ true → ((c : Body) (p : CodePart) → code_stage p ≡ stage_of b → is_some (code_line c p line) ≡ true) → is_some (inside b n line) ≡ not (is_twice b line)
+code_says : (b : Block) (n : ℕ) (line : Line) → is_in_code (stage_of b) ≡ true → ((c : OpenBody) (p : CodePart) → code_stage p ≡ stage_of b → is_some (code_line c p line) ≡ true) → is_some (inside b n line) ≡ not (is_twice b line)
 unfolding inside
 code_says b n line e f =
     let P = λ (d : Block). stage_of d ≡ stage_of b → is_some (inside d n line) ≡ not (is_twice d line) in
@@ -89,11 +89,11 @@ member_given key x ys = member_by key x ys (is_held key (key x) ys) refl
 
 -- ---- a line of a code is given as often as one likes
 
-catch_says : (b : Block) (c : Body) (p : CodePart) (d : Descriptor) (k : ℕ) → is_caught (stage_of b) ≡ true → code_stage p ≡ stage_of b → is_some (code_line c p (catch_line d k)) ≡ true
+catch_says : (b : Block) (c : OpenBody) (p : CodePart) (d : Descriptor) (k : ℕ) → is_caught (stage_of b) ≡ true → code_stage p ≡ stage_of b → is_some (code_line c p (catch_line d k)) ≡ true
 catch_says b c (in_try t) d k e q = refl
 catch_says b c _ d k e q = absurd cc
 
-catch_all_says : (b : Block) (c : Body) (p : CodePart) (k : ℕ) → is_caught (stage_of b) ≡ true → code_stage p ≡ stage_of b → is_some (code_line c p (catch_all_line k)) ≡ true
+catch_all_says : (b : Block) (c : OpenBody) (p : CodePart) (k : ℕ) → is_caught (stage_of b) ≡ true → code_stage p ≡ stage_of b → is_some (code_line c p (catch_all_line k)) ≡ true
 catch_all_says b c (in_try t) k e q = refl
 catch_all_says b c _ k e q = absurd cc
 

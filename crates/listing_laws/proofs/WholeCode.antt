@@ -16,7 +16,7 @@ use Rattle.listing_lines.specs.declared.form.Form.{Form}
 use Rattle.listing_lines.specs.declared.form.Form.TheVariants.{One, Two}
 use Rattle.listing_lines.specs.Places.{may_stand}
 use Rattle.listing_lines.specs.Needs.{Need, first_late}
-use Rattle.listing_parse.specs.States.{Open, Owner, Body, CodePart, after_method, at_members, at_insns, add, all_tries, begun, with_tries, whole_code, with_code_at}
+use Rattle.listing_parse.specs.States.{Open, Owner, OpenBody, CodePart, after_method, at_members, at_insns, add, all_tries, begun, with_tries, whole_code, with_code_at}
 use Rattle.listing_labels.specs.Lines.{lines, is_skipped}
 use Rattle.listing_labels.specs.Labels.{Label, first_word, is_stop, labels_ahead}
 use Rattle.listing_labels.proofs.AheadLaws.{ahead_stops}
@@ -46,12 +46,12 @@ unfolding add may_stand
 begin_code form es done o m n r i u text rest v f e x = code_line_reads (frame form es) (within (after_method m) done o None n) (among done o None (begun m r i u) (n + 1)) r i u text rest v f refl refl e x
 
 -- the code's end, as it is computed
-close_code : (g : Frame) (p : CodePart) (done : List Class) (o : Open) (b : Body) (n : ℕ) → (g.form ≡ One → g.labels ≡ [])
+close_code : (g : Frame) (p : CodePart) (done : List Class) (o : Open) (b : OpenBody) (n : ℕ) → (g.form ≡ One → g.labels ≡ [])
     → RunsInto g (coding p done o None b n) (keyed_text end_code) (bare g.form) (within at_members done (with_code_at o b.owner (whole_code (with_tries b p None))) (first_late (length b.insns) b.needs) (n + 1))
 unfolding add may_stand
 close_code g p done o b n e = end_line_runs g (coding p done o None b n) (within at_members done (with_code_at o b.owner (whole_code (with_tries b p None))) (first_late (length b.insns) b.needs) (n + 1)) e (code_goes_on p) refl
 
-end_runs : (g : Frame) (p : CodePart) (done : List Class) (o : Open) (b : Body) (n : ℕ) (ts : List Try) → (g.form ≡ One → g.labels ≡ []) → all_tries p None b.tries ≡ ts → NeedsFit (length b.insns) b.needs
+end_runs : (g : Frame) (p : CodePart) (done : List Class) (o : Open) (b : OpenBody) (n : ℕ) (ts : List Try) → (g.form ≡ One → g.labels ≡ []) → all_tries p None b.tries ≡ ts → NeedsFit (length b.insns) b.needs
     → RunsInto g (coding p done o None b n) (keyed_text end_code) (bare g.form) (within at_members done (with_code_at o b.owner (record { registers = b.registers; ins = b.ins; outs = b.outs; insns = b.insns; tries = ts })) None (n + 1))
 end_runs g p done o b n ts f e a =
     let s = coding p done o None b n in
@@ -126,7 +126,7 @@ code_runs form done o m n c f =
     let few = f.1 in
     let mk = in_mark form (n + 1) c few in
     let y = insns_run form ns es done o None c.insns b0 (n + 1) 0 l (omega arith) f.2 mk (all_named insn_leads c.insns ns (insns_among c)) (in_ahead form (n + 1) c) refl tt in
-    let b1 : Body = record b0 { insns = c.insns; needs = y.1 } in
+    let b1 : OpenBody = record b0 { insns = c.insns; needs = y.1 } in
     let x = tries_run g ns c.tries at_insns done o None b1 y.0 l f.3 mk (all_named try_numbers c.tries ns (tries_among c)) y.3 in
     let b2 = with_handlers b1 x.tries x.needs in
     let z = end_runs g x.part done o b2 x.lines c.tries (labels_none form (n + 1) c) x.has x.fit in

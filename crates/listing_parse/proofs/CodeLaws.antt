@@ -5,7 +5,7 @@ use Rattle.std.proofs.lemmas.List.{append-nil}
 use Rattle.program_types.specs.Content.{Insn, Catch, Try, Code, Class}
 use Rattle.listing_lines.specs.Lines.{Line, open_code, end_code, insn_line, try_line, catch_line, catch_all_line}
 use Rattle.listing_lines.specs.Needs.{Need, first_late, earliest}
-use Rattle.listing_parse.specs.States.{Open, Owner, Body, OpenTry, at_members, CodePart, at_insns, after_try, in_try, in_class, in_code, State, begun, noted, with_insn, with_tries, try_of, whole_code, with_code_at, add, inside}
+use Rattle.listing_parse.specs.States.{Open, Owner, OpenBody, OpenTry, at_members, CodePart, at_insns, after_try, in_try, in_class, in_code, State, begun, noted, with_insn, with_tries, try_of, whole_code, with_code_at, add, inside}
 use Rattle.listing_parse.specs.Codes.{Numbered, said, insn_lines, catch_lines, catch_all_lines, try_lines, inner_lines, code_lines, late_line}
 use Rattle.listing_parse.specs.Runs.{at_line, Runs, is_outside, after_its_method, with_its_code, RunsBehindCode}
 use Rattle.listing_parse.proofs.LateLaws.{needs_from, late_is}
@@ -51,25 +51,25 @@ abbrev rest_tries : CodePart → Rest → List Try
 rest_tries (in_try t) r = try_with t r.catches r.all ∷ r.tries
 rest_tries _ r = r.tries
 
-abbrev made : Body → List Insn → List Try → Code
+abbrev made : OpenBody → List Insn → List Try → Code
 made b is ts = record { registers = b.registers; ins = b.ins; outs = b.outs; insns = is; tries = ts }
 
-abbrev whole : Body → CodePart → Rest → Code
+abbrev whole : OpenBody → CodePart → Rest → Code
 whole b p r = made b (b.insns ++ rest_insns p r) (b.tries ++ rest_tries p r)
 
-insn_first : (b : Body) (i : Insn) (is : List Insn) (ts : List Try) → made b ((b.insns ++ i ∷ []) ++ is) ts ≡ made b (b.insns ++ (i ∷ is)) ts
+insn_first : (b : OpenBody) (i : Insn) (is : List Insn) (ts : List Try) → made b ((b.insns ++ i ∷ []) ++ is) ts ≡ made b (b.insns ++ (i ∷ is)) ts
 insn_first b i is ts = ap (λ y. made b y ts) (append_assoc b.insns (i ∷ []) is)
 
-catch_first : (b : Body) (is : List Insn) (t : OpenTry) (c : Catch) (cs : List Catch) (all : Option ℕ) (ts : List Try)
+catch_first : (b : OpenBody) (is : List Insn) (t : OpenTry) (c : Catch) (cs : List Catch) (all : Option ℕ) (ts : List Try)
     → made b is (b.tries ++ (try_with (record t { catches = t.catches ++ c ∷ [] }) cs all ∷ ts)) ≡ made b is (b.tries ++ (try_with t (c ∷ cs) all ∷ ts))
 catch_first b is t c cs all ts = ap (λ y. made b is (b.tries ++ (record { from = t.from; to = t.to; catches = y; catch_all = all } ∷ ts))) (append_assoc t.catches (c ∷ []) cs)
 
-try_closed : (b : Body) (is : List Insn) (t : OpenTry) (all : Option ℕ) (ts : List Try) → made b is ((b.tries ++ try_of t all ∷ []) ++ ts) ≡ made b is (b.tries ++ (try_with t [] all ∷ ts))
+try_closed : (b : OpenBody) (is : List Insn) (t : OpenTry) (all : Option ℕ) (ts : List Try) → made b is ((b.tries ++ try_of t all ∷ []) ++ ts) ≡ made b is (b.tries ++ (try_with t [] all ∷ ts))
 try_closed b is t all ts =
     ap (made b is) (append_assoc b.tries (try_of t all ∷ []) ts)
     ∙ ap (λ y. made b is (b.tries ++ (record { from = t.from; to = t.to; catches = y; catch_all = all } ∷ ts))) (sym (append-nil t.catches))
 
-all_there : (b : Body) (p : CodePart) → whole_code (with_tries b p None) ≡ whole b p (rest [] [] None [])
+all_there : (b : OpenBody) (p : CodePart) → whole_code (with_tries b p None) ≡ whole b p (rest [] [] None [])
 all_there b at_insns = ap (λ y. made b y b.tries) (sym (append-nil b.insns)) ∙ ap (made b (b.insns ++ [])) (sym (append-nil b.tries))
 all_there b after_try = ap (λ y. made b y b.tries) (sym (append-nil b.insns)) ∙ ap (made b (b.insns ++ [])) (sym (append-nil b.tries))
 all_there b (in_try t) =
@@ -82,7 +82,7 @@ no_more _ = refl
 
 -- ---- states
 
-abbrev coding : CodePart → List Class → Option ℕ → Open → Body → ℕ → State
+abbrev coding : CodePart → List Class → Option ℕ → Open → OpenBody → ℕ → State
 coding p done late o b n = record { done = done; block = in_code o b p; lines = n; late = late }
 
 abbrev ended : List Class → Option ℕ → Open → Owner → Code → List Need → ℕ → State
@@ -90,16 +90,16 @@ ended done late o m c needs n = record { done = done; block = in_class (with_cod
 
 -- ---- what is read is the text of a code
 
-record Read (done : List Class) (late : Option ℕ) (o : Open) (b : Body) (p : CodePart) (ls : List Numbered) (t : State) : Type 0 where
+record Read (done : List Class) (late : Option ℕ) (o : Open) (b : OpenBody) (p : CodePart) (ls : List Numbered) (t : State) : Type 0 where
   more : Rest
   front : Front ls (rest_lines p more ++ end_code ∷ [])
   behind : Behind (λ (c : Code) (n : ℕ). ended done late o b.owner c (needs_from b.needs front.mine) n) front.after t
   is : behind.final ≡ whole b p more
 
-still_open : (done : List Class) (late : Option ℕ) (o : Open) (b : Body) (p : CodePart) (n : ℕ) (t : State) → is_outside t.block ≡ true → t ≡ at_line (coding p done late o b n) t.lines → true ≡ false
+still_open : (done : List Class) (late : Option ℕ) (o : Open) (b : OpenBody) (p : CodePart) (n : ℕ) (t : State) → is_outside t.block ≡ true → t ≡ at_line (coding p done late o b n) t.lines → true ≡ false
 still_open done late o b p n t e r = sym e ∙ ap (λ (x : State). is_outside x.block) r
 
-read_back : (ls : List Numbered) (done : List Class) (late : Option ℕ) (o : Open) (b : Body) (p : CodePart) (k : ℕ) (t : State) → is_outside t.block ≡ true → Runs (coding p done late o b k) ls t → Read done late o b p ls t
+read_back : (ls : List Numbered) (done : List Class) (late : Option ℕ) (o : Open) (b : OpenBody) (p : CodePart) (k : ℕ) (t : State) → is_outside t.block ≡ true → Runs (coding p done late o b k) ls t → Read done late o b p ls t
 unfolding add inside
 read_back [] done late o b p k t e r = let h = still_open done late o b p k t e r in absurd cc
 read_back ((n, end_code) ∷ ls) done late o b p k t e r = record {
@@ -187,7 +187,7 @@ never_empty : (xs : List Line) (l : Line) → [] ≡ xs ++ l ∷ [] → ⊥
 never_empty [] l e = cc
 never_empty (x ∷ xs) l e = cc
 
-end_goes : (p : CodePart) (n : ℕ) (l : Line) (ls : List Numbered) (done : List Class) (late : Option ℕ) (o : Open) (b : Body) (k : ℕ) (after : List Numbered) (t : State) (m : ℕ) → l ≡ end_code → said ls ≡ [] → (c : Code) → c ≡ whole b p (rest [] [] None [])
+end_goes : (p : CodePart) (n : ℕ) (l : Line) (ls : List Numbered) (done : List Class) (late : Option ℕ) (o : Open) (b : OpenBody) (k : ℕ) (after : List Numbered) (t : State) (m : ℕ) → l ≡ end_code → said ls ≡ [] → (c : Code) → c ≡ whole b p (rest [] [] None [])
     → Runs (ended done late o b.owner c (needs_from b.needs ((n, l) ∷ ls)) m) after t → Runs (coding p done late o b k) ((n, l) ∷ (ls ++ after)) t
 unfolding add
 end_goes p n l ls done late o b k after t m el es c ec r =
@@ -200,7 +200,7 @@ end_goes p n l ls done late o b k after t m el es c ec r =
     let g1 = subst (λ xs. Runs (coding p done late o b k) ((n, end_code) ∷ (xs ++ after)) t) (sym (none_said ls es)) g in
     subst (λ x. Runs (coding p done late o b k) ((n, x) ∷ (ls ++ after)) t) (sym el) g1
 
-go : (ls : List Numbered) (p : CodePart) (is : List Insn) (cs : List Catch) (all : Option ℕ) (ts : List Try) (done : List Class) (late : Option ℕ) (o : Open) (b : Body) (k : ℕ) (after : List Numbered) (t : State) (m : ℕ)
+go : (ls : List Numbered) (p : CodePart) (is : List Insn) (cs : List Catch) (all : Option ℕ) (ts : List Try) (done : List Class) (late : Option ℕ) (o : Open) (b : OpenBody) (k : ℕ) (after : List Numbered) (t : State) (m : ℕ)
     → said ls ≡ rest_lines p (rest is cs all ts) ++ end_code ∷ [] → (c : Code) → c ≡ whole b p (rest is cs all ts) → Runs (ended done late o b.owner c (needs_from b.needs ls) m) after t → Runs (coding p done late o b k) (ls ++ after) t
 unfolding add inside
 go [] p is cs all ts done late o b k after t m e c q r = absurd (never_empty (rest_lines p (rest is cs all ts)) end_code e)

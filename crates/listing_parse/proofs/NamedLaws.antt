@@ -19,7 +19,7 @@ use Rattle.listing_lines.specs.Lines.{Line, first_line, open_class, end_class, s
 use Rattle.listing_lines.specs.Needs.{earliest}
 use Rattle.listing_lines.specs.Places.{is_start, is_top}
 use Rattle.listing_parse.specs.Members.{Given, given_key, is_held, put_in, with_member}
-use Rattle.listing_parse.specs.States.{Open, Owner, ClassPart, at_heads, at_members, after_method, Body, CodePart, after_try, Block, at_top, in_class, in_code, State, stage_of, opened, closed, with_code, with_code_at, is_among, with_static, with_instance, with_direct, with_virtual, with_superclass, with_source, with_interface, at_part, class_line, begun, noted, with_tries, with_catch, is_in_try, whole_code, code_line, inside, class_of, owner_of, with_body, code_ended, late_in, with_block, add}
+use Rattle.listing_parse.specs.States.{Open, Owner, ClassPart, at_heads, at_members, after_method, OpenBody, CodePart, after_try, Block, at_top, in_class, in_code, State, stage_of, opened, closed, with_code, with_code_at, is_among, with_static, with_instance, with_direct, with_virtual, with_superclass, with_source, with_interface, at_part, class_line, begun, noted, with_tries, with_catch, is_in_try, whole_code, code_line, inside, class_of, owner_of, with_body, code_ended, late_in, with_block, add}
 use Rattle.listing_parse.specs.Named.{MethodsAreNamed, OpenIsNamed, BlockIsNamed, StateIsNamed, ReadingIsNamed}
 use Rattle.listing_parse.specs.Text.{Reading, begin, in_second, line_counted}
 use Rattle.dex_base.proofs.OptionLaws.{IfSome-map}
@@ -122,14 +122,14 @@ class_line_named o _ n h = tt
 
 -- ---- the code
 
-abbrev BodyIsNamed : Body × CodePart → Type 0
+abbrev BodyIsNamed : OpenBody × CodePart → Type 0
 BodyIsNamed q = AllByRecursion InsnIsNamed q.0.insns
 
-code_line_named : (b : Body) (p : CodePart) (l : Line) → LineIsNamed l → AllByRecursion InsnIsNamed b.insns → IfSome (code_line b p l) BodyIsNamed
+code_line_named : (b : OpenBody) (p : CodePart) (l : Line) → LineIsNamed l → AllByRecursion InsnIsNamed b.insns → IfSome (code_line b p l) BodyIsNamed
 code_line_named b p (insn_line i) n h = all_append InsnIsNamed b.insns (i ∷ []) h (n, tt)
 code_line_named b p (try_line from to) n h = h
 code_line_named b p (catch_line d k) n h = IfSome-map (λ q. (b, q)) (λ (q : CodePart). ⊤) BodyIsNamed (with_catch p (record { ty = d; at = k })) (λ q t. h) (any (with_catch p (record { ty = d; at = k })))
-code_line_named b p (catch_all_line k) n h = either_way (λ (o : Option (Body × CodePart)). IfSome o BodyIsNamed) (is_in_try p) (Some (with_tries b p (Some k), after_try)) None h tt
+code_line_named b p (catch_all_line k) n h = either_way (λ (o : Option (OpenBody × CodePart)). IfSome o BodyIsNamed) (is_in_try p) (Some (with_tries b p (Some k), after_try)) None h tt
 code_line_named b p _ n h = tt
 
 -- ---- the block
@@ -144,7 +144,7 @@ class_of_named : (k : Block) → BlockIsNamed k → IfSome (class_of k) OpenIsNa
 class_of_named (in_class o p) h = h
 class_of_named _ h = tt
 
-with_body_named : (k : Block) (b : Body) → BlockIsNamed k → AllByRecursion InsnIsNamed b.insns → BlockIsNamed (with_body k b)
+with_body_named : (k : Block) (b : OpenBody) → BlockIsNamed k → AllByRecursion InsnIsNamed b.insns → BlockIsNamed (with_body k b)
 with_body_named (in_class o p) b h i = (h, i)
 with_body_named _ b h i = h
 

@@ -1,3 +1,4 @@
+pub mod Zeros
 pub mod Members
 pub mod States
 pub mod View

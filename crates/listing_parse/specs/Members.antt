@@ -1,12 +1,12 @@
 -- Members stand in any order in the text, and rise in the program.
 -- Page: docs/LISTING.md, "The lines", "Values".
-use Rattle.std.specs.Prelude.{ℕ, ◌+◌, ◌==◌, nat_lt, Bool, true, false, pos, if◌then◌else◌, List, [], ◌∷◌, take, map, slice_index, Option, Some, None}
+use Rattle.std.specs.Prelude.{ℕ, ◌+◌, nat_lt, Bool, true, false, if◌then◌else◌, List, [], ◌∷◌, take, map, Option, Some, None}
 use Rattle.std.specs.List.{list_any}
 use Rattle.std.specs.Ordering.{is_eq, is_lt}
 use Rattle.program_types.specs.Key.{Key, key_cmp}
-use Rattle.program_types.specs.Content.{Descriptor, Value, Member}
-use Rattle.program_types.specs.Content as content
+use Rattle.program_types.specs.Content.{Value, Member}
 use Rattle.program_rules.specs.Rules.{member_key}
+use Rattle.listing_parse.specs.Zeros.{zero_of}
 
 -- A static field, and its value where the text gives one.
 pub record Given : Type 0 where
@@ -31,19 +31,6 @@ abbrev pub with_member : {X : Type 0} → (X → Key) → X → List X → Optio
 with_member key x ys = if is_held key (key x) ys then None else Some (put_in key x ys)
 
 -- ---- values
-
--- The zero of a type.
-abbrev pub zero_of : Descriptor → Value
-zero_of ty =
-    if slice_index ty 0 == 90 then content.Boolean false else (
-    if slice_index ty 0 == 66 then content.Byte (pos 0) else (
-    if slice_index ty 0 == 83 then content.Short (pos 0) else (
-    if slice_index ty 0 == 67 then content.Char 0 else (
-    if slice_index ty 0 == 73 then content.Int (pos 0) else (
-    if slice_index ty 0 == 74 then content.Long (pos 0) else (
-    if slice_index ty 0 == 70 then content.Float 0 else (
-    if slice_index ty 0 == 68 then content.Double 0 else
-    content.Null)))))))
 
 -- The value of a static field, or its type's zero where the text gives none.
 abbrev pub value_or_zero : Given → Value

@@ -40,7 +40,7 @@ pub data ClassPart : Type 0 where
   after_method : Owner → ClassPart
 
 -- The code that is open: whose it is, and what it has so far. Its tries are those that are whole.
-pub record Body : Type 0 where
+pub record OpenBody : Type 0 where
   pub owner : Owner
   pub registers : ℕ
   pub ins : ℕ
@@ -66,7 +66,7 @@ pub data Block : Type 0 where
   at_start : Block
   at_top : Block
   in_class : Open → ClassPart → Block
-  in_code : Open → Body → CodePart → Block
+  in_code : Open → OpenBody → CodePart → Block
 
 -- What stands in a listing so far: the whole classes, the block that is open, how many lines were read, and the lowest line
 -- with a target that is no instruction of its code.
@@ -196,15 +196,15 @@ class_line o _ = None
 -- ---- the code
 
 -- A code without anything, of this method.
-abbrev pub begun : Owner → ℕ → ℕ → ℕ → Body
+abbrev pub begun : Owner → ℕ → ℕ → ℕ → OpenBody
 begun m r i o = record { owner = m; registers = r; ins = i; outs = o; insns = []; tries = []; needs = [] }
 
 -- What a line's targets need is noted.
-abbrev pub noted : Body → ℕ → Line → Body
+abbrev pub noted : OpenBody → ℕ → Line → OpenBody
 noted b n line = record b { needs = with_need b.needs n (line_needs line) }
 
 -- One instruction more.
-abbrev pub with_insn : Body → Insn → Body
+abbrev pub with_insn : OpenBody → Insn → OpenBody
 with_insn b i = record b { insns = b.insns ++ i ∷ [] }
 
 -- The open try with its catch of everything, if it has one, is whole.
@@ -217,7 +217,7 @@ all_tries (in_try t) all ts = ts ++ try_of t all ∷ []
 all_tries _ all ts = ts
 
 -- No try is open any more.
-abbrev pub with_tries : Body → CodePart → Option ℕ → Body
+abbrev pub with_tries : OpenBody → CodePart → Option ℕ → OpenBody
 with_tries b p all = record b { tries = all_tries p all b.tries }
 
 -- One catch more in the open try: none where no try is open.
@@ -231,11 +231,11 @@ is_in_try (in_try t) = true
 is_in_try _ = false
 
 -- The code is whole.
-abbrev pub whole_code : Body → Code
+abbrev pub whole_code : OpenBody → Code
 whole_code b = record { registers = b.registers; ins = b.ins; outs = b.outs; insns = b.insns; tries = b.tries }
 
 -- A line of the code alone: none where it is of another kind, or a catch where no try is open.
-abbrev pub code_line : Body → CodePart → Line → Option (Body × CodePart)
+abbrev pub code_line : OpenBody → CodePart → Line → Option (OpenBody × CodePart)
 code_line b p (insn_line i) = Some (with_insn b i, at_insns)
 code_line b p (try_line from to) = Some (with_tries b p None, in_try (record { from = from; to = to; catches = [] }))
 code_line b p (catch_line d k) = option_map (λ q. (b, q)) (with_catch p (record { ty = d; at = k }))
@@ -262,7 +262,7 @@ owner_of (in_class o (after_method m)) = Some m
 owner_of _ = None
 
 -- The code begins.
-abbrev pub with_body : Block → Body → Block
+abbrev pub with_body : Block → OpenBody → Block
 with_body (in_class o p) b = in_code o b at_insns
 with_body other b = other
 

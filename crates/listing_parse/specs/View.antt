@@ -17,7 +17,7 @@ use Rattle.listing_parse.specs.declared.open_class.Open.{Open}
 use Rattle.listing_parse.specs.declared.open_class.Owner.{Owner}
 use Rattle.listing_parse.specs.declared.open_class.ClassPart.{ClassPart}
 use Rattle.listing_parse.specs.declared.open_class.ClassPart.TheVariants as of_class
-use Rattle.listing_parse.specs.declared.open_code.Body.{Body}
+use Rattle.listing_parse.specs.declared.open_code.OpenBody.{OpenBody}
 use Rattle.listing_parse.specs.declared.open_code.OpenTry.{OpenTry}
 use Rattle.listing_parse.specs.declared.open_code.CodePart.{CodePart}
 use Rattle.listing_parse.specs.declared.open_code.CodePart.TheVariants as of_code
@@ -66,7 +66,7 @@ class_part of_class.Members = states.at_members
 class_part (of_class.After m) = states.after_method (owner m)
 
 -- the code that is open
-unfoldable pub open_body : Body → states.Body
+unfoldable pub open_body : OpenBody → states.OpenBody
 open_body b = record {
   owner = owner b.owner;
   registers = b.registers;

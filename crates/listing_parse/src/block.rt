@@ -4,7 +4,7 @@ ghost use Rattle.std.specs.Prelude.{◌≡◌, Some, None, IfOk, IsOkUnless, Mat
 ghost use Rattle.dex_base.specs.Fault.{memory};
 
 use crate::open_class::{ClassPart, InClass, Owner};
-use crate::open_code::{Body, CodePart, InCode};
+use crate::open_code::{CodePart, InCode, OpenBody};
 use bumpalo::Bump;
 use dex_base::Fault;
 use listing_lines::{Line, Stage, first_late};
@@ -101,7 +101,7 @@ impl<'a> Block<'a> {
 
     /// The code begins.
     #[tactic(auto, unfolding(crate::specs::View::block))]
-    fn with_body(self, body: Body<'a>) -> Block<'a>
+    fn with_body(self, body: OpenBody<'a>) -> Block<'a>
         ensures { block result ≡ with_body (block self.entry) (open_body body.entry) }
     {
         match self {
@@ -118,7 +118,7 @@ impl<'a> Block<'a> {
     }
 
     /// The code begins.
-    pub(crate) fn begin_code(&mut self, body: Body<'a>)
+    pub(crate) fn begin_code(&mut self, body: OpenBody<'a>)
         ensures { block self.new ≡ with_body (block self.old) (open_body body.entry) }
     {
         let class = mem::replace(self, Block::Top);

@@ -4,7 +4,8 @@ ghost use Rattle.std.specs.Prelude.{◌≡◌, ◌∷◌, ◌≤◌, length, map
 ghost use Rattle.dex_base.specs.Fault.{memory};
 ghost use Rattle.program_types.specs.Key.{proto_key};
 ghost use Rattle.program_types.specs.View.{desc, str, proto, member, method, value, class, code};
-ghost use Rattle.listing_parse.specs.Members.{zero_of, value_or_zero, given_length, values_of};
+ghost use Rattle.listing_parse.specs.Zeros.{zero_of};
+ghost use Rattle.listing_parse.specs.Members.{value_or_zero, given_length, values_of};
 ghost use Rattle.listing_parse.specs.States.{closed, with_code};
 ghost use Rattle.listing_parse.specs.View.{given, held_static, held_instance, held_method, open_class};
 

@@ -6,7 +6,7 @@ ghost use Rattle.dex_base.specs.Fault.{memory};
 use crate::block::Block;
 use crate::close::alloc_class;
 use crate::open_class::{ClassPart, InClass, Open};
-use crate::open_code::Body;
+use crate::open_code::OpenBody;
 use bumpalo::Bump;
 use bumpalo::collections::into_bump_slice;
 use dex_base::{Fault, Seed};
@@ -165,7 +165,7 @@ impl<'a> Draft<'a> {
             return false;
         };
         self.block
-            .begin_code(Body::new(self.alloc, owner, registers, ins, outs));
+            .begin_code(OpenBody::new(self.alloc, owner, registers, ins, outs));
         true
     }
 

@@ -37,7 +37,7 @@ pub use form_line::FormLine;
 pub use laws::{one_fault, one_program};
 pub use listing::{parse, parse_seeded};
 pub use open_class::{ClassPart, Defined, FieldKey, InClass, MethodKey, Open, Owner, Static};
-pub use open_code::{Body, CodePart, InCode, OpenTry};
+pub use open_code::{CodePart, InCode, OpenBody, OpenTry};
 pub use reading::Reading;
 pub use text_laws::lines_are_read_as_they_say;
 pub use whole_laws::a_listing_is_its_lines;

@@ -12,7 +12,7 @@ use std::alloc::Global;
 
 /// The code that is open. Its tries are those that are whole.
 #[derive(Drop)]
-pub struct Body<'a> {
+pub struct OpenBody<'a> {
     pub alloc: Global,
     pub owner: Owner<'a>,
     pub registers: u16,
@@ -55,7 +55,7 @@ impl<'a> Drop for CodePart<'a> {
 #[derive(Drop)]
 pub struct InCode<'a> {
     pub class: Open<'a>,
-    pub body: Body<'a>,
+    pub body: OpenBody<'a>,
     pub part: CodePart<'a>,
 }
 
@@ -103,7 +103,7 @@ impl<'a> CodePart<'a> {
     }
 }
 
-impl<'a> Body<'a> {
+impl<'a> OpenBody<'a> {
     ghost use Rattle.listing_lines.specs.Needs.{with_need};
     ghost use Rattle.program_types.specs.View.{insn, code};
     ghost use Rattle.listing_parse.specs.States.{begun, with_insn, with_tries, whole_code};
@@ -111,10 +111,16 @@ impl<'a> Body<'a> {
 
     /// A code without anything.
     #[tactic(auto, unfolding(crate::specs::View::open_body))]
-    pub(crate) fn new(alloc: Global, of: Owner<'a>, registers: u16, ins: u16, outs: u16) -> Body<'a>
+    pub(crate) fn new(
+        alloc: Global,
+        of: Owner<'a>,
+        registers: u16,
+        ins: u16,
+        outs: u16,
+    ) -> OpenBody<'a>
         ensures { open_body result ≡ begun (owner of.entry) registers ins outs }
     {
-        Body {
+        OpenBody {
             alloc,
             owner: of,
             registers,

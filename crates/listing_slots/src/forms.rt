@@ -12,7 +12,6 @@ ghost use Rattle.listing_slots.specs.Shapes.{is_key, name_slot, before_close, fo
 
 use crate::key::{Key, is_same, key_text};
 use crate::slot::{Mark, Slot};
-use bumpalo::Bump;
 use dex_base::Fault;
 use dex_insn::{Format, IndexKind};
 use listing_words::Word;
@@ -95,8 +94,8 @@ fn before_close(words: &[Word<'_, '_>]) -> usize
 
 /// Puts the slots of a format's operands after those that are there.
 #[rattlefmt::skip]
-pub(crate) fn push_format<'a>(
-    slots: &mut Vec<Slot, &'a Bump>,
+pub(crate) fn push_format(
+    slots: &mut Vec<Slot>,
     format: Format,
     index: Option<IndexKind>,
     words: &[Word<'_, '_>],
@@ -139,7 +138,7 @@ fn registers_inside(words: &[Word<'_, '_>]) -> usize
     before_close(after)
 }
 
-fn push_registers<'a>(slots: &mut Vec<Slot, &'a Bump>, n: usize) -> Result<(), Fault>
+fn push_registers(slots: &mut Vec<Slot>, n: usize) -> Result<(), Fault>
     ensures ok { OnOk result (slots.new.items ≡ slots.old.items ++ replicate n said.register4) }
     ensures memory { IsOkUnless result memory }
 {
@@ -150,11 +149,7 @@ fn push_registers<'a>(slots: &mut Vec<Slot, &'a Bump>, n: usize) -> Result<(), F
 }
 
 /// Registers in braces, and a name.
-fn push_braces<'a>(
-    slots: &mut Vec<Slot, &'a Bump>,
-    name: Slot,
-    words: &[Word<'_, '_>],
-) -> Result<(), Fault>
+fn push_braces(slots: &mut Vec<Slot>, name: Slot, words: &[Word<'_, '_>]) -> Result<(), Fault>
     ensures ok { OnOk result (slots.new.items ≡ slots.old.items ++ (Slot.Key Key.Open ∷ (replicate (before_close 5 (drop 1 (map word words.now))) said.register4 ++ (Slot.Key Key.Close ∷ name ∷ [])))) }
     ensures memory { IsOkUnless result memory }
 {

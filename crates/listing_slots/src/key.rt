@@ -89,10 +89,8 @@ pub(crate) fn lead_key(text: &[u8]) -> Option<Key>
     if text.len() > 10 {
         return None;
     }
-    match text.split_first() {
-        Some((first, _)) => find_key(leads_with(*first), text),
-        None => None,
-    }
+    let (first, _) = text.split_first()?;
+    find_key(leads_with(*first), text)
 }
 
 /// The keyword of a value.

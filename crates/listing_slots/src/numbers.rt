@@ -76,10 +76,7 @@ fn read_minus(digits: &[u8], most: u64) -> Option<i64>
     ensures found { IfSome result (λ z. (n : ℕ) × SpellsNatural digits.now n × (n ≤ most) × (z ≡ neg_ℤ (pos n))) }
     ensures none { IfNone result ((n : ℕ) → SpellsNatural digits.now n → n ≤ most → ⊥) }
 {
-    match read_natural(digits, most) {
-        Some(n) => Some(minus(n)),
-        None => None,
-    }
+    Some(minus(read_natural(digits, most)?))
 }
 
 /// The number from minus one more than `most` up to `most`.

@@ -29,30 +29,12 @@ fn read_plain(slot: Slot, text: &[u8]) -> Option<Datum<'static>>
     ensures valid { IfSome result (λ d. IsValidDatum (datum d)) }
 {
     match slot {
-        Slot::Byte(mark, most) => match read_number(mark, text, most as u64) {
-            Some(n) => Some(Datum::Byte(n as u8)),
-            None => None,
-        },
-        Slot::Half(mark, most) => match read_number(mark, text, most as u64) {
-            Some(n) => Some(Datum::Half(n as u16)),
-            None => None,
-        },
-        Slot::Word(mark, most) => match read_number(mark, text, most as u64) {
-            Some(n) => Some(Datum::Word(n as u32)),
-            None => None,
-        },
-        Slot::Flags => match read_number(Mark::Nothing, text, 4294967295) {
-            Some(n) => Some(Datum::Word(n as u32)),
-            None => None,
-        },
-        Slot::Float => match read_bits(8, text) {
-            Some(n) => Some(Datum::Word(n as u32)),
-            None => None,
-        },
-        Slot::Double => match read_bits(16, text) {
-            Some(n) => Some(Datum::Wide(n)),
-            None => None,
-        },
+        Slot::Byte(mark, most) => Some(Datum::Byte(read_number(mark, text, most as u64)? as u8)),
+        Slot::Half(mark, most) => Some(Datum::Half(read_number(mark, text, most as u64)? as u16)),
+        Slot::Word(mark, most) => Some(Datum::Word(read_number(mark, text, most as u64)? as u32)),
+        Slot::Flags => Some(Datum::Word(read_number(Mark::Nothing, text, 4294967295)? as u32)),
+        Slot::Float => Some(Datum::Word(read_bits(8, text)? as u32)),
+        Slot::Double => Some(Datum::Wide(read_bits(16, text)?)),
         _ => read_whole(slot, text),
     }
 }
@@ -65,26 +47,11 @@ fn read_whole(slot: Slot, text: &[u8]) -> Option<Datum<'static>>
     ensures valid { IfSome result (λ d. IsValidDatum (datum d)) }
 {
     match slot {
-        Slot::Nibble => match read_signed(text, 7) {
-            Some(n) => Some(Datum::Tiny(n as i8)),
-            None => None,
-        },
-        Slot::Tiny => match read_signed(text, 127) {
-            Some(n) => Some(Datum::Tiny(n as i8)),
-            None => None,
-        },
-        Slot::Short => match read_signed(text, 32767) {
-            Some(n) => Some(Datum::Short(n as i16)),
-            None => None,
-        },
-        Slot::Int => match read_signed(text, 2147483647) {
-            Some(n) => Some(Datum::Int(n as i32)),
-            None => None,
-        },
-        Slot::Long => match read_signed(text, 9223372036854775807) {
-            Some(n) => Some(Datum::Long(n)),
-            None => None,
-        },
+        Slot::Nibble => Some(Datum::Tiny(read_signed(text, 7)? as i8)),
+        Slot::Tiny => Some(Datum::Tiny(read_signed(text, 127)? as i8)),
+        Slot::Short => Some(Datum::Short(read_signed(text, 32767)? as i16)),
+        Slot::Int => Some(Datum::Int(read_signed(text, 2147483647)? as i32)),
+        Slot::Long => Some(Datum::Long(read_signed(text, 9223372036854775807)?)),
         _ => None,
     }
 }
@@ -265,7 +232,7 @@ pub fn read_operands<'a, 'b>(
     arena: &'a Bump,
     slots: &[Slot],
     words: &[Word<'a, 'b>],
-    says: &mut Vec<Datum<'a>, &'a Bump>,
+    says: &mut Vec<Datum<'a>>,
 ) -> Result<Option<u16>, Fault>
     requires { length slots.now ≡ length words.now }
     ensures all { IfOk result (λ r. IfNone r (SpellsSlots slots.now (map word words.now) (map datum says.new.items))) }

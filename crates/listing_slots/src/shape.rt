@@ -16,7 +16,6 @@ use crate::key::{Key, lead_key, payload_key};
 use crate::kind::Kind;
 use crate::slot::{Mark, Slot};
 use crate::values::push_value;
-use bumpalo::Bump;
 use dex_base::Fault;
 use dex_insn::{format_of, index_kind_of, opcode_named};
 use listing_words::{Word, is_natural};
@@ -27,10 +26,7 @@ const SIZE: Slot = Slot::Half(Mark::Nothing, 65535);
 
 /// A static field: without a value, or with one.
 #[tactic(auto, unfolding(crate::specs::Shapes::key_row))]
-fn push_static<'a>(
-    slots: &mut Vec<Slot, &'a Bump>,
-    after: &[Word<'_, '_>],
-) -> Result<Option<Kind>, Fault>
+fn push_static(slots: &mut Vec<Slot>, after: &[Word<'_, '_>]) -> Result<Option<Kind>, Fault>
     ensures some { IfOk result (λ r. IfSome r (λ kind. onto_row slots.old.items (key_row Key.Static (map word after.now)) ≡ Some (kind, slots.new.items))) }
     ensures none { IfOk result (λ r. IfNone r (key_row Key.Static (map word after.now) ≡ None)) }
     ensures memory { IsOkUnless result memory }
@@ -50,8 +46,8 @@ fn push_static<'a>(
 /// The slots after the keyword of a line, and what the line is.
 #[rattlefmt::skip]
 #[tactic(auto, unfolding(crate::specs::Shapes::key_row))]
-fn push_key<'a>(
-    slots: &mut Vec<Slot, &'a Bump>,
+fn push_key(
+    slots: &mut Vec<Slot>,
     key: Key,
     after: &[Word<'_, '_>],
 ) -> Result<Option<Kind>, Fault>
@@ -96,7 +92,7 @@ fn begins_with(key: Key, words: &[Word<'_, '_>]) -> bool
 }
 
 /// Appends so many slots of targets.
-fn push_targets<'a>(slots: &mut Vec<Slot, &'a Bump>, n: usize) -> Result<(), Fault>
+fn push_targets(slots: &mut Vec<Slot>, n: usize) -> Result<(), Fault>
     ensures ok { OnOk result (slots.new.items ≡ slots.old.items ++ replicate n target) }
     ensures memory { IsOkUnless result memory }
 {
@@ -107,7 +103,7 @@ fn push_targets<'a>(slots: &mut Vec<Slot, &'a Bump>, n: usize) -> Result<(), Fau
 }
 
 /// A key and a target, so many times.
-fn push_pairs<'a>(slots: &mut Vec<Slot, &'a Bump>, n: usize) -> Result<(), Fault>
+fn push_pairs(slots: &mut Vec<Slot>, n: usize) -> Result<(), Fault>
     ensures ok { OnOk result (slots.new.items ≡ slots.old.items ++ pairs n) }
     ensures memory { IsOkUnless result memory }
 {
@@ -120,8 +116,8 @@ fn push_pairs<'a>(slots: &mut Vec<Slot, &'a Bump>, n: usize) -> Result<(), Fault
 
 /// The slots after the word of a payload, and what the line is.
 #[tactic(auto, unfolding(crate::specs::Shapes::payload_row))]
-fn push_payload<'a>(
-    slots: &mut Vec<Slot, &'a Bump>,
+fn push_payload(
+    slots: &mut Vec<Slot>,
     key: Key,
     after: &[Word<'_, '_>],
 ) -> Result<Option<Kind>, Fault>
@@ -151,11 +147,7 @@ fn push_payload<'a>(
 }
 
 /// Puts the slots of an opcode's operands after those that are there.
-fn push_operands<'a>(
-    slots: &mut Vec<Slot, &'a Bump>,
-    op: u8,
-    after: &[Word<'_, '_>],
-) -> Result<(), Fault>
+fn push_operands(slots: &mut Vec<Slot>, op: u8, after: &[Word<'_, '_>]) -> Result<(), Fault>
     ensures ok { OnOk result (slots.new.items ≡ slots.old.items ++ plain_slots (format_of op) (index_kind_of op) (map word after.now)) }
     ensures memory { IsOkUnless result memory }
 {
@@ -166,8 +158,8 @@ fn push_operands<'a>(
 }
 
 /// The slots after a mnemonic, and what the line is.
-fn push_plain<'a>(
-    slots: &mut Vec<Slot, &'a Bump>,
+fn push_plain(
+    slots: &mut Vec<Slot>,
     text: &[u8],
     after: &[Word<'_, '_>],
 ) -> Result<Option<Kind>, Fault>
@@ -185,8 +177,8 @@ fn push_plain<'a>(
 }
 
 /// The slots after the mnemonic of an instruction or the word of a payload, and what the line is.
-fn push_insn<'a>(
-    slots: &mut Vec<Slot, &'a Bump>,
+fn push_insn(
+    slots: &mut Vec<Slot>,
     text: &[u8],
     after: &[Word<'_, '_>],
 ) -> Result<Option<Kind>, Fault>
@@ -205,24 +197,15 @@ fn label_of(text: &[u8]) -> Option<&[u8]>
     ensures found { IfSome result (λ label. text.now ≡ label.now ++ (58 ∷ [])) }
     ensures none { IfNone result ((label : List ℕ) → text.now ≡ label ++ (58 ∷ []) → ⊥) }
 {
-    if text.len() == 0 {
-        return None;
-    }
-    let (label, last) = text.split_at(text.len() - 1);
-    if last.len() != 1 {
-        return None;
-    }
-    if last[0] != b':' {
-        return None;
-    }
-    Some(label)
+    let (last, label) = text.split_last()?;
+    if *last == b':' { Some(label) } else { None }
 }
 
 /// What a line is whose first word is a keyword, and its slots.
-fn read_keyed<'a>(
+fn read_keyed(
     text: &[u8],
     after: &[Word<'_, '_>],
-    slots: &mut Vec<Slot, &'a Bump>,
+    slots: &mut Vec<Slot>,
 ) -> Result<Option<Kind>, Fault>
     requires { slots.old.items ≡ [] }
     ensures found { IfOk result (λ r. IfSome r (λ kind. BeginsWithKey text.now (map word after.now) (kind, slots.new.items))) }
@@ -242,10 +225,7 @@ fn read_keyed<'a>(
 }
 
 /// What a line is after the number that an instruction gives itself, and its slots.
-fn read_labelled<'a>(
-    after: &[Word<'_, '_>],
-    slots: &mut Vec<Slot, &'a Bump>,
-) -> Result<Option<Kind>, Fault>
+fn read_labelled(after: &[Word<'_, '_>], slots: &mut Vec<Slot>) -> Result<Option<Kind>, Fault>
     requires { slots.old.items ≡ [] }
     ensures found { IfOk result (λ r. IfSome r (λ kind. BeginsWithInsn (map word after.now) (kind, slots.new.items))) }
     ensures none { IfOk result (λ r. IfNone r ((row : Row) → BeginsWithInsn (map word after.now) row → ⊥)) }
@@ -269,7 +249,7 @@ fn read_labelled<'a>(
 /// The shape of a line of these words; its slots are put in place of those that are there.
 pub fn read_shape<'a, 'b>(
     words: &[Word<'a, 'b>],
-    slots: &mut Vec<Slot, &'a Bump>,
+    slots: &mut Vec<Slot>,
 ) -> Result<Option<Found<'b>>, Fault>
     ensures found { IfOk result (λ r. IfSome r (λ f. HasShape (map word words.now) (shape f slots.new.items (map word words.now)))) }
     ensures lengths { IfOk result (λ r. IfSome r (λ f. f.lead + length slots.new.items ≡ length words.now)) }
@@ -310,7 +290,7 @@ pub fn read_shape<'a, 'b>(
 /// that are there.
 pub fn read_bare_shape<'a, 'b>(
     words: &[Word<'a, 'b>],
-    slots: &mut Vec<Slot, &'a Bump>,
+    slots: &mut Vec<Slot>,
 ) -> Result<Option<Found<'b>>, Fault>
     ensures found { IfOk result (λ r. IfSome r (λ f. HasBareShape (map word words.now) (shape f slots.new.items (map word words.now)))) }
     ensures lengths { IfOk result (λ r. IfSome r (λ f. f.lead + length slots.new.items ≡ length words.now)) }

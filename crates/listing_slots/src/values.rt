@@ -9,7 +9,6 @@ ghost use Rattle.listing_slots.specs.Shapes.{depth_of, value_slots};
 use crate::due::Due;
 use crate::key::{Key, is_same, key_text, value_key};
 use crate::slot::{Mark, Slot};
-use bumpalo::Bump;
 use dex_base::Fault;
 use listing_words::Word;
 
@@ -90,10 +89,7 @@ fn is_whole(due: Due) -> bool
 }
 
 /// Puts the slots of a value after those that are there; false where these words aren't one value.
-pub(crate) fn push_value<'a>(
-    slots: &mut Vec<Slot, &'a Bump>,
-    words: &[Word<'_, '_>],
-) -> Result<bool, Fault>
+pub(crate) fn push_value(slots: &mut Vec<Slot>, words: &[Word<'_, '_>]) -> Result<bool, Fault>
     ensures put { IfOk result (λ yes. MatchBool yes
         (option_map (λ ss. slots.old.items ++ ss) (value_slots (Due.Value 0) (map word words.now)) ≡ Some slots.new.items)
         (value_slots (Due.Value 0) (map word words.now) ≡ None)) }

@@ -46,13 +46,9 @@ fn read_name_unit(text: &[u8]) -> Option<(u16, &[u8])>
     ensures found { IfSome result (λ f. TakesNameUnit text.now f.0 f.1.now) }
     ensures none { IfNone result (NoneAt TakesNameUnit text.now) }
 {
-    match name_unit_at(text) {
-        Some((unit, length)) => {
-            let (_, rest) = text.split_at(length);
-            Some((unit, rest))
-        }
-        None => None,
-    }
+    let (unit, length) = name_unit_at(text)?;
+    let (_, rest) = text.split_at(length);
+    Some((unit, rest))
 }
 
 /// The units before the first escape, in a Vec with room for the others, and what stands from it on.

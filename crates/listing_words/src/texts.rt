@@ -83,13 +83,9 @@ fn read_unit(text: &[u8]) -> Option<(u16, &[u8])>
     ensures found { IfSome result (λ f. TakesUnit text.now f.0 f.1.now) }
     ensures none { IfNone result (NoneAt TakesUnit text.now) }
 {
-    match unit_at(text) {
-        Some((unit, length)) => {
-            let (_, rest) = text.split_at(length);
-            Some((unit, rest))
-        }
-        None => None,
-    }
+    let (unit, length) = unit_at(text)?;
+    let (_, rest) = text.split_at(length);
+    Some((unit, rest))
 }
 
 /// All units that stand at the front.

@@ -97,7 +97,7 @@ fn read_word<'a, 'b>(
 pub fn read_words<'a, 'b>(
     arena: &'a Bump,
     line: &'b [u8],
-    words: &mut Vec<Word<'a, 'b>, &'a Bump>,
+    words: &mut Vec<Word<'a, 'b>>,
 ) -> Result<bool, Fault>
     ensures read { IfOk result (λ yes. MatchBool yes
         (HasWords line.now (map word words.new.items))

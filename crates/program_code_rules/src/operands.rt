@@ -17,56 +17,6 @@ use dex_base::are_bytes;
 use dex_insn::{Format, IndexKind, format_of, index_kind_of};
 use program_types::{Code, Insn, Name};
 
-/// Whether a field of an instruction holds its number: it does, by the number's type, which the first line of each brings into the proof.
-fn fits_u8(a: u8) -> bool
-    ensures { IsTrue result ↔ (a < 256) }
-{
-    let _byte = a;
-    true
-}
-
-fn fits_u16(a: u16) -> bool
-    ensures { IsTrue result ↔ (a < 65536) }
-{
-    let _half = a;
-    true
-}
-
-fn fits_u32(a: u32) -> bool
-    ensures { IsTrue result ↔ (a < 4294967296) }
-{
-    let _word = a;
-    true
-}
-
-fn fits_i8(b: i8) -> bool
-    ensures { IsTrue result ↔ FitsSigned w8 b }
-{
-    let _byte = b;
-    true
-}
-
-fn fits_i16(b: i16) -> bool
-    ensures { IsTrue result ↔ FitsSigned w16 b }
-{
-    let _half = b;
-    true
-}
-
-fn fits_i32(b: i32) -> bool
-    ensures { IsTrue result ↔ FitsSigned w32 b }
-{
-    let _word = b;
-    true
-}
-
-fn fits_i64(b: i64) -> bool
-    ensures { IsTrue result ↔ FitsSigned w64 b }
-{
-    let _long = b;
-    true
-}
-
 /// Whether the opcode is of the format.
 fn is_of(op: u8, format: Format) -> bool
     ensures { IsTrue result ↔ (format_of op ≡ Some format) }
@@ -140,16 +90,14 @@ fn keys_rise(keys: &[i32]) -> bool
     true
 }
 
-/// Whether all keys are numbers of 32 bits: they are, by their type.
-fn are_keys(keys: &[i32]) -> bool
-    ensures { IsTrue result ↔ AllByRecursion (λ key. FitsSigned w32 key) keys.now }
+/// All of the keys are numbers of 32 bits.
+fn are_keys(keys: &[i32])
+    ensures { AllByRecursion (λ key. FitsSigned w32 key) keys.now }
 {
     for key in keys {
-        if !fits_i32(*key) {
-            return false;
-        }
+        // Only for the proof: that one is, by its type.
+        let _key = *key;
     }
-    true
 }
 
 /// All of the targets are numbers of 32 bits.
@@ -176,7 +124,8 @@ fn are_few(targets: &[u32]) -> bool
 fn is_sparse(keys: &[i32], targets: &[u32]) -> bool
     ensures { IsTrue result ↔ ((length keys.now ≡ length targets.now) × (length targets.now ≤ 65535) × AllByRecursion (λ key. FitsSigned w32 key) keys.now × AreRisingKeys keys.now × AllByRecursion (λ to. to < 4294967296) targets.now) }
 {
-    if !are_keys(keys) || keys.len() != targets.len() {
+    are_keys(keys);
+    if keys.len() != targets.len() {
         return false;
     }
     if !are_few(targets) {
@@ -208,31 +157,29 @@ fn fits_fields(one: &Insn<'_>) -> bool
         Insn::I12x { op, a, b } => are_low(op, Format::F12x, a, b),
         Insn::I11n { op, a, b } => is_of(op, Format::F11n) && a < 16 && b >= -8 && b < 8,
         Insn::I11x { op, a } => is_short(op, Format::F11x, a),
-        Insn::I10t { op, to } => is_of(op, Format::F10t) && fits_u32(to),
-        Insn::I20t { op, to } => is_of(op, Format::F20t) && fits_u32(to),
-        Insn::I22x { op, a, b } => is_short(op, Format::F22x, a) && fits_u16(b),
-        Insn::I21t { op, a, to } => is_short(op, Format::F21t, a) && fits_u32(to),
-        Insn::I21s { op, a, b } => is_short(op, Format::F21s, a) && fits_i16(b),
-        Insn::I21h { op, a, b } => is_short(op, Format::F21h, a) && fits_i16(b),
+        Insn::I10t { op, to } => is_of(op, Format::F10t),
+        Insn::I20t { op, to } => is_of(op, Format::F20t),
+        Insn::I22x { op, a, b } => is_short(op, Format::F22x, a),
+        Insn::I21t { op, a, to } => is_short(op, Format::F21t, a),
+        Insn::I21s { op, a, b } => is_short(op, Format::F21s, a),
+        Insn::I21h { op, a, b } => is_short(op, Format::F21h, a),
         Insn::I21c { op, a, name } => is_short(op, Format::F21c, a) && is_named(op, name),
-        Insn::I23x { op, a, b, c } => is_short(op, Format::F23x, a) && fits_u8(b) && fits_u8(c),
-        Insn::I22b { op, a, b, c } => is_short(op, Format::F22b, a) && fits_u8(b) && fits_i8(c),
-        Insn::I22t { op, a, b, to } => are_low(op, Format::F22t, a, b) && fits_u32(to),
-        Insn::I22s { op, a, b, c } => are_low(op, Format::F22s, a, b) && fits_i16(c),
+        Insn::I23x { op, a, b, c } => is_short(op, Format::F23x, a),
+        Insn::I22b { op, a, b, c } => is_short(op, Format::F22b, a),
+        Insn::I22t { op, a, b, to } => are_low(op, Format::F22t, a, b),
+        Insn::I22s { op, a, b, c } => are_low(op, Format::F22s, a, b),
         Insn::I22c { op, a, b, name } => are_low(op, Format::F22c, a, b) && is_named(op, name),
-        Insn::I30t { op, to } => is_of(op, Format::F30t) && fits_u32(to),
-        Insn::I32x { op, a, b } => is_of(op, Format::F32x) && fits_u16(a) && fits_u16(b),
-        Insn::I31i { op, a, b } => is_short(op, Format::F31i, a) && fits_i32(b),
-        Insn::I31t { op, a, to } => is_short(op, Format::F31t, a) && fits_u32(to),
+        Insn::I30t { op, to } => is_of(op, Format::F30t),
+        Insn::I32x { op, a, b } => is_of(op, Format::F32x),
+        Insn::I31i { op, a, b } => is_short(op, Format::F31i, a),
+        Insn::I31t { op, a, to } => is_short(op, Format::F31t, a),
         Insn::I31c { op, a, name } => is_short(op, Format::F31c, a) && is_named(op, name),
         Insn::I35c { op, n, regs, name } => {
             is_of(op, Format::F35c) && are_registers(n, &regs) && is_named(op, name)
         }
-        Insn::I3rc { op, n, first, name } => {
-            is_short(op, Format::F3rc, n) && fits_u16(first) && is_named(op, name)
-        }
-        Insn::I51l { op, a, b } => is_short(op, Format::F51l, a) && fits_i64(b),
-        Insn::Packed { first, targets } => fits_i32(first) && are_few(targets),
+        Insn::I3rc { op, n, first, name } => { is_short(op, Format::F3rc, n) && is_named(op, name) }
+        Insn::I51l { op, a, b } => is_short(op, Format::F51l, a),
+        Insn::Packed { first, targets } => are_few(targets),
         Insn::Sparse { keys, targets } => is_sparse(keys, targets),
         Insn::Data { width, bytes } => is_data(width, bytes),
     }

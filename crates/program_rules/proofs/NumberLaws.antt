@@ -12,7 +12,7 @@ use Rattle.program_types.specs.View.{desc}
 use Rattle.program_types.specs.declared.names.Desc.{Desc}
 use Rattle.program_rules.specs.Rules.{ClassHolds, IsNew, AreDistinct, NoneFrom}
 use Rattle.program_rules.specs.Numbers.{types, AreNumbers, NoneWithin, IsLastWithin, IsFirstAgain}
-use Rattle.program_rules.specs.declared.numbers.Numbers.{Numbers}
+use Rattle.program_rules.specs.declared.numbers.TypePlaces.{TypePlaces}
 
 module _ (ts : List Descriptor) (n : ℕ) (key : Descriptor) (at : slice_get ts n ≡ Some key) where
   -- a type that is none of the first n, nor type n
@@ -112,7 +112,7 @@ not-yet p i (Some k) first kept = elim (cases_lt k i) [
 ]
 
 -- The numbers of the types that classes define are those of the program.
-pub carried : (xs : List Desc) (p : Program) (n : Numbers) → map desc xs ≡ types p → AreNumbers (map desc xs) (length xs) n → AreNumbers (types p) (length p) n
+pub carried : (xs : List Desc) (p : Program) (n : TypePlaces) → map desc xs ≡ types p → AreNumbers (map desc xs) (length xs) n → AreNumbers (types p) (length p) n
 carried xs p n e h =
     let l : length xs ≡ length p = sym (length-map xs desc) ∙ ap length e ∙ length-map p (λ (c : Class). c.ty) in
     subst (λ (ts : List Descriptor). AreNumbers ts (length p) n) e (subst (λ (k : ℕ). AreNumbers (map desc xs) k n) l h)

@@ -8,7 +8,7 @@ use Rattle.program_types.specs.Content.{Descriptor, Program}
 use Rattle.program_types.specs.View.{desc}
 use Rattle.program_types.specs.declared.names.Desc.{Desc}
 use Rattle.program_rules.specs.Rules.{IsNew}
-use Rattle.program_rules.specs.declared.numbers.Numbers.{Numbers}
+use Rattle.program_rules.specs.declared.numbers.TypePlaces.{TypePlaces}
 
 -- the types that a program defines, class by class
 abbrev pub types : Program → List Descriptor
@@ -31,6 +31,6 @@ pub record IsFirstAgain (ts : List Descriptor) (n : ℕ) (k : ℕ) : Type 0 wher
   pub earlier : (i : ℕ) → i < k → IsNew ts i
 
 -- Where the first n types stand: each one's last number, and the first number whose type stands before it too.
-pub record AreNumbers (ts : List Descriptor) (n : ℕ) (numbers : Numbers) : Type 0 where
+pub record AreNumbers (ts : List Descriptor) (n : ℕ) (numbers : TypePlaces) : Type 0 where
   pub last : (t : Desc) → MatchOption (get (λ x y. bytes_eq (desc x) (desc y)) numbers.last t) (NoneWithin ts n (desc t)) (IsLastWithin ts n (desc t))
   pub again : MatchOption numbers.again ((k : ℕ) → k < n → IsNew ts k) (IsFirstAgain ts n)

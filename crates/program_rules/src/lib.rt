@@ -29,4 +29,4 @@ mod laws;
 
 pub use laws::{class_is_in_range, one_rule};
 pub use names::is_valid_name;
-pub use program::{well_formed, well_formed_in, well_formed_named_in, well_formed_named_seeded};
+pub use program::{well_formed, well_formed_in, well_formed_named_seeded};

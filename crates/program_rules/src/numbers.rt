@@ -19,7 +19,7 @@ const FEW: usize = 8;
 
 /// Where the types of a list stand.
 #[derive(Drop)]
-pub(crate) struct Numbers<'a> {
+pub(crate) struct TypePlaces<'a> {
     /// The last number of each type.
     last: IndexMap<Desc<'a>, usize, Seed>,
     /// The first number whose type stands before it too.
@@ -31,7 +31,7 @@ pub(crate) fn numbers_of<'a>(
     alloc: Global,
     seed: Seed,
     list: &[Desc<'a>],
-) -> Result<Numbers<'a>, Fault>
+) -> Result<TypePlaces<'a>, Fault>
     ensures ok { IfOk result (AreNumbers (map desc list.now) (length list.now)) }
     ensures memory { IsOkUnless result memory }
 {
@@ -44,11 +44,11 @@ pub(crate) fn numbers_of<'a>(
             again = Some(k);
         }
     }
-    Ok(Numbers { last, again })
+    Ok(TypePlaces { last, again })
 }
 
 /// Whether none of the classes from number `from` on is of the type.
-fn is_none_from(numbers: &Numbers<'_>, from: usize, ty: Desc<'_>) -> bool
+fn is_none_from(numbers: &TypePlaces<'_>, from: usize, ty: Desc<'_>) -> bool
     ensures { (p : Program) → AreNumbers (types p) (length p) numbers.now → IsTrue result ↔ NoneFrom p from (desc ty.entry) }
 {
     match numbers.last.get(&ty) {
@@ -58,7 +58,7 @@ fn is_none_from(numbers: &Numbers<'_>, from: usize, ty: Desc<'_>) -> bool
 }
 
 /// Whether none of the classes from number `from` on is of one of the types.
-fn are_none_from(numbers: &Numbers<'_>, from: usize, list: &[Desc<'_>]) -> bool
+fn are_none_from(numbers: &TypePlaces<'_>, from: usize, list: &[Desc<'_>]) -> bool
     ensures { (p : Program) → AreNumbers (types p) (length p) numbers.now → IsTrue result ↔ AllByRecursion (NoneFrom p from) (map desc list.now) }
 {
     for ty in list {
@@ -82,7 +82,7 @@ fn are_distinct_in(alloc: Global, seed: Seed, list: &[Desc<'_>]) -> Result<bool,
 }
 
 /// Whether number `i` is the first whose type stands before it too.
-fn is_first_again(numbers: &Numbers<'_>, i: usize) -> bool
+fn is_first_again(numbers: &TypePlaces<'_>, i: usize) -> bool
     ensures { IsTrue result ↔ (numbers.now.again ≡ Some i) }
 {
     numbers.again == Some(i)
@@ -92,7 +92,7 @@ fn is_first_again(numbers: &Numbers<'_>, i: usize) -> bool
 /// before it are defined once.
 pub(crate) fn order_holds_in(
     alloc: Global,
-    numbers: &Numbers<'_>,
+    numbers: &TypePlaces<'_>,
     i: usize,
     one: &Class<'_>,
 ) -> Result<bool, Fault>

@@ -16,7 +16,7 @@ ghost use Rattle.program_rules.specs.WellFormed.{WellFormed};
 use crate::codes::{codes_hold, payload_uses_hold};
 use crate::laws::class_is_in_range;
 use crate::members::{members_rise, names_are_valid};
-use crate::numbers::{Numbers, numbers_of, order_holds_in};
+use crate::numbers::{TypePlaces, numbers_of, order_holds_in};
 use crate::order::order_holds;
 use crate::values::values_fit;
 use dex_base::{Fault, Seed, fault};
@@ -144,7 +144,7 @@ fn types_of<'a>(alloc: Global, classes: &[Class<'a>]) -> Result<Vec<Desc<'a>>, F
 /// Whether all classes keep all rules, if it may be known that a file can have the names in their instructions.
 fn check_classes(
     alloc: Global,
-    numbers: &Numbers<'_>,
+    numbers: &TypePlaces<'_>,
     classes: &[Class<'_>],
     named: bool,
 ) -> Result<(), Fault>
@@ -174,27 +174,11 @@ pub fn well_formed_in(alloc: Global, all: &Program<'_>) -> Result<(), Fault>
     ensures formed { OnOk result (WellFormed (program all.now)) }
     ensures err { IfErr result (λ e. e ≢ memory → RuleBreaks (program all.now) e) }
 {
-    well_formed_named_in(alloc, all, false)
+    well_formed_named_seeded(alloc, Seed::fixed(), all, false)
 }
 
-/// Whether a program is well formed, as `well_formed_in` says it. Where a file is known to have all names that instructions
-/// mention, these aren't looked at again.
-///
-/// ```
-/// use dex_program::{Program, well_formed_named_in};
-///
-/// // no instruction, and so none whose name a file can't have
-/// assert!(rt; well_formed_named_in(alloc, &Program { classes: &[] }, true).is_ok());
-/// ```
-pub fn well_formed_named_in(alloc: Global, all: &Program<'_>, named: bool) -> Result<(), Fault>
-    requires { IsTrue named → AllByRecursion (CodesHold InsnsAreNamed) (program all.now) }
-    ensures formed { OnOk result (WellFormed (program all.now)) }
-    ensures err { IfErr result (λ e. e ≢ memory → RuleBreaks (program all.now) e) }
-{
-    well_formed_named_seeded(alloc, Seed::fixed(), all, named)
-}
-
-/// Whether a program is well formed, as `well_formed_named_in` says it. Hashes begin with the seed.
+/// Whether a program is well formed, as `well_formed_in` says it. Where a file is known to have all names that instructions mention,
+/// these aren't looked at again. Hashes begin with the seed.
 ///
 /// ```
 /// well_formed_named_seeded(alloc, seed, &program, named)?;

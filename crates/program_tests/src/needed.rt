@@ -88,9 +88,8 @@ enum Asked {
     RankOfName(Said, Option<u32>),
     // the prototypes of the list above have theirs
     Prototypes,
-    // beside the members of a class are the ranks of their parts, by which they are found
+    // beside the members of a class are the ranks of their parts
     Parts,
-    Own,
     // so many names of each kind are there
     Counts([usize; 5]),
 }
@@ -203,20 +202,10 @@ fn add_protos<'a>(needed: &mut Needed<'a>, arena: &'a Bump, order: &[usize]) -> 
 
 /// What LA; defines: LA;->g:J, LA;->m(J)V, LA;->f:I and LA;->m()V.
 fn add_members<'a>(needed: &mut Needed<'a>, arena: &'a Bump) -> Result<(), Fault> {
-    add_own_field(needed, arena, "g", "J")?;
-    add_own_method(needed, arena, &["J"])?;
-    add_own_field(needed, arena, "f", "I")?;
-    add_own_method(needed, arena, &[])
-}
-
-/// A field that LA; defines.
-fn add_own_field<'a>(
-    needed: &mut Needed<'a>,
-    arena: &'a Bump,
-    name: &str,
-    kind: &str,
-) -> Result<(), Fault> {
-    needed.add_fields_of(A, &[own_field(arena, name, kind)?])
+    needed.add_field(field(arena, "LA;", "g", "J")?)?;
+    needed.add_method(arena, method(arena, "LA;", "m", "V", &["J"])?)?;
+    needed.add_field(field(arena, "LA;", "f", "I")?)?;
+    needed.add_method(arena, method(arena, "LA;", "m", "V", &[])?)
 }
 
 fn own_field<'a>(arena: &'a Bump, name: &str, kind: &str) -> Result<Member<'a>, Fault> {
@@ -225,21 +214,6 @@ fn own_field<'a>(arena: &'a Bump, name: &str, kind: &str) -> Result<Member<'a>, 
         ty: ty(arena, kind)?,
         flags: 0,
     })
-}
-
-/// A method `m` that LA; defines.
-fn add_own_method<'a>(
-    needed: &mut Needed<'a>,
-    arena: &'a Bump,
-    params: &[&'static str],
-) -> Result<(), Fault> {
-    let own = Method {
-        name: text(arena, "m")?,
-        proto: proto(arena, "V", params)?,
-        flags: 0x401,
-        code: None,
-    };
-    needed.add_methods_of(arena, A, &[own])
 }
 
 fn is_answered<'a>(
@@ -254,7 +228,6 @@ fn is_answered<'a>(
         Asked::RankOfName(said, want) => Ok(rank_of_name(arena, ranks, said)? == want),
         Asked::Prototypes => are_protos_ranked(arena, ranks),
         Asked::Parts => Ok(are_parts_beside(ranks)),
-        Asked::Own => are_own_members_found(arena, ranks),
         Asked::Counts(counts) => Ok(are_so_many(ranks, counts)),
     }
 }
@@ -316,18 +289,6 @@ fn are_parts_beside(ranks: &Ranks<'_>) -> bool {
         && matches!(ranks.type_parts(), [_, _, class, _] if class.text == 2)
 }
 
-fn are_own_members_found<'a>(arena: &'a Bump, ranks: &Ranks<'a>) -> Result<bool, Fault> {
-    let owner = ty(arena, "LA;")?;
-    let Some(class) = ranks.index_of_type(owner) else {
-        return Ok(false);
-    };
-    let (g, m) = (text(arena, "g")?, text(arena, "m")?);
-    let field = ranks.index_of_own_field(class as usize, g, ty(arena, "J")?);
-    let none = ranks.index_of_own_field(class as usize, g, ty(arena, "I")?);
-    let method = ranks.index_of_own_method(class as usize, m, proto(arena, "V", &["J"])?);
-    Ok([field, none, method] == [Some(1), None, Some(1)])
-}
-
 fn are_shown_so(alloc: Global, ranks: &Ranks<'_>, want: &str) -> Result<bool, Fault> {
     let shown = shown_ranks(alloc, ranks)?;
     Ok(shown.as_str() == want)
@@ -380,7 +341,7 @@ fn names_added_in_any_order_rank_with_what_they_need(rt: HostRuntime) -> Result<
 #[rattlefmt::skip]
 #[test]
 fn names_of_each_kind_and_members_of_a_class_are_found_by_their_ranks(rt: HostRuntime) -> Result<(), Fail> {
-    static CASES: [Ranked; 24] = [
+    static CASES: [Ranked; 23] = [
         // Equal names of two arenas are one name of each kind.
         Ranked(
             "each twice", Added::Each,
@@ -410,13 +371,12 @@ fn names_of_each_kind_and_members_of_a_class_are_found_by_their_ranks(rt: HostRu
             "names", Added::Names,
             Asked::Shown("strings: I J LA; V VJ [I f m x \ntypes: I J LA; V [I \nprotos: (J)V \nfields: LA;->f:I \nmethods: LA;->m(J)V "),
         ),
-        // The members of a class are found by the ranks of their parts.
+        // Beside the members of a class stand the ranks of their parts.
         Ranked(
             "members", Added::Members,
             Asked::Shown("strings: I J LA; V VJ f g m \ntypes: I J LA; V \nprotos: ()V (J)V \nfields: LA;->f:I LA;->g:J \nmethods: LA;->m()V LA;->m(J)V "),
         ),
         Ranked("their parts", Added::Members, Asked::Parts),
-        Ranked("a member of each kind", Added::Members, Asked::Own),
     ];
     all_hold(rt.alloc(), &CASES)
 }

@@ -5,7 +5,7 @@ use bumpalo::Bump;
 use dex_base::{Fault, fault};
 use dex_samples::types::{A, B, INT, INTS, VOID};
 use dex_samples::{Case, all_hold};
-use program_rules::{well_formed, well_formed_in, well_formed_named_in};
+use program_rules::{well_formed, well_formed_in};
 use program_types::{
     Catch, Class, Code, Desc, Insn, Member, Method, Name, Program, Proto, Str, Try, Value,
 };
@@ -49,9 +49,7 @@ fn answers_so(answer: Result<(), Fault>, case: &Ruled) -> bool {
 /// Without memory and by hash.
 fn is_ruled_so<'a>(alloc: Global, classes: &'a [Class<'a>], case: &Ruled) -> bool {
     let program = Program { classes };
-    answers_so(well_formed(&program), case)
-        && answers_so(well_formed_in(alloc, &program), case)
-        && answers_so(well_formed_named_in(alloc, &program, false), case)
+    answers_so(well_formed(&program), case) && answers_so(well_formed_in(alloc, &program), case)
 }
 
 fn is_body_ruled_so(alloc: Global, code: &Code<'_>, case: &Ruled) -> Result<bool, Fault> {

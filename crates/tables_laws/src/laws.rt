@@ -11,6 +11,7 @@ ghost use Rattle.tables_rows.specs.Sorted.{TablesHold};
 ghost use Rattle.tables_laws.specs.FileNames.{TablesHaveNames, NamesRise, NamesAreClosed, FilesHoldNeeded, FilesAreNoShorter, NeededHasRows};
 
 /// Where the tables hold, each row denotes a name.
+#[tactic(auto, using(crate::proofs::FileLemmas::tables_have_names))]
 pub fn tables_have_names()
     ensures { TablesHaveNames }
 {}
@@ -21,6 +22,7 @@ pub fn names_rise()
 {}
 
 /// With each name in a file's tables its parts are there too.
+#[tactic(auto, using(crate::proofs::FileLemmas::names_are_closed))]
 pub fn names_are_closed()
     ensures { NamesAreClosed }
 {}
@@ -37,6 +39,7 @@ pub fn files_are_no_shorter()
 {}
 
 /// A file that has a row for each name that a program mentions has one for each name that the program needs.
+#[tactic(auto, using(crate::proofs::FileLemmas::needed_has_rows))]
 pub fn needed_has_rows()
     ensures { NeededHasRows }
 {}
@@ -57,6 +60,7 @@ pub fn row_of_a_name_is_one()
 {}
 
 /// A union holds what one of the two sets holds.
+#[tactic(auto, using(crate::proofs::FileLemmas::union_members))]
 pub fn unions_hold_both()
     ensures { (ks js : List Key) (k : Key) → is_member (add_all ks js) k ≡ true ↔ ((is_member ks k ≡ true) ⊎ (is_member js k ≡ true)) }
 {}

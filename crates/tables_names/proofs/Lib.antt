@@ -9,7 +9,6 @@ pub mod NeededLemmas
 pub mod IndexLemmas
 pub mod ShortyLemmas
 pub mod SortingLemmas
-pub mod OwnLemmas
 pub mod NumberLemmas
 pub mod NumberedNamesLemmas
 pub mod NotedLemmas

@@ -8,7 +8,7 @@ use Rattle.program_types.specs.Content.{Name, OfText, OfDesc, OfField, OfMethod}
 use Rattle.program_types.specs.Key.{Key, key_cmp, text_key, field_ref_key, method_ref_key, proto_key}
 use Rattle.program_types.specs.KeyLaws.{key_cmp-total, key_cmp-same}
 use Rattle.tables_names.specs.Rank.{Rising, is_member, IsSubset}
-use Rattle.tables_names.specs.Closure.{Five, nothing, shorty_of_texts, join, with_name, with_names, with_parts, closure_of, Holds, IsPart, IsClosed, AddsPart, AreRising, string_closure, type_closure, proto_closure, field_closure, method_closure}
+use Rattle.tables_names.specs.Closure.{Five, nothing, shorty_of_texts, join, with_name, with_names, closure_of, Holds, IsPart, IsClosed, AreRising, string_closure, type_closure, proto_closure, field_closure, method_closure}
 use Rattle.program_types.specs.Mentions.{mentions}
 use Rattle.tables_names.specs.Needed.{needed, NeededIsLeast, LeastIsNeeded}
 use Rattle.tables_names.proofs.SubsetLemmas as sub
@@ -233,10 +233,6 @@ pub names_append : (s : Five) (xs ys : List Name) → with_names s (xs ++ ys) �
 names_append s [] ys = refl
 names_append s (x ∷ xs) ys = names_append (with_name s x) xs ys
 
--- the next name
-pub next_name : (s l new : Five) (front : List Name) (x : Name) → l ≡ with_names s front → new ≡ with_name l x → new ≡ with_names s (front ++ x ∷ [])
-next_name s l new front x so_far added = added ∙ ap (λ q. with_name q x) so_far ∙ sym (names_append s front (x ∷ []))
-
 -- what is part of the next adds nothing before it
 pub absorbed : (s t u : Five) → AreRising s → IsPart t u → join (join s t) u ≡ join s u
 absorbed s t u up part =
@@ -244,27 +240,6 @@ absorbed s t u up part =
     same_parts (join left u) (join s u) (rising_join left u (rising_join s t up)) (rising_join s u up)
     (IsPart-join left u (join s u) (join_grows s t u part) (IsPart-right s u))
     (IsPart-join s u (join left u) (IsPart-trans s left (join left u) (IsPart-left s t) (IsPart-left left u)) (IsPart-right left u))
-
-parts_within : (s : Five) (x : Name) → IsPart (with_parts s x) (with_name s x)
-unfolding with_name with_parts
-parts_within s (OfText t) = IsPart-left s (closure_of (OfText t))
-parts_within s (OfDesc t) = join_grows s (record (type_closure (text_key t)) { types = [] }) (type_closure (text_key t)) (record { strings = sub.IsSubset-refl _; types = sub.IsSubset-nil _; protos = sub.IsSubset-refl _; fields = sub.IsSubset-refl _; methods = sub.IsSubset-refl _ })
-parts_within s (OfField f) =
-    let all = field_closure (field_ref_key f) in
-    join_grows s (record all { fields = [] }) all (record { strings = sub.IsSubset-refl all.strings; types = sub.IsSubset-refl all.types; protos = sub.IsSubset-refl _; fields = sub.IsSubset-nil _; methods = sub.IsSubset-refl _ })
-parts_within s (OfMethod m) =
-    let all = method_closure (method_ref_key m) in
-    join_grows s (record all { methods = [] }) all (record { strings = sub.IsSubset-refl all.strings; types = sub.IsSubset-refl all.types; protos = sub.IsSubset-refl all.protos; fields = sub.IsSubset-refl _; methods = sub.IsSubset-nil _ })
-
--- names were added, and then what a refusal of the next left
-pub next_refused : (s l new : Five) (all front : List Name) (x : Name) (rest : List Name) → all ≡ front ++ x ∷ rest → l ≡ with_names s front → AddsPart l new (with_parts l x) → AddsPart s new (with_names s all)
-next_refused s l new all front x rest split so_far left =
-    let keeps : IsPart s l = rw so_far (with_names-grows s front) in
-    let whole : with_names s all ≡ with_names (with_name l x) rest = ap (with_names s) split ∙ names_append s front (x ∷ rest) ∙ ap (λ q. with_names (with_name q x) rest) (sym so_far) in
-    record {
-      keeps = IsPart-trans s l new keeps left.keeps;
-      adds = rw whole (IsPart-trans new (with_parts l x) (with_names (with_name l x) rest) left.adds (IsPart-trans (with_parts l x) (with_name l x) (with_names (with_name l x) rest) (parts_within l x) (with_names-grows (with_name l x) rest)));
-    }
 
 -- ---- the members of a class
 

@@ -6,7 +6,7 @@ use Rattle.program_types.specs.Content.{Descriptor, Name, OfText, OfDesc, OfFiel
 use Rattle.program_types.specs.Key.{text_key, proto_key, field_ref_key, method_ref_key}
 use Rattle.tables_names.specs.Closure.{Five, AddsPart, IsPart, NameRanks, closure_of, parts_of, with_name, with_names, with_parts}
 use Rattle.tables_names.specs.Numbers.{AllGrow, sets}
-use Rattle.tables_names.specs.Noted.{AddsNoted, AreNoted, Continues, Notes, NumberIs, LeadsTo, AreRanks, rank_by}
+use Rattle.tables_names.specs.Noted.{AddsNoted, AreNoted, Continues, Notes, NumberIs, HasRanks, AreRanks, rank_by}
 use Rattle.tables_names.specs.declared.noted.Number.{Number}
 use Rattle.tables_names.specs.declared.noted.Number.TheVariants.{Text, Desc, Field, Method}
 use Rattle.tables_names.specs.declared.noted.RankOf.{RankOf}
@@ -59,7 +59,7 @@ pub noted_more : (old new : Five) (names : List Name) (numbers pushed : List Num
 noted_more old new names numbers pushed name n g so_far here is =
     rw is (zip_more (NumberIs new) names numbers name n (noted_still old new names numbers g so_far) here)
 
-module _ (s t : Five) (rank_of : RankOf) (leads : LeadsTo s t rank_of) where
+module _ (s t : Five) (rank_of : RankOf) (leads : HasRanks s t rank_of) where
   number_leads : (name : Name) (n : Number) → NumberIs s name n → NameRanks t (rank_by rank_of n) name
   number_leads (OfText x) (Text n) at = (rank_there s.strings t.strings rank_of.strings.items n (text_key x) leads.strings at).1
   number_leads (OfText x) (Desc n) at = absurd at

@@ -43,10 +43,6 @@ module _ (o : Order) (is : InOrderOfNeed o) (k : Key) where
   pub method_is_there : is_member o.names.methods k ≡ true → sets o.names ≡ join (sets o.names) (method_closure k)
   method_is_there h = part_adds_nothing (sets o.names) (method_closure k) (sets_rise o.names) (is.closed.of_methods k (held o.names.methods h))
 
--- so does a class that has a number
-pub class_is_held : (o now : Order) → o ≡ now → InOrderOfNeed o → (k : Key) (n : ℕ) → IsAt now.names.types n k → sets now.names ≡ join (sets now.names) (type_closure k)
-class_is_held o now same is k n at = type_is_there now (subst InOrderOfNeed same is) k n at
-
 -- a name after its parts is added with all of them
 module _ (S : Five) (o : Order) where
   module _ (k : Key) where

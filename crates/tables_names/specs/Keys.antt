@@ -1,7 +1,5 @@
 -- The key of each kind of name in memory: its texts, in the order in which they sort the table.
 -- Page: "Dalvik Executable format", "File layout": the orders of string_ids to method_ids.
-use Rattle.program_types.specs.Content as content
-use Rattle.program_types.specs.Content.{Units}
 use Rattle.program_types.specs.Key.{Key, text_key, proto_key, field_ref_key, method_ref_key}
 use Rattle.program_types.specs.View.{str, desc, proto, field_ref, method_ref}
 use Rattle.program_types.specs.declared.names.Str.{Str}
@@ -29,11 +27,3 @@ key_of_field f = field_ref_key (field_ref f)
 -- class, name, prototype
 abbrev pub key_of_method : MethodRef → Key
 key_of_method m = method_ref_key (method_ref m)
-
--- the field that a class has under a name and a type
-abbrev pub own_field : Units → Units → Units → Key
-own_field class name ty = field_ref_key (record { class = class; name = name; ty = ty })
-
--- the method that a class has under a name and a prototype
-abbrev pub own_method : Units → Units → content.Proto → Key
-own_method class name proto = method_ref_key (record { class = class; name = name; proto = proto })

@@ -50,7 +50,7 @@ abbrev pub AreRanks : Five → List Name → List ℕ → Type 0
 AreRanks s names ranks = AllZip (λ name i. NameRanks s i name) names ranks
 
 -- of each name of lists in the order of first need, by its number, its rank among sorted ones
-pub record LeadsTo (names sorted : Five) (rank_of : RankOf) : Type 0 where
+pub record HasRanks (names sorted : Five) (rank_of : RankOf) : Type 0 where
   pub strings : RanksOf names.strings sorted.strings rank_of.strings.items
   pub types : RanksOf names.types sorted.types rank_of.types.items
   pub fields : RanksOf names.fields sorted.fields rank_of.fields.items

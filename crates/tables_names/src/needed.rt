@@ -1,14 +1,12 @@
 //! The names that a program needs, of all five kinds, each with its parts ("Dalvik Executable format": the indices in
 //! type_id_item, proto_id_item, field_id_item and method_id_item).
-ghost use Rattle.std.specs.Prelude.{◌≡◌, ◌∷◌, [], OnOk, OnErr, IfOk, IsOkUnless, All, map};
-ghost use Rattle.std.specs.List.{AllByRecursion};
+ghost use Rattle.std.specs.Prelude.{◌≡◌, [], OnOk, OnErr, IfOk, IsOkUnless, All, map};
 ghost use Rattle.dex_base.specs.Fault.{memory};
 ghost use Rattle.dex_base.specs.Descriptor.{IsDescriptor};
 ghost use Rattle.program_types.specs.Content.{OfText, OfDesc, OfField, OfMethod};
-ghost use Rattle.program_types.specs.Mentions.{field_of_class};
-ghost use Rattle.program_types.specs.View.{str, desc, proto, field_ref, method_ref, member, method};
+ghost use Rattle.program_types.specs.View.{str, desc, proto, field_ref, method_ref, method};
 ghost use Rattle.program_types.specs.View as view;
-ghost use Rattle.tables_names.specs.Closure.{nothing, with_name, with_names, with_proto, with_parts, with_proto_parts, method_of_class, AddsPart, AreRising, IsClosed, HasShorty};
+ghost use Rattle.tables_names.specs.Closure.{nothing, with_name, with_proto, with_parts, with_proto_parts, AddsPart, AreRising, IsClosed, HasShorty};
 ghost use Rattle.tables_names.specs.Numbers.{sets};
 
 use crate::noted::Noted;
@@ -16,7 +14,7 @@ use crate::numbered::NumberedNames;
 use crate::ranks::Ranks;
 use bumpalo::Bump;
 use dex_base::{Fault, Seed};
-use program_types::{Desc, FieldRef, Member, Method, MethodRef, Name, Proto, Str};
+use program_types::{Desc, FieldRef, Method, MethodRef, Name, Proto, Str};
 use std::alloc::Global;
 use std::marker::Model;
 
@@ -193,64 +191,6 @@ impl<'a> Needed<'a> {
     {
         self.numbered.add_field(name)?;
         Ok(())
-    }
-
-    /// Adds a class and the fields that it defines, each with its parts. The class's name is looked up once. After a refusal
-    /// some of these names may have come, and parts of the next.
-    ///
-    /// ```
-    /// use dex_program::{Desc, Member, Str};
-    /// use dex_tables::Needed;
-    ///
-    /// let int = Desc { text: Str { units: &[0x49] } }; // I
-    /// let class = Desc { text: Str { units: &[0x4c, 0x41, 0x3b] } };
-    /// let field = Member { name: Str { units: &[0x6e] }, ty: int, flags: 0 };
-    /// let mut needed = Needed::new(alloc);
-    /// needed.add_fields_of(class, &[field])?; // LA;->n:I
-    /// assert!(rt; needed.freeze()?.field(0).is_some());
-    /// ```
-    pub fn add_fields_of<'p: 'a>(
-        &mut self,
-        class: Desc<'a>,
-        fields: &[Member<'p>],
-    ) -> Result<(), Fault>
-        ensures added { OnOk result (self.new ≡ with_names self.old (OfDesc (desc class.entry) ∷ map (field_of_class (desc class.entry)) (map member fields.now))) }
-        ensures partly { OnErr result (AddsPart self.old self.new (with_names self.old (OfDesc (desc class.entry) ∷ map (field_of_class (desc class.entry)) (map member fields.now)))) }
-        ensures memory { IsOkUnless result memory }
-    {
-        self.numbered.add_fields_of(class, fields)?;
-        Ok(())
-    }
-
-    /// Adds a class and the methods that it defines, each with its parts, but nothing of their code. The arena holds the
-    /// shorties. The class's name is looked up once, and after a refusal some of these names may have come.
-    ///
-    /// ```
-    /// use bumpalo::Bump;
-    /// use dex_program::{Desc, Method, Proto, Str};
-    /// use dex_tables::Needed;
-    ///
-    /// let arena = Bump::new(alloc);
-    /// let int = Desc { text: Str { units: &[0x49] } }; // I
-    /// let class = Desc { text: Str { units: &[0x4c, 0x41, 0x3b] } };
-    /// let proto = Proto { ret: int, params: &[] };
-    /// let method = Method { name: Str { units: &[0x6d] }, proto: &proto, flags: 0x401, code: None };
-    /// let mut needed = Needed::new(alloc);
-    /// needed.add_methods_of(&arena, class, &[method])?; // LA;->m()I
-    /// assert!(rt; needed.freeze()?.method(0).is_some());
-    /// ```
-    pub fn add_methods_of<'p: 'a>(
-        &mut self,
-        arena: &'a Bump,
-        class: Desc<'a>,
-        methods: &[Method<'p>],
-    ) -> Result<(), Fault>
-        requires { AllByRecursion HasShorty (map (method_of_class (desc class)) (map method methods.now)) }
-        ensures added { OnOk result (self.new ≡ with_names self.old (OfDesc (desc class.entry) ∷ map (method_of_class (desc class.entry)) (map method methods.now))) }
-        ensures partly { OnErr result (AddsPart self.old self.new (with_names self.old (OfDesc (desc class.entry) ∷ map (method_of_class (desc class.entry)) (map method methods.now)))) }
-        ensures memory { IsOkUnless result memory }
-    {
-        self.numbered.add_methods_of(arena, class, methods)
     }
 
     /// Adds what an instruction or a value names, with its parts. The arena holds a method's shorty.

@@ -2,18 +2,17 @@
 //!
 //! A name is added after its parts, so their numbers are at hand then, and no part is looked up again to sort a kind or to
 //! write its rows.
-ghost use Rattle.std.specs.Prelude.{◌≡◌, ◌∷◌, OnOk, OnErr, IfOk, IsOkUnless, All, map};
-ghost use Rattle.std.specs.List.{AllByRecursion, AllZip};
+ghost use Rattle.std.specs.Prelude.{◌≡◌, OnOk, OnErr, IfOk, IsOkUnless, All, map, false};
+ghost use Rattle.std.specs.List.{AllZip};
 ghost use Rattle.dex_base.specs.Fault.{memory};
 ghost use Rattle.dex_base.specs.Descriptor.{IsDescriptor};
 ghost use Rattle.program_types.specs.Content.{OfText, OfDesc, OfField, OfMethod};
-ghost use Rattle.program_types.specs.Mentions.{field_of_class};
-ghost use Rattle.program_types.specs.View.{str, desc, proto, field_ref, method_ref, member, method};
+ghost use Rattle.program_types.specs.View.{str, desc, proto, field_ref, method_ref, method};
 ghost use Rattle.program_types.specs.View as view;
 ghost use Rattle.tables_names.specs.Keys.{key_of_str, key_of_desc, key_of_proto, key_of_field, key_of_method};
-ghost use Rattle.tables_names.specs.Rank.{IsAt};
-ghost use Rattle.tables_names.specs.Closure.{nothing, with_name, with_names, with_proto, with_parts, with_proto_parts, method_of_class, AddsPart, HasShorty};
-ghost use Rattle.tables_names.specs.Noted.{NumberIs, LeadsTo};
+ghost use Rattle.tables_names.specs.Rank.{is_member, IsAt};
+ghost use Rattle.tables_names.specs.Closure.{nothing, with_name, with_proto, with_parts, with_proto_parts, AddsPart, HasShorty};
+ghost use Rattle.tables_names.specs.Noted.{NumberIs, HasRanks};
 ghost use Rattle.tables_names.specs.Numbers.{sets, set_of, AllGrow, InOrderOfNeed, RanksOf, TypeAt, ProtoAt, FieldAt, MethodAt, FieldLeads, MethodLeads};
 
 use crate::name_set::{NameSet, NamesWithParts};
@@ -23,7 +22,7 @@ use crate::ranks::Ranks;
 use crate::sorting::{Members, Parts, sorted_by, sorted_strings};
 use bumpalo::Bump;
 use dex_base::{Fault, Seed};
-use program_types::{Desc, FieldRef, Member, Method, MethodRef, Name, Proto, Str, shorty_of};
+use program_types::{Desc, FieldRef, Method, MethodRef, Name, Proto, Str, shorty_of};
 use std::alloc::{AllocError, Global};
 use std::marker::Model;
 
@@ -172,7 +171,7 @@ impl<'a> NumberedNames<'a> {
             return Ok(number);
         }
         let class = self.add_type(name.class)?;
-        self.add_method_in(arena, class, name)
+        self.put_method(arena, class, name)
     }
 
     /// Adds a field, its class, its name and its type.
@@ -186,7 +185,7 @@ impl<'a> NumberedNames<'a> {
             return Ok(number);
         }
         let class = self.add_type(name.class)?;
-        self.add_field_in(class, name)
+        self.put_field(class, name)
     }
 
     /// Adds a field of the class with this number, its name and its type.
@@ -204,6 +203,19 @@ impl<'a> NumberedNames<'a> {
         if let Some(number) = self.fields.names.number_of(name) {
             return Ok(number);
         }
+        self.put_field(class, name)
+    }
+
+    /// Adds a field that isn't held yet, so that it isn't looked up once more.
+    fn put_field(&mut self, class: usize, name: &FieldRef<'a>) -> Result<usize, AllocError>
+        requires class { IsAt self.old.names.types class (key_of_desc name.now.class) }
+        requires absent { is_member self.old.names.fields (key_of_field name.now) ≡ false }
+        ensures added { OnOk result (sets self.new.names ≡ with_name (sets self.old.names) (OfField (field_ref name.now))) }
+        ensures number { IfOk result (λ n. IsAt self.new.names.fields n (key_of_field name.now)) }
+        ensures grows { AllGrow self.old.names self.new.names }
+        ensures partly { OnErr result (AddsPart (sets self.old.names) (sets self.new.names) (with_parts (sets self.old.names) (OfField (field_ref name.now)))) }
+    {
+        self.has_parts();
         let text = self.add_string(name.name)?;
         let ty = self.add_type(name.ty)?;
         let parts = FieldParts {
@@ -234,6 +246,27 @@ impl<'a> NumberedNames<'a> {
         if let Some(number) = self.methods.names.number_of(name) {
             return Ok(number);
         }
+        self.put_method(arena, class, name)
+    }
+
+    /// Adds a method that isn't held yet, so that it isn't looked up once more.
+    fn put_method(
+        &mut self,
+        arena: &'a Bump,
+        class: usize,
+        name: &MethodRef<'a>,
+    ) -> Result<usize, Fault>
+        requires class { IsAt self.old.names.types class (key_of_desc name.now.class) }
+        requires ret { IsDescriptor (desc name.now.proto.now.ret) }
+        requires params { All IsDescriptor (map desc name.now.proto.now.params.now) }
+        requires absent { is_member self.old.names.methods (key_of_method name.now) ≡ false }
+        ensures added { OnOk result (sets self.new.names ≡ with_name (sets self.old.names) (OfMethod (method_ref name.now))) }
+        ensures number { IfOk result (λ n. IsAt self.new.names.methods n (key_of_method name.now)) }
+        ensures grows { AllGrow self.old.names self.new.names }
+        ensures partly { OnErr result (AddsPart (sets self.old.names) (sets self.new.names) (with_parts (sets self.old.names) (OfMethod (method_ref name.now)))) }
+        ensures memory { IsOkUnless result memory }
+    {
+        self.has_parts();
         let text = self.add_string(name.name)?;
         let proto = self.add_proto(arena, name.proto)?;
         let parts = MethodParts {
@@ -262,55 +295,10 @@ impl<'a> NumberedNames<'a> {
         }
     }
 
-    /// Adds a class and the fields that it defines. The class is looked up once.
-    pub(crate) fn add_fields_of<'p: 'a>(
-        &mut self,
-        class: Desc<'a>,
-        fields: &[Member<'p>],
-    ) -> Result<(), AllocError>
-        ensures added { OnOk result (sets self.new.names ≡ with_names (sets self.old.names) (OfDesc (desc class.entry) ∷ map (field_of_class (desc class.entry)) (map member fields.now))) }
-        ensures partly { OnErr result (AddsPart (sets self.old.names) (sets self.new.names) (with_names (sets self.old.names) (OfDesc (desc class.entry) ∷ map (field_of_class (desc class.entry)) (map member fields.now)))) }
-    {
-        let number = self.add_type(class)?;
-        for field in fields {
-            let name = FieldRef {
-                class,
-                name: field.name,
-                ty: field.ty,
-            };
-            self.add_field_in(number, &name)?;
-        }
-        Ok(())
-    }
-
-    /// Adds a class and the methods that it defines. The arena holds the shorties.
-    pub(crate) fn add_methods_of<'p: 'a>(
-        &mut self,
-        arena: &'a Bump,
-        class: Desc<'a>,
-        methods: &[Method<'p>],
-    ) -> Result<(), Fault>
-        requires { AllByRecursion HasShorty (map (method_of_class (desc class)) (map method methods.now)) }
-        ensures added { OnOk result (sets self.new.names ≡ with_names (sets self.old.names) (OfDesc (desc class.entry) ∷ map (method_of_class (desc class.entry)) (map method methods.now))) }
-        ensures partly { OnErr result (AddsPart (sets self.old.names) (sets self.new.names) (with_names (sets self.old.names) (OfDesc (desc class.entry) ∷ map (method_of_class (desc class.entry)) (map method methods.now)))) }
-        ensures memory { IsOkUnless result memory }
-    {
-        let number = self.add_type(class)?;
-        for one in methods {
-            let name = MethodRef {
-                class,
-                name: one.name,
-                proto: one.proto,
-            };
-            self.add_method_in(arena, number, &name)?;
-        }
-        Ok(())
-    }
-
     /// The names with their ranks, and of each name, by its number, the rank. Fails only when out of memory.
     pub(crate) fn freeze(self) -> Result<(Ranks<'a>, RankOf), AllocError>
         ensures same { IfOk result (λ r. r.0 ≡ sets self.entry.names) }
-        ensures ranks { IfOk result (λ r. LeadsTo self.entry.names r.0 r.1) }
+        ensures ranks { IfOk result (λ r. HasRanks self.entry.names r.0 r.1) }
     {
         let NumberedNames {
             alloc,

@@ -2,12 +2,11 @@
 //! names ("Dalvik Executable format": string_ids, type_ids, proto_ids, field_ids and method_ids).
 ghost use Rattle.std.specs.Prelude.{◌≡◌, ◌<◌, ◌^◌, ℕ, IfSome, IfNone, map, option_map, slice_get};
 ghost use Rattle.std.specs.List.{AllZip};
-ghost use Rattle.program_types.specs.Content.{Units};
 ghost use Rattle.program_types.specs.Key.{text_key};
 ghost use Rattle.program_types.specs.Shorty.{shorty};
 ghost use Rattle.program_types.specs.View as view;
 ghost use Rattle.program_types.specs.View.{proto};
-ghost use Rattle.tables_names.specs.Keys.{key_of_str, key_of_desc, key_of_proto, key_of_field, key_of_method, own_field, own_method};
+ghost use Rattle.tables_names.specs.Keys.{key_of_str, key_of_desc, key_of_proto, key_of_field, key_of_method};
 ghost use Rattle.tables_names.specs.Rank.{LookUpAnswers, IsAt};
 ghost use Rattle.tables_names.specs.Closure.{IsClosed, AreRising, NameRanks};
 ghost use Rattle.tables_names.specs.Numbers.{IsTables, TypeAt, ProtoAt, FieldAt, MethodAt};
@@ -246,69 +245,6 @@ impl<'a> Ranks<'a> {
         ensures none { IfNone result ((i : ℕ) → i < 2 ^ 32 → ¬ IsAt self.now.methods i (key_of_method name.now)) }
     {
         self.methods.names.index_of(*name)
-    }
-
-    /// The rank of the field of this name and type that the class with this rank has. The class's text isn't read.
-    ///
-    /// ```
-    /// use dex_program::{Desc, FieldRef, Str};
-    /// use dex_tables::Needed;
-    ///
-    /// let int = Desc { text: Str { units: &[0x49] } }; // I
-    /// let class = Desc { text: Str { units: &[0x4c, 0x41, 0x3b] } };
-    /// let name = Str { units: &[0x6e] };
-    /// let mut needed = Needed::new(alloc);
-    /// needed.add_field(&FieldRef { class, name, ty: int })?; // LA;->n:I
-    /// assert_eq!(rt; needed.freeze()?.index_of_own_field(1, name, int), Some(0)); // I, LA;
-    /// ```
-    pub fn index_of_own_field(&self, class: usize, name: Str<'a>, ty: Desc<'a>) -> Option<u32>
-        ghost owner: { Units }
-        requires { IsAt self.now.types class (text_key owner) }
-        ensures rank { LookUpAnswers self.now.fields (own_field owner (view.str name.entry) (view.desc ty.entry)) result }
-        ensures some { IfSome result (λ i. IsAt self.now.fields i (own_field owner (view.str name.entry) (view.desc ty.entry))) }
-        ensures none { IfNone result ((i : ℕ) → i < 2 ^ 32 → ¬ IsAt self.now.fields i (own_field owner (view.str name.entry) (view.desc ty.entry))) }
-    {
-        self.rise();
-        let name = self.strings.rank_of(&name)?;
-        let ty = self.types.names.rank_of(&ty)?;
-        let own = FieldParts { class, name, ty };
-        match self.fields.parts.binary_search(&own) {
-            Ok(at) => u32::try_from(at).ok(),
-            Err(_) => None,
-        }
-    }
-
-    /// The rank of the method of this name and prototype that the class with this rank has. The class's text isn't read.
-    ///
-    /// ```
-    /// use bumpalo::Bump;
-    /// use dex_program::{Desc, MethodRef, Proto, Str};
-    /// use dex_tables::Needed;
-    ///
-    /// let arena = Bump::new(alloc);
-    /// let int = Desc { text: Str { units: &[0x49] } }; // I
-    /// let proto = Proto { ret: int, params: &[] };
-    /// let class = Desc { text: Str { units: &[0x4c, 0x41, 0x3b] } };
-    /// let name = Str { units: &[0x6d] };
-    /// let mut needed = Needed::new(alloc);
-    /// needed.add_method(&arena, &MethodRef { class, name, proto: &proto })?; // LA;->m()I
-    /// assert_eq!(rt; needed.freeze()?.index_of_own_method(1, name, &proto), Some(0)); // I, LA;
-    /// ```
-    pub fn index_of_own_method(&self, class: usize, name: Str<'a>, proto: &Proto<'a>) -> Option<u32>
-        ghost owner: { Units }
-        requires { IsAt self.now.types class (text_key owner) }
-        ensures rank { LookUpAnswers self.now.methods (own_method owner (view.str name.entry) (view.proto proto.now)) result }
-        ensures some { IfSome result (λ i. IsAt self.now.methods i (own_method owner (view.str name.entry) (view.proto proto.now))) }
-        ensures none { IfNone result ((i : ℕ) → i < 2 ^ 32 → ¬ IsAt self.now.methods i (own_method owner (view.str name.entry) (view.proto proto.now))) }
-    {
-        self.rise();
-        let name = self.strings.rank_of(&name)?;
-        let proto = self.protos.names.rank_of(proto)?;
-        let own = MethodParts { class, name, proto };
-        match self.methods.parts.binary_search(&own) {
-            Ok(at) => u32::try_from(at).ok(),
-            Err(_) => None,
-        }
     }
 
     /// The string with this rank. None past the last; so with the other kinds.

@@ -17,7 +17,7 @@ use program_types::{Desc, FieldRef, MethodRef, Proto, Str};
 use std::alloc::{AllocError, Global};
 
 /// Numbers of the parts of a name, whose ranks `T` has.
-pub(crate) trait Numbers<T>: Copy + Ord {
+pub(crate) trait PartNumbers<T>: Copy + Ord {
     // these are the ranks of a name's parts
     ghost has: { T → Key → Self → Type 0 };
 
@@ -62,7 +62,7 @@ pub(crate) struct Parts<'a> {
     pub(crate) protos: Sorted<Proto<'a>, ProtoParts>,
 }
 
-impl<'a> Numbers<Texts<'a>> for TypeParts {
+impl<'a> PartNumbers<Texts<'a>> for TypeParts {
     ghost has = { λ t k p. TypeAt t.names k p };
 
     ghost within = { λ t p. p.text < length t.ranks.items };
@@ -77,7 +77,7 @@ impl<'a> Numbers<Texts<'a>> for TypeParts {
 }
 
 // Parameters are compared themselves, where return types tie.
-impl<'a> Numbers<Sorted<Desc<'a>, TypeParts>> for ProtoParts {
+impl<'a> PartNumbers<Sorted<Desc<'a>, TypeParts>> for ProtoParts {
     ghost has = { λ t k p. ProtoAt t.table.names k p };
 
     ghost within = { λ t p. p.ret < length t.ranks.items };
@@ -91,7 +91,7 @@ impl<'a> Numbers<Sorted<Desc<'a>, TypeParts>> for ProtoParts {
     }
 }
 
-impl<'a> Numbers<Parts<'a>> for FieldParts {
+impl<'a> PartNumbers<Parts<'a>> for FieldParts {
     ghost has = { λ t k p. FieldAt t.types.table.names t.strings.names k p };
 
     ghost within = { λ t p. FieldWithin t.types.ranks.items t.strings.ranks.items p };
@@ -107,7 +107,7 @@ impl<'a> Numbers<Parts<'a>> for FieldParts {
     }
 }
 
-impl<'a> Numbers<Parts<'a>> for MethodParts {
+impl<'a> PartNumbers<Parts<'a>> for MethodParts {
     ghost has = { λ t k p. MethodAt t.types.table.names t.strings.names t.protos.table.names k p };
 
     ghost within = { λ t p. MethodWithin t.types.ranks.items t.strings.ranks.items t.protos.ranks.items p };
@@ -124,7 +124,7 @@ impl<'a> Numbers<Parts<'a>> for MethodParts {
 }
 
 /// The names, each after the ranks of its parts and before its number.
-fn with_ranks<T, P: Numbers<T>, N: Row>(
+fn with_ranks<T, P: PartNumbers<T>, N: Row>(
     alloc: Global,
     names: &[N],
     parts: &[P],
@@ -144,7 +144,7 @@ fn with_ranks<T, P: Numbers<T>, N: Row>(
 
 /// The names of a kind, sorted by the ranks of their parts, and by themselves where these tie; each after these ranks and before
 /// its number.
-fn sorted_rows<T, P: Numbers<T>, N: Row>(
+fn sorted_rows<T, P: PartNumbers<T>, N: Row>(
     alloc: Global,
     made: &NamesWithParts<N, P>,
     sorted: &T,
@@ -253,7 +253,7 @@ pub(crate) fn sorted_strings<'a>(
 }
 
 /// A kind, sorted by the ranks of its parts.
-pub(crate) fn sorted_by<T, P: Numbers<T>, N: Row>(
+pub(crate) fn sorted_by<T, P: PartNumbers<T>, N: Row>(
     alloc: Global,
     made: NamesWithParts<N, P>,
     sorted: &T,

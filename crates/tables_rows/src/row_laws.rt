@@ -72,6 +72,7 @@ pub fn clear_rows_hold()
 {}
 
 /// The tables of a framed file hold, or a fault of tables stands.
+#[tactic(auto, using(crate::proofs::RowsBreak::tables_are_decided))]
 pub fn tables_are_decided()
     ensures { (b : List ℕ) → IsFramed b → TablesHold b ⊎ ((e : Fault) × IsTableFault b e) }
 {}

@@ -4,7 +4,7 @@ use crate::given::{Given, bytes_of};
 use crate::ran::{Input, Ran, Run, SOUND, Told, is_so};
 use dex_base::{Fault, fault};
 use dex_samples::{Case, all_hold};
-use dexasm_command::{Job, answer, answer_owned};
+use dexasm_command::{Job, answer};
 use std::alloc::Global;
 use std::test::Fail;
 
@@ -12,8 +12,7 @@ const ASSEMBLE: Job = Job::Assemble { align: false };
 
 const ALIGN: Job = Job::Assemble { align: true };
 
-/// A name for the case, the job, what is given, and what is answered: by a run, and by the calls that answer bytes, which
-/// are lent or given away.
+/// A name for the case, the job, what is given, and what is answered: by a run, and by the call that answers bytes.
 struct Answered(&'static str, Job, Given, Given);
 
 impl Case for Answered {
@@ -30,21 +29,12 @@ impl Case for Answered {
             SOUND,
             Told::Answered(self.3),
         );
-        Ok(
-            is_so(alloc, &run)?
-                && is_answered(alloc, self.1, given, want)?
-                && is_answered_owned(alloc, self.1, given, want)?,
-        )
+        Ok(is_so(alloc, &run)? && is_answered(alloc, self.1, given, want)?)
     }
 }
 
 fn is_answered(alloc: Global, job: Job, given: &[u8], want: &[u8]) -> Result<bool, Fault> {
     Ok(answer(alloc, job, given)?.as_slice() == want)
-}
-
-fn is_answered_owned(alloc: Global, job: Job, given: &[u8], want: &[u8]) -> Result<bool, Fault> {
-    let owned = Vec::from_slice(alloc, given)?;
-    Ok(answer_owned(alloc, job, owned)?.as_slice() == want)
 }
 
 #[rattlefmt::skip]

@@ -47,6 +47,5 @@ put_values-returns-in_err-put_value-clause-err t c =
 
 pub put_values-loop-one-preserved : goal.put_values-loop-one-preserved
 put_values-loop-one-preserved t c =
-    let is : get_or c.args.all.now c.loop-one.one-index c.one-item.result ≡ c.one-item.result = sym c.one-item.is in
     writing_next c.args.ranks.now c.args.out.now.items c.loop-one.out.items c.put_value.new.out.items c.args.all.now c.loop-one.one-index c.one-item.result c.loop-one-test.true c.loop-one.invariant
     (subst (λ (v : made.Value). Appends (Shortest (SpellsValue (NameRanks c.args.ranks.now))) c.loop-one.out.items c.put_value.new.out.items (value v)) c.one-item.is c.in_ok-put_value.ensures.ok)

@@ -1,40 +1,19 @@
 use Rattle.std.proofs.Common.{◌≡◌, ℕ, List, None, false, refl, true, subst, sym}
 use Rattle.dexasm_run.specs.Answers.{Answer}
-use Rattle.dexasm_command.specs.Carried.{Around}
+use Rattle.dexasm_command.specs.Carried.{around}
 use Rattle.dexasm_command.proofs.Handing.{all_known, goes_to, keeps_same, to_output, unanswered}
 use Rattle.dexasm_command.proofs.carrying.answer_given.Goals as goal
 
 pub returns : goal.returns
 returns g c =
-    let a : Around = record {
-      known = g.W.World.is_known;
-      files = g.W.World.files c.args.world.now;
-      left = None;
-      input_failed = false;
-      taken = g.O.Sink.contents c.args.output.now;
-      output_failed = g.O.Sink.failed c.args.output.now;
-    } in
+    let a = around g.W.World.is_known (g.W.World.files c.args.world.now) None false (g.O.Sink.contents c.args.output.now) (g.O.Sink.failed c.args.output.now) in
     unanswered c.args.job c.args.out c.args.given.items a a c.in-Err.fault c.in-Err.ensures refl (keeps_same _)
 
 pub returns-in-None : goal.returns-in-None
 returns-in-None g c =
     let given = c.args.given.items in
-    let a : Around = record {
-      known = g.W.World.is_known;
-      files = g.W.World.files c.args.world.now;
-      left = None;
-      input_failed = false;
-      taken = g.O.Sink.contents c.args.output.now;
-      output_failed = g.O.Sink.failed c.args.output.now;
-    } in
-    let b : Around = record {
-      known = g.W.World.is_known;
-      files = g.W.World.files c.args.world.now;
-      left = None;
-      input_failed = false;
-      taken = g.O.Sink.contents c.write_all.new.output;
-      output_failed = g.O.Sink.failed c.write_all.new.output;
-    } in
+    let a = around g.W.World.is_known (g.W.World.files c.args.world.now) None false (g.O.Sink.contents c.args.output.now) (g.O.Sink.failed c.args.output.now) in
+    let b = around g.W.World.is_known (g.W.World.files c.args.world.now) None false (g.O.Sink.contents c.write_all.new.output) (g.O.Sink.failed c.write_all.new.output) in
     let answered = subst (λ (l : List ℕ). Answer c.args.job given l) (sym c.as_slice.ensures.value) c.in-Ok.ensures in
     rw c.in-None.is (to_output c.args.job _ _ false a b given c.as_slice.result.now c.write_all.result (all_known given) answered refl c.write_all.ensures)
 

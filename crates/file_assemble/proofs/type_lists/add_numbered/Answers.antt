@@ -11,10 +11,8 @@ use Rattle.file_assemble.proofs.type_lists.add_numbered.Goals as goal
 pub add_list-requires-clause-held : goal.add_list-requires-clause-held
 add_list-requires-clause-held c =
     let qs = c.protos-protos.result.now in
-    let cs = c.args.program.now.classes.now in
     let s = c.args.ranks.now in
     let lt : c.args.number < length qs = omega arith in
-    let e = list_first s qs cs c.args.number no_proto c.protos-protos.ensures lt in
     params_held s (view.program c.args.program.now) qs c.args.number _ c.requires.needed c.protos-protos.ensures lt
 
 pub add_list-requires-clause-room : goal.add_list-requires-clause-room

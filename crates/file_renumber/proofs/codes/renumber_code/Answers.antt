@@ -44,7 +44,6 @@ lay_tries-requires-clause-tries c =
 
 pub put_items-requires-clause-rises : goal.put_items-requires-clause-rises
 put_items-requires-clause-rises c =
-    let y = c.item_at-item.ensures.spelled c.requires.carried.1 c.requires.carried.2.stands in
     subst Rises (sym c.deref.ensures.value) c.in_ok-starts.ensures.rises
 
 pub put_items-requires-clause-count : goal.put_items-requires-clause-count

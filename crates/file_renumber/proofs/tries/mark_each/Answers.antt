@@ -27,7 +27,6 @@ handler_of-k-requires-clause-rises c =
 pub handler_of-k-requires-clause-there : goal.handler_of-k-requires-clause-there
 handler_of-k-requires-clause-there c =
     let B = c.args.sections.now in
-    let N = NameStands B in
     let I = c.args.item.now in
     let x = c.requires.tries in
     let lt : c.loop-i.i < I.tries = c.loop-i-test.true in
@@ -70,8 +69,6 @@ mark_once-requires-clause-handler c =
 
 pub index-types-requires : goal.index-types-requires
 index-types-requires c =
-    let B = c.args.sections.now in
-    let N = NameStands B in
     let I = c.args.item.now in
     let x = c.requires.tries in
     let at = found_in I.items.now c.args.list.now.offsets.items _ c.loop-i.i _ c.handler_of-k.result c.deref.ensures.value c.from.ensures c.handler_of-k.ensures in
@@ -82,7 +79,6 @@ index-types-requires c =
 pub loop-i-preserved : goal.loop-i-preserved
 loop-i-preserved c =
     let B = c.args.sections.now in
-    let N = NameStands B in
     let I = c.args.item.now in
     let lt : c.loop-i.i < I.tries = c.loop-i-test.true in
     let at = found_in I.items.now c.args.list.now.offsets.items _ c.loop-i.i _ c.handler_of-k.result c.deref.ensures.value c.from.ensures c.handler_of-k.ensures in
@@ -102,7 +98,6 @@ loop-i-preserved c =
 pub returns-clause-marked : goal.returns-clause-marked
 returns-clause-marked c = λ x.
     let B = c.args.sections.now in
-    let N = NameStands B in
     let I = c.args.item.now in
     let ge = c.loop-i-test.false in
     (tries_end B x.all.starts I.size I.tries I.items.now I.list.now c.args.list.now.offsets.items c.args.list.now.catches.items x.all.tries c.requires.some x.all.read x.listed c.args.marks.now c.loop-i.marks c.loop-i.seen c.loop-i.catches c.loop-i.i ge (c.loop-i.invariant.marked x)).0
@@ -110,7 +105,6 @@ returns-clause-marked c = λ x.
 pub returns-clause-catches : goal.returns-clause-catches
 returns-clause-catches c = λ x.
     let B = c.args.sections.now in
-    let N = NameStands B in
     let I = c.args.item.now in
     let ge = c.loop-i-test.false in
     (tries_end B x.all.starts I.size I.tries I.items.now I.list.now c.args.list.now.offsets.items c.args.list.now.catches.items x.all.tries c.requires.some x.all.read x.listed c.args.marks.now c.loop-i.marks c.loop-i.seen c.loop-i.catches c.loop-i.i ge (c.loop-i.invariant.marked x)).1

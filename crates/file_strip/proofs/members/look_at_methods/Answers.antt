@@ -11,7 +11,7 @@ use Rattle.file_classes.specs.Reading.{method_entry}
 use Rattle.file_classes.specs.declared.class_data.MethodEntry.{MethodEntry}
 use Rattle.file_classes.proofs.MemberLaws.{next_index, there}
 use Rattle.file_strip.specs.Survey.{FindsNames}
-use Rattle.file_strip.specs.declared.survey.Found.{Found}
+use Rattle.file_strip.specs.declared.survey.Surveyed.{Surveyed}
 use Rattle.file_strip.proofs.FoundLaws.{finds_marked, finds_more, has_found_after, has_marks}
 use Rattle.file_strip.proofs.WalkLaws.{all_of_run, method_row, method_small, method_step, next_body, next_method, self_name}
 use Rattle.file_strip.proofs.members.look_at_methods.Goals as goal
@@ -70,7 +70,7 @@ loop-entry-preserved c =
     let own = c.requires.run.class in
     let f = method_step b es k d c.loop-entry-test.true c.loop-entry.index c.loop-entry.invariant.summed own c.requires.run.methods c.requires.run.spelled in
     let code = c.requires.run.codes k _ f.0 (there method_entry es k d c.loop-entry-test.true) f.1 in
-    let mid : Found = (record c.loop-entry.found { marks = c.mark.new.self }) in
+    let mid : Surveyed = (record c.loop-entry.found { marks = c.mark.new.self }) in
     record {
       summed = next_index method_entry es k d c.loop-entry-test.true c.loop-entry.index (get_or es k d).step c.loop-entry.invariant.summed refl;
       small = method_small b c.loop-entry.found.marks own _ _ f.0 (has_marks b c.loop-entry.found c.loop-entry.invariant.known) f.2;

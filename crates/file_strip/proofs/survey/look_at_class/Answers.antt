@@ -6,7 +6,7 @@ use Rattle.file_limits.specs.Wide.{wide_list}
 use Rattle.file_classes.specs.ClassData.{EntriesAt}
 use Rattle.file_classes.specs.Reading.{entries}
 use Rattle.file_strip.specs.Survey.{FindsNames, SpellsMembers, names_of_head, names_of_members, wide_members}
-use Rattle.file_strip.specs.declared.survey.Found.{Found}
+use Rattle.file_strip.specs.declared.survey.Surveyed.{Surveyed}
 use Rattle.file_strip.proofs.ClassSteps.{class_names, spells_members}
 use Rattle.file_strip.proofs.FoundLaws.{finds_marked, finds_more, has_found_after}
 use Rattle.file_strip.proofs.survey.look_at_class.Goals as goal
@@ -15,7 +15,7 @@ pub look_at_members-requires-clause-found : goal.look_at_members-requires-clause
 look_at_members-requires-clause-found c =
     let b = c.args.sections.now in
     let k = c.requires.class in
-    let mid : Found = (record c.args.found.now { marks = c.mark_head.new.marks }) in
+    let mid : Surveyed = (record c.args.found.now { marks = c.mark_head.new.marks }) in
     has_found_after b c.args.found.now mid (names_of_head k.0) c.requires.found (finds_marked b c.args.found.now c.mark_head.new.marks (names_of_head k.0) (c.in_ok-mark_head.ensures.marked k.0 k.1))
 
 pub look_at_members-requires-clause-members : goal.look_at_members-requires-clause-members
@@ -30,7 +30,7 @@ returns-clause-found c = λ k s.
     let b = c.args.sections.now in
     let e = entries c.in-Some.all in
     let m = subst (λ n. SpellsMembers b e n k) (sym c.class_word-values.ensures) (spells_members b c.framed.ensures c.args.i k e s (subst (λ n. EntriesAt b n e) c.class_word-data.ensures (rw c.in-Some.is at c.in_ok-all.ensures.found))) in
-    let mid : Found = (record c.args.found.now { marks = c.mark_head.new.marks }) in
+    let mid : Surveyed = (record c.args.found.now { marks = c.mark_head.new.marks }) in
     subst (λ (ns : List Name). FindsNames b c.args.found.now c.look_at_members.new.found ns) (class_names k)
     (finds_more b c.args.found.now mid c.look_at_members.new.found (names_of_head k) (names_of_members k)
     (finds_marked b c.args.found.now c.mark_head.new.marks (names_of_head k) (c.in_ok-mark_head.ensures.marked k s)) (c.in_ok-members.ensures.found k m))

@@ -9,7 +9,7 @@ use Rattle.file_limits.proofs.SumLaws.{wide_all_append}
 use Rattle.dex_value.specs.Wide.{wide_values}
 use Rattle.program_types.specs.Content.{values}
 use Rattle.file_classes.specs.Reading.{field_entry, method_entry}
-use Rattle.file_strip.specs.declared.survey.Found.{Found}
+use Rattle.file_strip.specs.declared.survey.Surveyed.{Surveyed}
 use Rattle.file_strip.proofs.FoundLaws.{finds_marked, finds_more, has_found_after, has_marks}
 use Rattle.file_strip.proofs.survey.look_at_members.Goals as goal
 
@@ -17,7 +17,7 @@ pub look_at_values-requires-clause-found : goal.look_at_values-requires-clause-f
 look_at_values-requires-clause-found c =
     let b = c.args.sections.now in
     let k = c.requires.members in
-    let mid : Found = (record c.args.found.now { marks = c.mark_fields.new.marks }) in
+    let mid : Surveyed = (record c.args.found.now { marks = c.mark_fields.new.marks }) in
     let h1 = has_found_after b c.args.found.now mid (map (field_of_class k.0.ty) k.0.statics) c.requires.found (finds_marked b c.args.found.now c.mark_fields.new.marks (map (field_of_class k.0.ty) k.0.statics) ((rw c.deref.ensures.value at c.in_ok-mark_fields.ensures.marked) (record { class = k.0.ty; fields = k.0.statics; spelled = k.1.members.statics }))) in
     h1
 
@@ -25,7 +25,7 @@ pub mark_fields-requires-2-clause-marks : goal.mark_fields-requires-2-clause-mar
 mark_fields-requires-2-clause-marks c =
     let b = c.args.sections.now in
     let k = c.requires.members in
-    let mid : Found = (record c.args.found.now { marks = c.mark_fields.new.marks }) in
+    let mid : Surveyed = (record c.args.found.now { marks = c.mark_fields.new.marks }) in
     let h1 = has_found_after b c.args.found.now mid (map (field_of_class k.0.ty) k.0.statics) c.requires.found (finds_marked b c.args.found.now c.mark_fields.new.marks (map (field_of_class k.0.ty) k.0.statics) ((rw c.deref.ensures.value at c.in_ok-mark_fields.ensures.marked) (record { class = k.0.ty; fields = k.0.statics; spelled = k.1.members.statics }))) in
     let h2 = has_found_after b mid c.look_at_values.new.found (flat_map names_of_value k.0.values) h1 (c.in_ok-array.ensures.found k.1.most k.0.values k.1.values) in
     has_marks b c.look_at_values.new.found h2
@@ -34,10 +34,10 @@ pub look_at_methods-requires-clause-found : goal.look_at_methods-requires-clause
 look_at_methods-requires-clause-found c =
     let b = c.args.sections.now in
     let k = c.requires.members in
-    let mid : Found = (record c.args.found.now { marks = c.mark_fields.new.marks }) in
+    let mid : Surveyed = (record c.args.found.now { marks = c.mark_fields.new.marks }) in
     let h1 = has_found_after b c.args.found.now mid (map (field_of_class k.0.ty) k.0.statics) c.requires.found (finds_marked b c.args.found.now c.mark_fields.new.marks (map (field_of_class k.0.ty) k.0.statics) ((rw c.deref.ensures.value at c.in_ok-mark_fields.ensures.marked) (record { class = k.0.ty; fields = k.0.statics; spelled = k.1.members.statics }))) in
     let h2 = has_found_after b mid c.look_at_values.new.found (flat_map names_of_value k.0.values) h1 (c.in_ok-array.ensures.found k.1.most k.0.values k.1.values) in
-    let mid2 : Found = (record c.look_at_values.new.found { marks = c.mark_fields-2.new.marks }) in
+    let mid2 : Surveyed = (record c.look_at_values.new.found { marks = c.mark_fields-2.new.marks }) in
     let h3 = has_found_after b c.look_at_values.new.found mid2 (map (field_of_class k.0.ty) k.0.instances) h2 (finds_marked b c.look_at_values.new.found c.mark_fields-2.new.marks (map (field_of_class k.0.ty) k.0.instances) ((rw c.deref-2.ensures.value at c.in_ok-mark_fields-2.ensures.marked) (record { class = k.0.ty; fields = k.0.instances; spelled = k.1.members.instances }))) in
     h3
 
@@ -45,18 +45,18 @@ pub look_at_methods-requires-2-clause-found : goal.look_at_methods-requires-2-cl
 look_at_methods-requires-2-clause-found c =
     let b = c.args.sections.now in
     let k = c.requires.members in
-    let mid : Found = (record c.args.found.now { marks = c.mark_fields.new.marks }) in
+    let mid : Surveyed = (record c.args.found.now { marks = c.mark_fields.new.marks }) in
     let h1 = has_found_after b c.args.found.now mid (map (field_of_class k.0.ty) k.0.statics) c.requires.found (finds_marked b c.args.found.now c.mark_fields.new.marks (map (field_of_class k.0.ty) k.0.statics) ((rw c.deref.ensures.value at c.in_ok-mark_fields.ensures.marked) (record { class = k.0.ty; fields = k.0.statics; spelled = k.1.members.statics }))) in
     let h2 = has_found_after b mid c.look_at_values.new.found (flat_map names_of_value k.0.values) h1 (c.in_ok-array.ensures.found k.1.most k.0.values k.1.values) in
-    let mid2 : Found = (record c.look_at_values.new.found { marks = c.mark_fields-2.new.marks }) in
+    let mid2 : Surveyed = (record c.look_at_values.new.found { marks = c.mark_fields-2.new.marks }) in
     let h3 = has_found_after b c.look_at_values.new.found mid2 (map (field_of_class k.0.ty) k.0.instances) h2 (finds_marked b c.look_at_values.new.found c.mark_fields-2.new.marks (map (field_of_class k.0.ty) k.0.instances) ((rw c.deref-2.ensures.value at c.in_ok-mark_fields-2.ensures.marked) (record { class = k.0.ty; fields = k.0.instances; spelled = k.1.members.instances }))) in
     has_found_after b mid2 c.look_at_methods.new.found (flat_map (names_of_method k.0.ty) k.0.directs) h3 ((rw c.deref-3.ensures.value at c.in_ok-directs.ensures.found) (record { class = k.0.ty; methods = k.0.directs; spelled = k.1.members.directs; codes = k.1.directs }))
 
 pub returns-clause-found : goal.returns-clause-found
 returns-clause-found c = λ k m.
     let b = c.args.sections.now in
-    let mid : Found = (record c.args.found.now { marks = c.mark_fields.new.marks }) in
-    let mid2 : Found = (record c.look_at_values.new.found { marks = c.mark_fields-2.new.marks }) in
+    let mid : Surveyed = (record c.args.found.now { marks = c.mark_fields.new.marks }) in
+    let mid2 : Surveyed = (record c.look_at_values.new.found { marks = c.mark_fields-2.new.marks }) in
     let statics = map (field_of_class k.ty) k.statics in
     let array = flat_map names_of_value k.values in
     let instances = map (field_of_class k.ty) k.instances in

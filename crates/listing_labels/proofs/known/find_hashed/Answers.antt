@@ -3,8 +3,5 @@ use Rattle.listing_slots.proofs.KeyLaws.{same_is}
 use Rattle.listing_labels.proofs.LookLaws.{found_place}
 use Rattle.listing_labels.proofs.known.find_hashed.Goals as goal
 
-pub returns-in-Some-get : goal.returns-in-Some-get
-returns-in-Some-get c = (rw c.in-Some-get.is at c.get.ensures.value) ∙ found_place c.args.name.now _ (λ k. same_is c.args.name.now k.now) c.args.rest.now.entries
-
-pub returns-in-None : goal.returns-in-None
-returns-in-None c = (rw c.in-None.is at c.get.ensures.value) ∙ found_place c.args.name.now _ (λ k. same_is c.args.name.now k.now) c.args.rest.now.entries
+pub returns : goal.returns
+returns c = c.copied.ensures ∙ c.get.ensures.value ∙ found_place c.args.name.now _ (λ k. same_is c.args.name.now k.now) c.args.rest.now.entries

@@ -1,16 +1,17 @@
+use Rattle.dex_base.proofs.OptionLaws.{IfNone-always}
 use Rattle.listing_slots.proofs.read.read_whole.Goals as goal
 
-pub returns-in-None-clause-none : goal.returns-in-None-clause-none
-returns-in-None-clause-none c = rw c.in-Nibble.is (λ d s. c.in-None.ensures.none s.0 s.1)
+pub returns-in_err-read_signed-in-Nibble-clause-none : goal.returns-in_err-read_signed-in-Nibble-clause-none
+returns-in_err-read_signed-in-Nibble-clause-none c = rw c.in-Nibble.is (IfNone-always c.from_residual.result (λ d s. c.in_err-read_signed-in-Nibble.ensures.none s.0 s.1))
 
-pub returns-in-None-read_signed-clause-none : goal.returns-in-None-read_signed-clause-none
-returns-in-None-read_signed-clause-none c = rw c.in-Tiny.is (λ d s. c.in-None-read_signed.ensures.none s.0 s.1)
+pub returns-in_err-read_signed-in-Tiny-clause-none : goal.returns-in_err-read_signed-in-Tiny-clause-none
+returns-in_err-read_signed-in-Tiny-clause-none c = rw c.in-Tiny.is (IfNone-always c.from_residual-in_err-read_signed-in-Tiny.result (λ d s. c.in_err-read_signed-in-Tiny.ensures.none s.0 s.1))
 
-pub returns-in-None-read_signed-2-clause-none : goal.returns-in-None-read_signed-2-clause-none
-returns-in-None-read_signed-2-clause-none c = rw c.in-Short.is (λ d s. c.in-None-read_signed-2.ensures.none s.0 s.1)
+pub returns-in_err-read_signed-in-Short-clause-none : goal.returns-in_err-read_signed-in-Short-clause-none
+returns-in_err-read_signed-in-Short-clause-none c = rw c.in-Short.is (IfNone-always c.from_residual-in_err-read_signed-in-Short.result (λ d s. c.in_err-read_signed-in-Short.ensures.none s.0 s.1))
 
-pub returns-in-None-read_signed-3-clause-none : goal.returns-in-None-read_signed-3-clause-none
-returns-in-None-read_signed-3-clause-none c = rw c.in-Int.is (λ d s. c.in-None-read_signed-3.ensures.none s.0 s.1)
+pub returns-in_err-read_signed-in-Int-clause-none : goal.returns-in_err-read_signed-in-Int-clause-none
+returns-in_err-read_signed-in-Int-clause-none c = rw c.in-Int.is (IfNone-always c.from_residual-in_err-read_signed-in-Int.result (λ d s. c.in_err-read_signed-in-Int.ensures.none s.0 s.1))
 
-pub returns-in-None-read_signed-4-clause-none : goal.returns-in-None-read_signed-4-clause-none
-returns-in-None-read_signed-4-clause-none c = rw c.in-Long.is (λ d s. c.in-None-read_signed-4.ensures.none s.0 s.1)
+pub returns-in_err-read_signed-in-Long-clause-none : goal.returns-in_err-read_signed-in-Long-clause-none
+returns-in_err-read_signed-in-Long-clause-none c = rw c.in-Long.is (IfNone-always c.from_residual-in_err-read_signed-in-Long.result (λ d s. c.in_err-read_signed-in-Long.ensures.none s.0 s.1))

@@ -1,5 +1,6 @@
+use Rattle.dex_base.proofs.OptionLaws.{IfNone-always}
 use Rattle.listing_words.proofs.TextLaws.{unit_none}
 use Rattle.listing_words.proofs.texts.read_unit.Goals as goal
 
-pub returns-in-None-clause-none : goal.returns-in-None-clause-none
-returns-in-None-clause-none c = unit_none c.args.text.now c.in-None.ensures.none
+pub returns-in_err-unit-clause-none : goal.returns-in_err-unit-clause-none
+returns-in_err-unit-clause-none c = IfNone-always c.from_residual.result (unit_none c.args.text.now c.in_err-unit.ensures.none)

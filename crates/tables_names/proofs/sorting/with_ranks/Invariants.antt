@@ -6,6 +6,6 @@ abbrev pub invariant-loop-i : goal.invariant-loop-i
 invariant-loop-i g l =
     record {
       names : map (λ r. r.1) l.rows.items ≡ take l.i l.names;
-      ranks : All (λ r. g.P.Numbers.has l.sorted (g.N.Row.key r.1) r.0) l.rows.items;
+      ranks : All (λ r. g.P.PartNumbers.has l.sorted (g.N.Row.key r.1) r.0) l.rows.items;
       numbers : All (λ r. IsAt (map g.N.Row.key l.names) r.2 (g.N.Row.key r.1)) l.rows.items;
     }

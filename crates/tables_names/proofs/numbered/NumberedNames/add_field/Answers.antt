@@ -1,15 +1,15 @@
 use Rattle.program_types.specs.Key.{text_key}
-use Rattle.std.proofs.Common.{subst, ◌∙◌, ap}
+use Rattle.std.proofs.Common.{subst, sym, ◌∙◌, ap}
 use Rattle.tables_names.specs.Keys.{key_of_field}
 use Rattle.program_types.specs.View.{desc, str}
 use Rattle.tables_names.specs.Closure.{Five, AddsPart, IsPart, field_closure, join, type_closure, with_name, with_parts}
-use Rattle.tables_names.specs.Numbers.{sets}
+use Rattle.tables_names.specs.Numbers.{Order, sets}
 use Rattle.tables_names.proofs.FiveLemmas.{refused, wider, more_added, type_parts, member_front, class_in_front, class_text_in_front, front_in_field, parts_in_field, field_parts, IsPart-refl, IsPart-trans}
 use Rattle.tables_names.proofs.PlaceLemmas.{member_at}
 use Rattle.tables_names.proofs.NumberLemmas.{sets_rise, AllGrow-refl, AllGrow-trans}
 use Rattle.tables_names.proofs.NeededLemmas.{absorbed}
 use Rattle.std.proofs.lemmas.Result.{on_ok_weaker, on_err_weaker}
-use Rattle.tables_names.proofs.NumberedNamesLemmas.{order_of, field_is_there}
+use Rattle.tables_names.proofs.NumberedNamesLemmas.{order_of, none_when, still_absent, field_is_there}
 use Rattle.tables_names.proofs.numbered.NumberedNames.add_field.Goals as goal
 
 pub returns-in-Some-clause-added : goal.returns-in-Some-clause-added
@@ -36,7 +36,7 @@ returns-clause-added c =
     let old = sets c.args.self.now.names in
     let whole = field_closure (key_of_field c.args.name.now) in
     let part : IsPart (type_closure (text_key class)) whole = IsPart-trans (type_closure (text_key class)) (field_parts class name (desc c.args.name.now.ty)) whole (IsPart-trans (type_closure (text_key class)) (member_front class name) (field_parts class name (desc c.args.name.now.ty)) (class_in_front class name) (front_in_field class name _)) (parts_in_field class name _) in
-    on_ok_weaker c.add_field_in.result (λ a. a ∙ ap (λ s. join s whole) c.in_ok-class.ensures.added ∙ absorbed old (type_closure (text_key class)) whole (sets_rise c.args.self.now.names) part) c.add_field_in.ensures.added
+    on_ok_weaker c.put_field.result (λ a. a ∙ ap (λ s. join s whole) c.in_ok-class.ensures.added ∙ absorbed old (type_closure (text_key class)) whole (sets_rise c.args.self.now.names) part) c.put_field.ensures.added
 
 pub returns-clause-partly : goal.returns-clause-partly
 unfolding with_name with_parts
@@ -44,11 +44,17 @@ returns-clause-partly c =
     let class = desc c.args.name.now.class in
     let name = str c.args.name.now.name in
     let old = sets c.args.self.now.names in
-    let new = sets c.add_field_in.new.self.names in
+    let new = sets c.put_field.new.self.names in
     let parts = field_parts class name (desc c.args.name.now.ty) in
     let first : IsPart (type_closure (text_key class)) parts = IsPart-trans (type_closure (text_key class)) (member_front class name) parts (class_in_front class name) (front_in_field class name _) in
-    on_err_weaker c.add_field_in.result (λ a. more_added old (type_closure (text_key class)) parts parts new first (IsPart-refl parts) (subst (λ (s : Five). AddsPart s new (join s parts)) c.in_ok-class.ensures.added a)) c.add_field_in.ensures.partly
+    on_err_weaker c.put_field.result (λ a. more_added old (type_closure (text_key class)) parts parts new first (IsPart-refl parts) (subst (λ (s : Five). AddsPart s new (join s parts)) c.in_ok-class.ensures.added a)) c.put_field.ensures.partly
 
 pub returns-clause-grows : goal.returns-clause-grows
 returns-clause-grows c =
-    AllGrow-trans c.args.self.now.names c.add_type.new.self.names c.add_field_in.new.self.names c.add_type.ensures.grows c.add_field_in.ensures.grows
+    AllGrow-trans c.args.self.now.names c.add_type.new.self.names c.put_field.new.self.names c.add_type.ensures.grows c.put_field.ensures.grows
+
+pub put_field-requires-clause-absent : goal.put_field-requires-clause-absent
+unfolding with_name
+put_field-requires-clause-absent c =
+    let same = ap (λ (f : Five). f.fields) c.in_ok-class.ensures.added ∙ sym (ap (λ (x : Order). (sets x.names).fields) c.self.view_is) in
+    still_absent c.self.inside.fields.names c.add_type.new.self.names.fields (key_of_field c.args.name.now) same (none_when c.number_of.result c.number_of.ensures.none c.in_default.not-Some)

@@ -1,5 +1,0 @@
-use Rattle.tables_laws.proofs.FileLemmas as law
-use Rattle.tables_laws.proofs.laws.names_are_closed.Goals as goal
-
-pub returns : goal.returns
-returns c = law.names_are_closed

@@ -1,7 +1,0 @@
-use Rattle.tables_names.proofs.needed.Needed.add_methods_of.Goals as goal
-
-pub returns-clause-added : goal.returns-clause-added
-returns-clause-added c = rw (← c.self.view_is) c.add_methods_of.ensures.added
-
-pub returns-clause-partly : goal.returns-clause-partly
-returns-clause-partly c = rw (← c.self.view_is) c.add_methods_of.ensures.partly
