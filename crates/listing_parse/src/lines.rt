@@ -32,7 +32,7 @@ use listing_words::{Word, read_words};
 fn read_form<'a, 'b>(
     form: Form,
     words: &[Word<'a, 'b>],
-    slots: &mut Vec<Slot, &'a Bump>,
+    slots: &mut Vec<Slot>,
 ) -> Result<Option<Found<'b>>, Fault>
     ensures found { IfOk result (λ r. IfSome r (λ f. HasShapeInForm form (map word words.now) (shape f slots.new.items (map word words.now)))) }
     ensures lengths { IfOk result (λ r. IfSome r (λ f. f.lead + length slots.new.items ≡ length words.now)) }
@@ -49,9 +49,9 @@ fn read_form<'a, 'b>(
 /// words have spelled.
 pub(crate) struct Scratch<'a, 'b> {
     pub(crate) arena: &'a Bump,
-    pub(crate) words: Vec<Word<'a, 'b>, &'a Bump>,
-    pub(crate) slots: Vec<Slot, &'a Bump>,
-    pub(crate) says: Vec<Datum<'a>, &'a Bump>,
+    pub(crate) words: Vec<Word<'a, 'b>>,
+    pub(crate) slots: Vec<Slot>,
+    pub(crate) says: Vec<Datum<'a>>,
     pub(crate) spelled: Spelled<'a, 'b>,
 }
 

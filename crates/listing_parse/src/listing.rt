@@ -26,8 +26,8 @@ use std::alloc::Global;
 /// How many bytes of a listing there are for each name that is remembered, so that names take no more than a quarter of it.
 const BYTES_A_NAME: usize = 256;
 
-/// No more names than these are remembered: a file has at most as many of a kind.
-const MOST_NAMES: usize = 65536;
+/// No more names than these are remembered: further places cost memory and cache, and save no time.
+const MOST_NAMES: usize = 16384;
 
 /// Nothing was read.
 #[tactic(auto, unfolding(crate::specs::ReadingView::reading))]
@@ -63,9 +63,9 @@ fn read_lines<'a>(
 {
     let mut scratch = Scratch {
         arena,
-        words: Vec::new(arena),
-        slots: Vec::new(arena),
-        says: Vec::new(arena),
+        words: Vec::new(alloc),
+        slots: Vec::new(alloc),
+        says: Vec::new(alloc),
         spelled: Spelled::new(alloc, seed, (text.len() / BYTES_A_NAME).min(MOST_NAMES))?,
     };
     let mut listing = begin(alloc, seed, arena);
