@@ -424,6 +424,14 @@ def methods_param(j):
     j.close()
 
 
+def methods_last(j):
+    """one class that defines N methods of one name: the last of 100 parameters differs"""
+    j.open()
+    for i in j.numbers:
+        j.line("virtual m (%s%s)V 0x401" % ("I" * 99, j.ty(i)))
+    j.close()
+
+
 def methods_first(j):
     """one class that defines N methods of one name: the first parameter differs"""
     j.open()
@@ -502,6 +510,16 @@ def interfaces_all(j):
     for i in j.numbers:
         j.line("implements " + j.ty(i))
     j.close()
+
+
+def interfaces_turned(j):
+    """N classes with the same 100 interfaces, each in an order of its own: turned by one place more"""
+    names = [f"LI{k:03};" for k in range(100)]
+    for i in j.numbers:
+        j.open(j.ty(i))
+        for name in names[i % 100:] + names[:i % 100]:
+            j.line("implements " + name)
+        j.close()
 
 
 def interfaces_each(j):
@@ -644,6 +662,39 @@ def value_nearly(j):
         j.close()
 
 
+def value_tree(j):
+    """a static array that holds two arrays, each two again, down to N ints"""
+    parts = [f"int {i}" for i in j.numbers]
+    while len(parts) > 1:
+        parts = ["array { " + " ".join(parts[k:k + 2]) + " }" for k in range(0, len(parts), 2)]
+    j.open()
+    j.line("static x [I 0x9 = array { " + parts[0] + " }")
+    j.close()
+
+
+def value_empty_arrays(j):
+    """a static array of N empty arrays"""
+    j.open()
+    j.line("static x [[I 0x9 = array { " + "array { } " * j.n + "}")
+    j.close()
+
+
+def value_pairs(j):
+    """a static array of N / 60 arrays of an int and such an array, 60 deep"""
+    j.open()
+    pairs = "".join(f"array {{ int {k} " for k in range(60)) + "} " * 60
+    j.line("static x [I 0x9 = array { " + pairs * (j.n // 60) + "}")
+    j.close()
+
+
+def value_each(j):
+    """N classes, each with a static array of three ints of its own"""
+    for i in j.numbers:
+        j.open(f"LC{i:07};")
+        j.line(f"static x [I 0x9 = array {{ int {i + 1} int {i + 2} int {i + 3} }}")
+        j.close()
+
+
 # ---- instructions: of each format N
 
 FORMS = {
@@ -771,6 +822,16 @@ def labels_before(j):
     for i in j.numbers:
         b.mark(":" + simple(j.name(i)).replace("$", "_")[-31:])
         b.put("nop")
+    b.put("return-void")
+    one_body(j, b)
+
+
+def labels_far(j):
+    """N labels with names, each used by goto/32 in the other half of the code"""
+    b = Body()
+    for i in range(j.n):
+        b.mark(f":label{i:07}")
+        b.put(f"goto/32 :label{(i + j.n // 2) % j.n:07}")
     b.put("return-void")
     one_body(j, b)
 
@@ -1018,6 +1079,21 @@ def tries_types(j):
     one_body(j, b)
 
 
+def tries_two_handlers(j):
+    """N tries of one instruction, by turns with two catch-alls"""
+    b = Body()
+    for i in range(j.n):
+        b.mark(f":L{i}")
+        b.put("nop")
+    b.mark(f":L{j.n}")
+    b.put("nop")
+    b.mark(f":L{j.n + 1}")
+    b.put("return-void")
+    for i in range(j.n):
+        b.tries += [f"try :L{i} :L{i + 1}", f"catchall :L{j.n + i % 2}"]
+    one_body(j, b)
+
+
 def catches(j):
     """one try with N catches, each of another type"""
     b = Body()
@@ -1132,6 +1208,20 @@ def r_classes(j):
         for k in range(2000):
             j.line(f"static abc_item_{k:04}_{WORDS[k % len(WORDS)].lower()} I 0x19 = int {0x7f000000 + k}")
         j.close()
+
+
+def r_fields(j):
+    """one R class of N int fields with values, named as resources are"""
+    j.open("Lcom/acme/app/R$id;", flags="0x11")
+    for i in j.numbers:
+        word = WORDS[mixed(i) % len(WORDS)].lower()
+        j.line(f"static abc_{word}_{WORDS[i % len(WORDS)].lower()}_{i} I 0x19 = int {0x7F080000 + i}")
+    j.close()
+
+
+def strings_growing(j):
+    """N strings, each the one before and a letter more (N up to some thousands: their text is a square)"""
+    j.bodies([f'const-string/jumbo v0 "{"a" * (i + 1)}"' for i in j.numbers])
 
 
 def lambdas(j):
@@ -1505,6 +1595,9 @@ NATURAL = [
     ("defined_fields:package", 4000), ("methods_return:package", 4000), ("methods_param:package", 2000), ("methods_first:package", 4000),
     ("fields_type:package", 4000), ("value_fields:package", 4000), ("value_methods:package", 4000), ("lambdas:front", 2500),
     ("objects:nested", 2000), ("builders", 2000), ("dagger", 2000), ("implementers", 1000), ("own_long", 64000), ("r_classes", 80),
+    ("r_fields", 15000), ("methods_last:package", 2000), ("interfaces_turned:package", 1000), ("value_tree", 100000),
+    ("value_empty_arrays", 200000), ("value_pairs", 60000), ("value_enums:package", 16000), ("value_each", 15000), ("labels_far", 50000),
+    ("tries_two_handlers", 15000),
 ]
 
 NOT_THINGS = {"simple", "mixed", "digits", "put_at", "letters_of", "format_shape", "one_body", "even", "main"}
