@@ -6,8 +6,8 @@ use Rattle.dexasm_world.specs.Steps.{TouchesOnly, private_mode}
 use Rattle.dexasm_world.specs.Safe.{KeepsFile, HasAnswer, IsWholeAt, IsNarrow}
 use Rattle.dexasm_world.specs.Parts.{IsStill, Fills, Stores, Dresses, HasPartFile, HasFullPart, Brings, HasBrought}
 use Rattle.dexasm_world.specs.declared.world.Dress.{Dress}
-use Rattle.dexasm_world.proofs.Passing.{weaker, goes_on}
-use Rattle.dexasm_world.proofs.Installing.{IsFine, brings}
+use Rattle.dexasm_world.proofs.Passing.{weaker, then}
+use Rattle.dexasm_world.proofs.Installing.{IsFine, brings, carry_part}
 
 -- two moments that differ at one place and in the file that stands there
 pub record DiffersAt (part : Path) (s t : FileState) : Type 0 where
@@ -70,17 +70,15 @@ some_number (Some n) h = (n, refl)
 pub full_part : (f b : Files) (part path : Path) (n : ℕ) (answer : List ℕ) (dress : Option Dress) → b.paths ≡ f.paths → HasPartFile f part path n → (f.now.file n).bytes ≡ []
     → Dresses (place_of f path) dress f.now → Stores n answer dress f.now b.now → HasFullPart b part path answer
 full_part f b part path n answer dress p h empty wears s =
-    let place = λ (x : Path). ap (λ (q : Paths). q.place x) p in
-    let plain = λ (x : Path). ap (λ (q : Paths). q.is_plain x) p in
-    let out = s.only.names (b.paths.place path) ∙ ap f.now.stands (place path) in
-    record {
+    let out = s.only.names (place_of f path) in
+    carry_part (record b { paths = f.paths }) b part path answer p refl (record {
       number = n;
       stands = record {
-        part_plain = plain part ∙ h.part_plain;
-        path_plain = plain path ∙ h.path_plain;
-        two = λ e. h.two (sym (place part) ∙ e ∙ place path);
-        here = s.only.names (b.paths.place part) ∙ ap f.now.stands (place part) ∙ h.here;
-        only = λ q e. h.only q (sym (s.only.names q) ∙ e) ∙ sym (place part);
+        part_plain = h.part_plain;
+        path_plain = h.path_plain;
+        two = h.two;
+        here = s.only.names (place_of f part) ∙ h.here;
+        only = λ q e. h.only q (sym (s.only.names q) ∙ e);
       };
       bytes = s.more ∙ ap (λ l. l ++ answer) empty;
       mode = λ m is.
@@ -90,7 +88,7 @@ full_part f b part path n answer dress p h empty wears s =
       kept = λ is.
           let m = some_number (f.now.stands (place_of f path)) (subst (λ (o : Option ℕ). IsSome o) out is) in
           s.kept (dressed_some dress ((f.now.file m.0).mode) (wears m.0 m.1));
-    }
+    })
 
 pub carry_answer : (part out : Path) (answer : List ℕ) (p : Path) (r s t : FileState) → out ≢ part → DiffersAt part r s → HasAnswer out answer s p t → HasAnswer out answer r p t
 carry_answer part out answer p r s t two d a = record {
@@ -111,43 +109,43 @@ carry_whole part out answer r s t two d w = elim w [
 ]
 
 -- what is brought since a moment that differs at the part alone is brought since the moment before
-pub carry_brings : (part out : Path) (answer : List ℕ) (D E : Type 0) (r s t : FileState) → out ≢ part → DiffersAt part r s → (E → D) → Brings part out answer D s t → Brings part out answer E r t
-carry_brings part out answer D E r s t two d to h = record {
-  names = λ p away elsewhere. h.names p away elsewhere ∙ d.names p away;
-  files = λ n there apart other.
-      let away : there.0 ≢ part = λ e. apart (ap r.stands (sym e) ∙ there.1) in
-      h.files n (there.0, d.names there.0 away ∙ there.1) (d.own there.0 n away there.1).1 (λ e. other (sym (d.names out two) ∙ e)) ∙ d.files n there apart;
-  safe = elim h.safe [
-    | inl w ↦ inl (carry_whole part out answer r s t two d w)
-    | inr a ↦ inr (carry_answer part out answer part r s t two d a)
-  ];
-  whole = λ e. carry_whole part out answer r s t two d (h.whole (to e));
-  old = λ e. carry_old part out r s t two d (h.old (to e));
-  narrow = λ k m there is. elim (h.narrow k m there (d.names out two ∙ is)) [
-    | inl empty ↦ inl empty
-    | inr mode ↦ inr (mode ∙ ap (λ (x : Stored). x.mode) (d.files m (out, is) (d.own out m two is).0))
-  ];
-}
+pub brings_since : (f b c : Files) (part path : Path) (answer : List ℕ) (D E : Type 0) → b.paths ≡ f.paths → place_of f path ≢ place_of f part → DiffersAt (place_of f part) f.now b.now → (E → D)
+    → Passes b c (Brings (place_of b part) (place_of b path) answer D b.now) → Passes b c (Brings (place_of f part) (place_of f path) answer E f.now)
+brings_since f b c part path answer D E p two d to q =
+    let beside = place_of f part in
+    let out = place_of f path in
+    weaker b c (Brings beside out answer D b.now) (Brings beside out answer E f.now)
+    (λ t h. record {
+      names = λ x away elsewhere. h.names x away elsewhere ∙ d.names x away;
+      files = λ n there apart other.
+          let away : there.0 ≢ beside = λ e. apart (ap f.now.stands (sym e) ∙ there.1) in
+          h.files n (there.0, d.names there.0 away ∙ there.1) (d.own there.0 n away there.1).1 (λ e. other (sym (d.names out two) ∙ e)) ∙ d.files n there apart;
+      safe = elim h.safe [
+        | inl w ↦ inl (carry_whole beside out answer f.now b.now t two d w)
+        | inr a ↦ inr (carry_answer beside out answer beside f.now b.now t two d a)
+      ];
+      whole = λ e. carry_whole beside out answer f.now b.now t two d (h.whole (to e));
+      old = λ e. carry_old beside out f.now b.now t two d (h.old (to e));
+      narrow = λ k m there is. elim (h.narrow k m there (d.names out two ∙ is)) [
+        | inl empty ↦ inl empty
+        | inr mode ↦ inr (mode ∙ ap (λ (x : Stored). x.mode) (d.files m (out, is) (d.own out m two is).0))
+      ];
+    })
+    (subst (λ (x : Paths). Passes b c (Brings (x.place part) (x.place path) answer D b.now)) p q)
 
-pub carry_brought : (part out : Path) (answer : List ℕ) (D E P Q : Type 0) (r s t : FileState) → out ≢ part → DiffersAt part r s → (E → D) → (Q → P) → HasBrought part out answer D P s t → HasBrought part out answer E Q r t
-carry_brought part out answer D E P Q r s t two d to in_place h = record {
-  has = carry_answer part out answer out r s t two d h.has;
-  gone = λ e. h.gone (to e);
-  stays = λ q n is. h.stays (in_place q) n (d.names out two ∙ is);
-}
+pub brought_since : (f b : Files) (part path : Path) (answer : List ℕ) (D E P Q : Type 0) (t : FileState) → b.paths ≡ f.paths → place_of f path ≢ place_of f part → DiffersAt (place_of f part) f.now b.now
+    → (E → D) → (Q → P) → HasBrought (place_of b part) (place_of b path) answer D P b.now t → HasBrought (place_of f part) (place_of f path) answer E Q f.now t
+brought_since f b part path answer D E P Q t p two d to in_place h₀ =
+    let h = subst (λ (x : Paths). HasBrought (x.place part) (x.place path) answer D P b.now t) p h₀ in
+    record {
+      has = carry_answer (place_of f part) (place_of f path) answer (place_of f path) f.now b.now t two d h.has;
+      gone = λ e. h.gone (to e);
+      stays = λ q n is. h.stays (in_place q) n (d.names (place_of f path) two ∙ is);
+    }
 
 -- stored, and then brought
-pub brings_then : (f b c : Files) (part out part' out' : Path) (answer : List ℕ) (D E : Type 0) → part' ≡ part → out' ≡ out → out ≢ part → (E → D) → DiffersAt part f.now b.now
-    → Passes f b (IsFine part out answer f.now) → Passes b c (Brings part' out' answer D b.now) → Passes f c (Brings part out answer E f.now)
-brings_then f b c part out part' out' answer D E e₁ e₂ two to d p q =
-    let q₁ = subst (λ (x : Path). Passes b c (Brings x out' answer D b.now)) e₁ q in
-    let q₂ = subst (λ (x : Path). Passes b c (Brings part x answer D b.now)) e₂ q₁ in
-    goes_on f b c (Brings part out answer E f.now) (Brings part out answer D b.now) (brings f b part out answer E p) q₂
-    (λ t h. carry_brings part out answer D E f.now b.now t two d to h)
-
-pub brought_then : (part out part' out' : Path) (answer : List ℕ) (D E P Q : Type 0) (r s t : FileState) → part' ≡ part → out' ≡ out → out ≢ part → (E → D) → (Q → P) → DiffersAt part r s
-    → HasBrought part' out' answer D P s t → HasBrought part out answer E Q r t
-brought_then part out part' out' answer D E P Q r s t e₁ e₂ two to in_place d h =
-    let h₁ = subst (λ (x : Path). HasBrought x out' answer D P s t) e₁ h in
-    let h₂ = subst (λ (x : Path). HasBrought part x answer D P s t) e₂ h₁ in
-    carry_brought part out answer D E P Q r s t two d to in_place h₂
+pub brings_then : (f b c : Files) (part path : Path) (answer : List ℕ) (D E : Type 0) → place_of f path ≢ place_of f part → (E → D) → DiffersAt (place_of f part) f.now b.now
+    → Passes f b (IsFine (place_of f part) (place_of f path) answer f.now) → Passes b c (Brings (place_of b part) (place_of b path) answer D b.now)
+    → Passes f c (Brings (place_of f part) (place_of f path) answer E f.now)
+brings_then f b c part path answer D E two to d p q =
+    then f b c (Brings (place_of f part) (place_of f path) answer E f.now) (brings f b (place_of f part) (place_of f path) answer E p) (brings_since f b c part path answer D E p.same_paths two d to q)

@@ -12,7 +12,8 @@ use Rattle.dexasm_world.specs.declared.world.Dress.{Dress}
 use Rattle.dexasm_world.specs.Parts.{HasPartFile, Overwrites, HoldsBytes, Dresses, Brings, HasBrought}
 use Rattle.std.proofs.lemmas.Bool.{cases_order}
 use Rattle.dexasm_world.proofs.Passing.{goes_on}
-use Rattle.dexasm_world.proofs.Bringing.{DiffersAt, carry_brings, carry_brought}
+use Rattle.dexasm_world.proofs.Installing.{carry_file}
+use Rattle.dexasm_world.proofs.Bringing.{DiffersAt, brings_since, brought_since}
 
 either : (r : Bool) (P : Type 0) → Decides r P → P ⊎ (P → ⊥)
 either true P d = inl (d.0 refl)
@@ -70,30 +71,52 @@ made_differs place n s t m = record {
   own = λ p k away here. (λ e. let x = sym m.free ∙ e in cc, λ e. m.own p (here ∙ sym (sym m.here ∙ e)));
 }
 
-safe_beside : (f : Files) (out : Path) (answer : List ℕ) (place : Path) (n : ℕ) (t : FileState) → IsPartPlace f out place → f.now.stands place ≡ None → place_of f out ≢ place → DiffersAt place f.now t
-    → t.stands place ≡ Some n → (t.file n).bytes ≡ [] → ((m : ℕ) → f.now.stands (place_of f out) ≡ Some m → (t.file n).mode ≡ private_mode) → IsSafe f out answer t
-safe_beside f out answer place n t part free two d here empty private =
-    let old : KeepsFile (place_of f out) f.now t = λ n is. d.files n (place_of f out, is) (d.own (place_of f out) n two is).0 in
-    let before : IsAsBefore (place_of f out) f.now t = record { name = d.names (place_of f out) two; file = old } in
+-- a new file beside, since f
+pub record IsNewBeside (f : Files) (path part : Path) (n : ℕ) (t : FileState) : Type 0 where
+  pub path_plain : f.paths.is_plain path ≡ true
+  pub part_plain : f.paths.is_plain part ≡ true
+  pub two : place_of f path ≢ place_of f part
+  pub place : IsPartPlace f path (place_of f part)
+  pub made : Made (place_of f part) n f.now t
+  pub differs : DiffersAt (place_of f part) f.now t
+
+pub new_beside : (f a : Files) (path part : Path) (n : ℕ) (t : FileState) → IsBeside f path part → a.now ≡ f.now → a.paths ≡ f.paths → a.paths.is_plain part ≡ true → Made (place_of a part) n a.now t
+    → IsNewBeside f path part n t
+new_beside f a path part n t beside same p plain m =
+    let plain_now = sym (ap (λ (x : Paths). x.is_plain part) p) ∙ plain in
+    let at = subst (λ (x : Paths). Made (x.place part) n a.now t) p m in
+    let made = subst (λ (s : FileState). Made (place_of f part) n s t) same at in
     record {
-      names = λ p away beside. d.names p (λ e. beside (subst (IsPartPlace f out) (sym e) part));
-      files = λ n there other. d.files n there (λ e. let x = sym free ∙ e in cc);
+      path_plain = beside.plain;
+      part_plain = plain_now;
+      two = λ e. beside.apart plain_now (sym e);
+      place = a_part f path part beside plain_now made.free;
+      made = made;
+      differs = made_differs (place_of f part) n f.now t made;
+    }
+
+safe_beside : (f : Files) (path part : Path) (answer : List ℕ) (n : ℕ) (t : FileState) → IsNewBeside f path part n t
+    → ((m : ℕ) → f.now.stands (place_of f path) ≡ Some m → (t.file n).mode ≡ private_mode) → IsSafe f path answer t
+safe_beside f path part answer n t new private =
+    let out = place_of f path in
+    let place = place_of f part in
+    let d = new.differs in
+    let old : KeepsFile out f.now t = λ n is. d.files n (out, is) (d.own out n new.two is).0 in
+    let before : IsAsBefore out f.now t = record { name = d.names out new.two; file = old } in
+    record {
+      names = λ p away beside. d.names p (λ e. beside (subst (IsPartPlace f path) (sym e) new.place));
+      files = λ n there other. d.files n there (λ e. let x = sym new.made.free ∙ e in cc);
       never_lost = λ room. inl (inl before);
       whole = λ give. inl before;
       old = λ give. old;
       narrow = λ p beside. elim (same_place_or_not p place) [
         | inl e ↦ λ k m there is. inl (
-            let one : Some n ≡ Some k = sym here ∙ ap t.stands (sym e) ∙ there in
+            let one : Some n ≡ Some k = sym new.made.here ∙ ap t.stands (sym e) ∙ there in
             let same : n ≡ k = cc in
-            subst (λ (i : ℕ). ((t.file i).bytes ≡ []) × ((t.file i).mode ≡ private_mode)) same (empty, private m is))
-        | inr other ↦ narrow_free f out p t beside (λ away. d.names p other)
+            subst (λ (i : ℕ). ((t.file i).bytes ≡ []) × ((t.file i).mode ≡ private_mode)) same (new.made.bytes, private m is))
+        | inr other ↦ narrow_free f path p t beside (λ away. d.names p other)
       ];
     }
-
--- a new file beside, since f
-pub made_beside : (f a : Files) (part : Path) (n : ℕ) (t : FileState) → a.now ≡ f.now → a.paths ≡ f.paths → Made (place_of a part) n a.now t → Made (place_of f part) n f.now t
-made_beside f a part n t same p m =
-    subst (λ (s : FileState). Made (place_of f part) n s t) same (subst (λ (x : Path). Made x n a.now t) (ap (λ (y : Paths). y.place part) p) m)
 
 -- a try to make a file beside
 pub trying : (f a b : Files) (path part : Path) (answer : List ℕ) (is_private : Bool) → IsBeside f path part → a.now ≡ f.now
@@ -104,86 +127,64 @@ trying f a b path part answer is_private beside same private p q =
     goes_on f a b (IsSafe f path answer) (λ t. Same a.now t ⊎ ((n : ℕ) × (a.paths.is_plain part ≡ true) × MadeAs is_private (place_of a part) n a.now t)) p q
     (λ t m. elim m [
       | inl is ↦ safe_at_first f path answer t (subst (λ (s : FileState). Same s t) same is)
-      | inr made ↦
-          let plain = sym (ap (λ (x : Paths). x.is_plain part) p.same_paths) ∙ made.1 in
-          let new = made_beside f a part made.0 t same p.same_paths made.2.made in
-          safe_beside f path answer (place_of f part) made.0 t (a_part f path part beside plain new.free) new.free (λ e. beside.apart plain (sym e)) (made_differs (place_of f part) made.0 f.now t new) new.here new.bytes (λ m is. made.2.mode (private m is))
+      | inr made ↦ safe_beside f path part answer made.0 t (new_beside f a path part made.0 t beside same p.same_paths made.1 made.2.made) (λ m is. made.2.mode (private m is))
     ])
 
 -- the new file beside is a part
-pub has_part : (f a b : Files) (path part : Path) (n : ℕ) → IsBeside f path part → a.paths ≡ f.paths → b.paths ≡ a.paths → a.paths.is_plain part ≡ true
-    → Made (place_of a part) n a.now b.now → HasPartFile b part path n
-has_part f a b path part n beside p q plain made =
-    let place_b = λ (x : Path). ap (λ (y : Paths). y.place x) q in
-    let place_a = λ (x : Path). ap (λ (y : Paths). y.place x) p in
-    record {
-      part_plain = ap (λ (y : Paths). y.is_plain part) q ∙ plain;
-      path_plain = ap (λ (y : Paths). y.is_plain path) (q ∙ p) ∙ beside.plain;
-      two = λ e. beside.apart (sym (ap (λ (y : Paths). y.is_plain part) p) ∙ plain) (sym (place_b part ∙ place_a part) ∙ e ∙ place_b path ∙ place_a path);
-      here = ap b.now.stands (place_b part) ∙ made.here;
-      only = λ x e. elim (same_place_or_not x (place_of a part)) [ inl is ↦ is ∙ sym (place_b part) | inr away ↦ absurd (made.own x (sym (made.names x away) ∙ e)) ];
-    }
+pub has_part : (f b : Files) (path part : Path) (n : ℕ) → b.paths ≡ f.paths → IsNewBeside f path part n b.now → HasPartFile b part path n
+has_part f b path part n p new = carry_file (record b { paths = f.paths }) b part path n p refl (record {
+  part_plain = new.part_plain;
+  path_plain = new.path_plain;
+  two = λ e. new.two (sym e);
+  here = new.made.here;
+  only = λ x e. elim (same_place_or_not x (place_of f part)) [ inl is ↦ is | inr away ↦ absurd (new.made.own x (sym (new.made.names x away) ∙ e)) ];
+})
 
 -- what is brought by way of the new file is safe
-pub bringing : (f a b c : Files) (path part : Path) (n : ℕ) (answer : List ℕ) (D : Type 0) → IsBeside f path part → a.now ≡ f.now → a.paths ≡ f.paths
-    → a.paths.is_plain part ≡ true → Made (place_of a part) n a.now b.now → (CanGive f path → D)
+pub bringing : (f b c : Files) (path part : Path) (n : ℕ) (answer : List ℕ) (D : Type 0) → IsNewBeside f path part n b.now → (CanGive f path → D)
     → Passes f b (IsSafe f path answer) → Passes b c (Brings (place_of b part) (place_of b path) answer D b.now)
     → Passes f c (IsSafe f path answer)
-bringing f a b c path part n answer D beside same pa plain made give p q =
-    let two : place_of f path ≢ place_of f part = λ e. beside.apart (sym (ap (λ (y : Paths). y.is_plain part) pa) ∙ plain) (sym e) in
-    let place_b = λ (x : Path). ap (λ (y : Paths). y.place x) p.same_paths in
-    let new = made_beside f a part n b.now same pa made in
-    let is_part : IsPartPlace f path (place_of f part) = a_part f path part beside (sym (ap (λ (y : Paths). y.is_plain part) pa) ∙ plain) new.free in
-    let d = made_differs (place_of f part) n f.now b.now new in
-    let q₁ = subst (λ (x : Path). Passes b c (Brings x (place_of b path) answer D b.now)) (place_b part) q in
-    let q₂ = subst (λ (x : Path). Passes b c (Brings (place_of f part) x answer D b.now)) (place_b path) q₁ in
-    goes_on f b c (IsSafe f path answer) (Brings (place_of f part) (place_of f path) answer D b.now) p q₂
-    (λ t h₀.
-    let h = carry_brings (place_of f part) (place_of f path) answer D D f.now b.now t two d (λ x. x) h₀ in
-    record {
-      names = λ x away other. h.names x (λ e. other (subst (IsPartPlace f path) (sym e) is_part)) away;
-      files = λ k there other. h.files k there (λ e. let x = sym new.free ∙ e in cc) other;
-      never_lost = λ room. elim h.safe [ inl w ↦ inl w | inr beside' ↦ inr (place_of f part, is_part, beside') ];
+bringing f b c path part n answer D new give p q =
+    let place = place_of f part in
+    let out = place_of f path in
+    goes_on f b c (IsSafe f path answer) (Brings place out answer D f.now) p (brings_since f b c part path answer D D p.same_paths new.two new.differs (λ x. x) q)
+    (λ t h. record {
+      names = λ x away other. h.names x (λ e. other (subst (IsPartPlace f path) (sym e) new.place)) away;
+      files = λ k there other. h.files k there (λ e. let x = sym new.made.free ∙ e in cc) other;
+      never_lost = λ room. elim h.safe [ inl w ↦ inl w | inr beside ↦ inr (place, new.place, beside) ];
       whole = λ can. h.whole (give can);
       old = λ can. h.old (give can);
-      narrow = λ x part'. elim (same_place_or_not x (place_of f part)) [
-        | inl e ↦ subst (λ (y : Path). IsNarrow (place_of f path) y f.now t) (sym e) h.narrow
+      narrow = λ x part'. elim (same_place_or_not x place) [
+        | inl e ↦ subst (λ (y : Path). IsNarrow out y f.now t) (sym e) h.narrow
         | inr other ↦ narrow_free f path x t part' (λ away. h.names x other away)
       ];
     })
 
-pub delivered : (f a b c : Files) (path part : Path) (n : ℕ) (answer : List ℕ) (D P : Type 0) → IsBeside f path part → a.now ≡ f.now → a.paths ≡ f.paths → b.paths ≡ f.paths
-    → a.paths.is_plain part ≡ true → Made (place_of a part) n a.now b.now → (CanGive f path → D) → P ⊎ IsAlone (place_of f path) f.now
-    → Passes b c (Brings (place_of b part) (place_of b path) answer D b.now) → HasBrought (place_of b part) (place_of b path) answer D P b.now c.now → IsDelivered f path answer c.now
-delivered f a b c path part n answer D P beside same pa pb plain made give alone q h₀ =
-    let out = place_of f path in
-    let two : place_of f path ≢ place_of f part = λ e. beside.apart (sym (ap (λ (y : Paths). y.is_plain part) pa) ∙ plain) (sym e) in
-    let place_b = λ (x : Path). ap (λ (y : Paths). y.place x) pb in
-    let new = made_beside f a part n b.now same pa made in
-    let d = made_differs (place_of f part) n f.now b.now new in
-    let h₁ = subst (λ (x : Path). HasBrought x (place_of b path) answer D P b.now c.now) (place_b part) h₀ in
-    let h₂ = subst (λ (x : Path). HasBrought (place_of f part) x answer D P b.now c.now) (place_b path) h₁ in
-    let h = carry_brought (place_of f part) (place_of f path) answer D D P P f.now b.now c.now two d (λ x. x) (λ x. x) h₂ in
-    let l₁ = subst (λ (x : Path). Brings x (place_of b path) answer D b.now c.now) (place_b part) q.last in
-    let l₂ = subst (λ (x : Path). Brings (place_of f part) x answer D b.now c.now) (place_b path) l₁ in
+pub delivered : (f b c : Files) (path part : Path) (n : ℕ) (answer : List ℕ) (D P : Type 0) → b.paths ≡ f.paths → IsNewBeside f path part n b.now → (CanGive f path → D)
+    → P ⊎ IsAlone (place_of f path) f.now → Passes b c (Brings (place_of b part) (place_of b path) answer D b.now)
+    → HasBrought (place_of b part) (place_of b path) answer D P b.now c.now → IsDelivered f path answer c.now
+delivered f b c path part n answer D P paths new give alone q h₀ =
+    let place = place_of f part in
+    let h = brought_since f b part path answer D D P P c.now paths new.two new.differs (λ x. x) (λ x. x) h₀ in
+    let l = (brings_since f b c part path answer D D paths new.two new.differs (λ x. x) q).last in
     record {
       number = h.has.number;
       here = h.has.here;
       bytes = h.has.bytes;
       mode = h.has.mode;
       kept = λ room is. h.has.kept is;
-      together = λ k p is there. elim (same_place_or_not p out) [
+      together = λ k p is there. elim (same_place_or_not p (place_of f path)) [
         | inl e ↦ ap c.now.stands e
         | inr away ↦ elim alone [
           | inl in_place ↦
-              let other : p ≢ place_of f part = λ e. let x = sym new.free ∙ ap f.now.stands (sym e) ∙ there in cc in
-              l₂.names p other away ∙ d.names p other ∙ there ∙ sym (h.stays in_place k is)
+              let other : p ≢ place = λ e. let x = sym new.made.free ∙ ap f.now.stands (sym e) ∙ there in cc in
+              l.names p other away ∙ there ∙ sym (h.stays in_place k is)
           | inr only ↦ absurd (away (only k p is there))
         ]
       ];
-      clean = λ can p away. elim (same_place_or_not p (place_of f part)) [
-        | inl e ↦ ap c.now.stands e ∙ h.gone (give can) ∙ sym new.free ∙ ap f.now.stands (sym e)
-        | inr other ↦ l₂.names p other away ∙ d.names p other
+      clean = λ can p away. elim (same_place_or_not p place) [
+        | inl e ↦ ap c.now.stands e ∙ h.gone (give can) ∙ sym new.made.free ∙ ap f.now.stands (sym e)
+        | inr other ↦ l.names p other away
       ];
     }
 
@@ -191,7 +192,7 @@ delivered f a b c path part n answer D P beside same pa pb plain made give alone
 pub in_place : (f b c : Files) (path : Path) (answer : List ℕ) → (HasRoomBeside f path → ⊥) → b.now ≡ f.now → Passes f b (IsSafe f path answer)
     → Passes b c (Overwrites (place_of b path) b.now) → Passes f c (IsSafe f path answer)
 in_place f b c path answer none same p q =
-    let q₁ = subst (λ (x : Path). Passes b c (Overwrites x b.now)) (ap (λ (y : Paths). y.place path) p.same_paths) q in
+    let q₁ = subst (λ (x : Paths). Passes b c (Overwrites (x.place path) b.now)) p.same_paths q in
     let q₂ = subst (λ (s : FileState). Passes b c (Overwrites (place_of f path) s)) same q₁ in
     goes_on f b c (IsSafe f path answer) (Overwrites (place_of f path) f.now) p q₂
     (λ t h. record {
@@ -233,13 +234,12 @@ no_room f path part n low is plain taken closed room =
     cc
 
 -- what stands at OUT is what stood there when a file was made beside it
-pub made_keeps : (f a b : Files) (path part : Path) (n : ℕ) → IsBeside f path part → a.now ≡ f.now → a.paths ≡ f.paths → b.paths ≡ f.paths → a.paths.is_plain part ≡ true
-    → Made (place_of a part) n a.now b.now → (dress : Option Dress) → Dresses (place_of f path) dress f.now → Dresses (place_of b path) dress b.now
-made_keeps f a b path part n beside same pa pb plain made dress wears m is =
-    let two : place_of f path ≢ place_of f part = λ e. beside.apart (sym (ap (λ (y : Paths). y.is_plain part) pa) ∙ plain) (sym e) in
-    let d = made_differs (place_of f part) n f.now b.now (made_beside f a part n b.now same pa made) in
-    let was = sym (ap b.now.stands (ap (λ (y : Paths). y.place path) pb) ∙ d.names (place_of f path) two) ∙ is in
-    let file = d.files m (place_of f path, was) (d.own (place_of f path) m two was).0 in
+pub made_keeps : (f b : Files) (path part : Path) (n : ℕ) → b.paths ≡ f.paths → IsNewBeside f path part n b.now → (dress : Option Dress) → Dresses (place_of f path) dress f.now
+    → Dresses (place_of b path) dress b.now
+made_keeps f b path part n p new dress wears m is =
+    let d = new.differs in
+    let was = sym (ap (λ (x : Paths). b.now.stands (x.place path)) p ∙ d.names (place_of f path) new.two) ∙ is in
+    let file = d.files m (place_of f path, was) (d.own (place_of f path) m new.two was).0 in
     subst (λ (x : Stored). IsSomeAnd dress (λ d. d.mode ≡ x.mode)) (sym file) (wears m was)
 
 -- by the law that a file beside another stands at a place of its own

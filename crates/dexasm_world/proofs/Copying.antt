@@ -4,7 +4,7 @@ use Rattle.dexasm_world.specs.State.{Path, FileState, Stored, Files, Passes, pla
 use Rattle.dexasm_world.specs.Steps.{Same, Removed}
 use Rattle.dexasm_world.specs.Safe.{HasAnswer, IsNarrow}
 use Rattle.dexasm_world.specs.Parts.{Overwrites, HoldsBytes, HasPartFile, HasFullPart, Brings}
-use Rattle.dexasm_world.proofs.Passing.{weaker, goes_on}
+use Rattle.dexasm_world.proofs.Passing.{weaker, goes_on, removed_on}
 use Rattle.dexasm_world.proofs.States.{same_state}
 
 -- the part isn't OUT's file
@@ -12,9 +12,9 @@ pub part_is_other : (f : Files) (part path : Path) (n : ℕ) → HasPartFile f p
 part_is_other f part path n h e = h.two (sym (h.only (place_of f path) e))
 
 -- an answer is the same as long as its name and its file are
-pub answer_carries : (out : Path) (answer : List ℕ) (r : FileState) (place : Path) (s t : FileState) (a : HasAnswer out answer r place s) → t.stands place ≡ s.stands place → t.file a.number ≡ s.file a.number
-    → HasAnswer out answer r place t
-answer_carries out answer r place s t a name file = record {
+pub answer_carries : (out : Path) (answer : List ℕ) (r : FileState) (from to : Path) (s t : FileState) (a : HasAnswer out answer r from s) → t.stands to ≡ s.stands from → t.file a.number ≡ s.file a.number
+    → HasAnswer out answer r to t
+answer_carries out answer r from to s t a name file = record {
   number = a.number;
   here = name ∙ a.here;
   bytes = ap (λ (x : Stored). x.bytes) file ∙ a.bytes;
@@ -41,7 +41,7 @@ narrow_gone part out s t gone k m there is = absurd (let e : None ≡ Some k = s
 pub answer_beside : (f : Files) (part path : Path) (answer : List ℕ) (t : FileState) → HasFullPart f part path answer → Overwrites (place_of f path) f.now t
     → HasAnswer (place_of f path) answer f.now (place_of f part) t
 answer_beside f part path answer t h o =
-    answer_carries (place_of f path) answer f.now (place_of f part) f.now t (part_at_first f part path answer h) (o.names (place_of f part) h.stands.two)
+    answer_carries (place_of f path) answer f.now (place_of f part) (place_of f part) f.now t (part_at_first f part path answer h) (o.names (place_of f part) h.stands.two)
     (o.files h.number (place_of f part, h.stands.here) (part_is_other f part path h.number h.stands))
 
 pub copying : (f b : Files) (part path : Path) (answer : List ℕ) → HasFullPart f part path answer → Passes f b (Overwrites (place_of f path) f.now)
@@ -65,19 +65,20 @@ answer_from_holds out answer s t h = record { number = h.number; here = h.here; 
 
 -- and then the part is taken away
 pub copied : (f b c : Files) (part path : Path) (answer : List ℕ) → HasFullPart f part path answer → Passes f b (Overwrites (place_of f path) f.now)
-    → HoldsBytes (place_of f path) answer true f.now b.now → Passes b c (λ t. Same b.now t ⊎ Removed (place_of f part) b.now t)
+    → HoldsBytes (place_of f path) answer true f.now b.now → (b.paths.is_plain part ≡ true → Passes b c (λ t. Same b.now t ⊎ Removed (place_of b part) b.now t))
     → Passes f c (Brings (place_of f part) (place_of f path) answer ⊥ f.now)
 copied f b c part path answer h p holds q =
     let out = place_of f path in
     let beside = place_of f part in
     let at = answer_from_holds out answer f.now b.now holds in
-    goes_on f b c (Brings beside out answer ⊥ f.now) (λ t. Same b.now t ⊎ Removed beside b.now t) (copying f b part path answer h p) q
+    goes_on f b c (Brings beside out answer ⊥ f.now) (λ t. Same b.now t ⊎ Removed beside b.now t) (copying f b part path answer h p)
+    (removed_on f b c (Overwrites out f.now) part p h.stands.part_plain q)
     (λ t m. elim m [
       | inl same ↦ subst (Brings beside out answer ⊥ f.now) (sym (same_state b.now t same)) (copying f b part path answer h p).last
       | inr gone ↦ record {
         names = λ x away elsewhere. gone.names x away ∙ p.last.names x elsewhere;
         files = λ n there apart other. gone.files n ∙ p.last.files n there other;
-        safe = inl (inr (answer_carries out answer f.now out b.now t at (gone.names out (λ e. h.stands.two (sym e))) (gone.files at.number)));
+        safe = inl (inr (answer_carries out answer f.now out out b.now t at (gone.names out (λ e. h.stands.two (sym e))) (gone.files at.number)));
         whole = λ never. absurd never;
         old = λ never. absurd never;
         narrow = narrow_gone beside out f.now t gone.gone;

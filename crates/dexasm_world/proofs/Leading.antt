@@ -35,7 +35,7 @@ pub over_delivered : (f : Files) (out : Path) (answer : List ℕ) (t : FileState
 over_delivered f out answer t none o h = in_place_delivered f f out answer t none refl refl o h
 
 -- a link's target has room where the link has, and can be given where it can
-one_target : (f : Files) (out target : Path) → f.paths.is_plain out ≡ false → IsLinkTarget f out target → target_of f target ≡ target_of f out
+pub one_target : (f : Files) (out target : Path) → f.paths.is_plain out ≡ false → IsLinkTarget f out target → target_of f target ≡ target_of f out
 one_target f out target link t = target_plain f target t.plain ∙ t.is ∙ sym (target_link f out link)
 
 room_at_target : (f : Files) (out target : Path) → f.paths.is_plain out ≡ false → IsLinkTarget f out target → HasRoomBeside f out → HasRoomBeside f target
@@ -53,34 +53,27 @@ give_at_target f out target link t give = record {
   alone = λ n p there here. give.alone n p (sym (ap f.now.stands t.same) ∙ there) here ∙ sym t.same;
 }
 
-pub part_at_target : (f : Files) (out target p : Path) → f.paths.is_plain out ≡ false → IsLinkTarget f out target → IsPartPlace f target p → IsPartPlace f out p
-part_at_target f out target p link t part = record {
+-- a part's place is one for each path whose answer is written beside the same
+pub part_beside : (f : Files) (out target p : Path) → target_of f target ≡ target_of f out → IsPartPlace f target p → IsPartPlace f out p
+part_beside f out target p one part = record {
   number = part.number;
-  is = part.is ∙ ap (λ (x : Path). place_of f (part_path x part.number)) (one_target f out target link t);
-  plain = ap (λ (x : Path). f.paths.is_plain (part_path x part.number)) (sym (one_target f out target link t)) ∙ part.plain;
-  free = part.free;
-}
-
-part_of_link : (f : Files) (out target p : Path) → f.paths.is_plain out ≡ false → IsLinkTarget f out target → IsPartPlace f out p → IsPartPlace f target p
-part_of_link f out target p link t part = record {
-  number = part.number;
-  is = part.is ∙ ap (λ (x : Path). place_of f (part_path x part.number)) (sym (one_target f out target link t));
-  plain = ap (λ (x : Path). f.paths.is_plain (part_path x part.number)) (one_target f out target link t) ∙ part.plain;
+  is = part.is ∙ ap (λ (x : Path). place_of f (part_path x part.number)) one;
+  plain = ap (λ (x : Path). f.paths.is_plain (part_path x part.number)) (sym one) ∙ part.plain;
   free = part.free;
 }
 
 -- what is safe for the target is safe for the link
 safe_at_link : (f : Files) (out target : Path) (answer : List ℕ) (s : FileState) → f.paths.is_plain out ≡ false → IsLinkTarget f out target → IsSafe f target answer s → IsSafe f out answer s
 safe_at_link f out target answer s link t h = record {
-  names = λ p away beside. h.names p (λ e. away (e ∙ t.same)) (λ part. beside (part_at_target f out target p link t part));
+  names = λ p away beside. h.names p (λ e. away (e ∙ t.same)) (λ part. beside (part_beside f out target p (one_target f out target link t) part));
   files = λ n there other. h.files n there (λ e. other (ap f.now.stands (sym t.same) ∙ e));
   never_lost = λ room. elim (h.never_lost (room_at_target f out target link t room)) [
     | inl w ↦ inl (subst (λ (x : Path). IsWholeAt x answer f.now s) t.same w)
-    | inr b ↦ inr (b.0, part_at_target f out target b.0 link t b.1, subst (λ (x : Path). HasAnswer x answer f.now b.0 s) t.same b.2)
+    | inr b ↦ inr (b.0, part_beside f out target b.0 (one_target f out target link t) b.1, subst (λ (x : Path). HasAnswer x answer f.now b.0 s) t.same b.2)
   ];
   whole = λ give. subst (λ (x : Path). IsWholeAt x answer f.now s) t.same (h.whole (give_at_target f out target link t give));
   old = λ give n is. h.old (give_at_target f out target link t give) n (ap f.now.stands t.same ∙ is);
-  narrow = λ p part. subst (λ (x : Path). IsNarrow x p f.now s) t.same (h.narrow p (part_of_link f out target p link t part));
+  narrow = λ p part. subst (λ (x : Path). IsNarrow x p f.now s) t.same (h.narrow p (part_beside f target out p (sym (one_target f out target link t)) part));
 }
 
 pub delivered_at_link : (f : Files) (out target : Path) (answer : List ℕ) (s : FileState) → f.paths.is_plain out ≡ false → IsLinkTarget f out target → IsDelivered f target answer s → IsDelivered f out answer s

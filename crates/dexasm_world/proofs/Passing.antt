@@ -1,7 +1,8 @@
 -- Calls, one after another.
-use Rattle.std.proofs.Common.{Bool, ◌≡◌, refl, sym, ◌∙◌, ap, [], ◌∷◌, ◌++◌, append_assoc, arith}
+use Rattle.std.proofs.Common.{Bool, true, ◌≡◌, ◌⊎◌, refl, sym, ◌∙◌, ap, subst, [], ◌∷◌, ◌++◌, append_assoc, arith}
 use Rattle.std.proofs.lemmas.List.Elements.{All-nil, All-append, All-weaker}
 use Rattle.dexasm_world.specs.State.{Path, Paths, Files, Passes, FileState, place_of}
+use Rattle.dexasm_world.specs.Steps.{Same, Removed}
 
 -- nothing was called
 pub stays : (f : Files) (P : FileState → Type 0) → P f.now → Passes f f P
@@ -39,3 +40,8 @@ leads_on a b P path p = ap (λ (x : Paths). x.place path) p.same_paths
 
 pub plain_on : (a b : Files) (P : FileState → Type 0) (path : Path) (v : Bool) → Passes a b P → a.paths.is_plain path ≡ v → b.paths.is_plain path ≡ v
 plain_on a b P path v p h = ap (λ (x : Paths). x.is_plain path) p.same_paths ∙ h
+
+-- a name is taken away, of a path that leads where it led
+pub removed_on : (f b c : Files) (P : FileState → Type 0) (part : Path) → Passes f b P → f.paths.is_plain part ≡ true
+    → (b.paths.is_plain part ≡ true → Passes b c (λ t. Same b.now t ⊎ Removed (place_of b part) b.now t)) → Passes b c (λ t. Same b.now t ⊎ Removed (place_of f part) b.now t)
+removed_on f b c P part p plain q = subst (λ (x : Path). Passes b c (λ t. Same b.now t ⊎ Removed x b.now t)) (leads_on f b P part p) (q (plain_on f b P part true p plain))

@@ -1,9 +1,9 @@
-use Rattle.std.proofs.Common.{subst, Ok}
+use Rattle.std.proofs.Common.{inl, subst, Ok}
 use Rattle.std.proofs.lemmas.Result.{on_ok_weaker}
 use Rattle.dexasm_world.specs.Looks.{Looks}
 use Rattle.dexasm_world.specs.declared.world.Look.{Look}
 use Rattle.dexasm_world.proofs.Leading.{over_delivered, no_room_at_device, untouched}
-use Rattle.dexasm_world.proofs.Leaving.{leaves_clean}
+use Rattle.dexasm_world.proofs.Leaving.{leaves_tidy}
 use Rattle.dexasm_world.proofs.delivery.deliver_over.Goals as goal
 
 pub returns-in-Device-clause-done : goal.returns-in-Device-clause-done
@@ -14,7 +14,7 @@ returns-in-Device-clause-done g c k =
 
 pub returns-in-Device-clause-left : goal.returns-in-Device-clause-left
 returns-in-Device-clause-left g c k =
-    leaves_clean (g.W.World.files c.args.world.now) (g.W.World.files c.overwrite.new.world) c.args.path.now c.args.answer.now c.overwrite.result (c.overwrite.ensures.moments k).last.names
+    leaves_tidy (g.W.World.files c.args.world.now) (g.W.World.files c.overwrite.new.world) c.args.path.now c.args.answer.now c.overwrite.result (inl (c.overwrite.ensures.moments k).last.names)
 
 pub returns-else-may_write-clause-moments : goal.returns-else-may_write-clause-moments
 returns-else-may_write-clause-moments g c k = untouched (g.W.World.files c.args.world.now) c.args.path.now c.args.answer.now

@@ -1,98 +1,60 @@
-use Rattle.std.proofs.Common.{◌⊎◌, inl, ◌∙◌, sym, subst, true}
-use Rattle.std.specs.Prelude.{OnOk}
+use Rattle.std.proofs.Common.{rules, ◌≡◌, inl, ◌∙◌, sym, subst, true}
 use Rattle.std.proofs.lemmas.Result.{on_ok_weaker}
-use Rattle.dexasm_world.specs.State.{Path, FileState, Passes, place_of}
+use Rattle.dexasm_world.specs.State.{FileState, Files, Passes, place_of}
 use Rattle.dexasm_world.specs.Safe.{HasAnswer}
-use Rattle.dexasm_world.specs.Steps.{Same, Removed}
-use Rattle.dexasm_world.proofs.Passing.{leads_on, plain_on}
+use Rattle.dexasm_world.specs.Looks.{CanReplace}
 use Rattle.dexasm_world.proofs.States.{same_state}
-use Rattle.dexasm_world.proofs.Failing.{fixed_was}
 use Rattle.dexasm_world.proofs.Leaving.{gone_since, leaves_since}
-use Rattle.dexasm_world.proofs.Installing.{replacing, removing, brings, otherwise, brought_otherwise, can_replace, carry_part}
+use Rattle.dexasm_world.proofs.Installing.{IsFine, replacing, removing, otherwise, brought_otherwise, can_replace, carry_part}
+use Rattle.dexasm_world.proofs.delivery.install.Given as given
 use Rattle.dexasm_world.proofs.delivery.install.Goals as goal
+use Rattle.dexasm_world.proofs.delivery.install.Goals.{After-replace}
+
+-- after a try to put the part in OUT's place
+module _ (g : given.Over) (c : After-replace g) (k : g.W.World.is_known ≡ true) where
+  abbrev first : Files
+  first = g.W.World.files c.args.world.now
+
+  abbrev after : Files
+  after = g.W.World.files c.replace.new.self
+
+  can : CanReplace first c.args.part.now c.args.path.now
+  can = can_replace first c.args.part.now c.args.path.now (c.requires k).number (c.requires k).stands
+
+  fine : Passes first after (IsFine (place_of first c.args.part.now) (place_of first c.args.path.now) c.args.answer.now first.now)
+  fine = replacing first after c.args.part.now c.args.path.now c.args.answer.now (c.requires k) (c.replace.ensures.moments k)
 
 pub copy_over-requires : goal.copy_over-requires
 copy_over-requires g c k =
-    let f = g.W.World.files c.args.world.now in
-    let b = g.W.World.files c.replace.new.self in
-    let h = c.requires k in
-    let can = can_replace f c.args.part.now c.args.path.now h.number h.stands in
-    let fixed = fixed_was (Unit {0}) f b c.args.path.now c.in-Err-Fixed.field-0 c.in-Err-Fixed.field-0-is (c.in-Err-Fixed.ensures.why k can) in
-    carry_part f b c.args.part.now c.args.path.now c.args.answer.now (c.replace.ensures.moments k can).same_paths (same_state f.now b.now fixed.1) h
+    let m = (goal.at.copy_over-requires g c).After-replace in
+    let fixed = rw c.in-Err-Fixed.field-0-is at (c.in-Err-Fixed.ensures.why k (can g m k)) in
+    carry_part (first g m k) (after g m k) c.args.part.now c.args.path.now c.args.answer.now (fine g m k).same_paths (same_state (first g m k).now (after g m k).now fixed.1) (c.requires k)
 
-pub returns-in-Err-Fixed-clause-moments : goal.returns-in-Err-Fixed-clause-moments
-returns-in-Err-Fixed-clause-moments g c k =
-    let f = g.W.World.files c.args.world.now in
-    let b = g.W.World.files c.replace.new.self in
+pub returns-in-Err-Fixed : goal.returns-in-Err-Fixed
+returns-in-Err-Fixed g c =
+    let m = (goal.at.returns-in-Err-Fixed g c).After-replace in
     let d = g.W.World.files c.copy_over.new.world in
-    let part = c.args.part.now in
-    let path = c.args.path.now in
-    let h = c.requires k in
-    let can = can_replace f part path h.number h.stands in
-    let fixed = fixed_was (Unit {0}) f b c.args.path.now c.in-Err-Fixed.field-0 c.in-Err-Fixed.field-0-is (c.in-Err-Fixed.ensures.why k can) in
-    let fine = replacing f b part path c.args.answer.now h (c.replace.ensures.moments k can) in
-    otherwise f b d (place_of f part) (place_of f path) (place_of b part) (place_of b path) c.args.answer.now _ (leads_on f b _ part fine) (leads_on f b _ path fine)
-    (λ is. let e = sym fixed.0 ∙ is in cc) (same_state f.now b.now fixed.1) fine (c.copy_over.ensures.moments k)
-
-pub returns-in-Err-Fixed-clause-done : goal.returns-in-Err-Fixed-clause-done
-returns-in-Err-Fixed-clause-done g c k =
-    let f = g.W.World.files c.args.world.now in
-    let b = g.W.World.files c.replace.new.self in
-    let d = g.W.World.files c.copy_over.new.world in
-    let part = c.args.part.now in
-    let path = c.args.path.now in
-    let h = c.requires k in
-    let can = can_replace f part path h.number h.stands in
-    let fixed = fixed_was (Unit {0}) f b c.args.path.now c.in-Err-Fixed.field-0 c.in-Err-Fixed.field-0-is (c.in-Err-Fixed.ensures.why k can) in
-    let fine = replacing f b part path c.args.answer.now h (c.replace.ensures.moments k can) in
-    on_ok_weaker c.copy_over.result (brought_otherwise (place_of f part) (place_of f path) (place_of b part) (place_of b path) c.args.answer.now _ f.now b.now d.now
-    (leads_on f b _ part fine) (leads_on f b _ path fine) (λ is. let e = sym fixed.0 ∙ is in cc) (same_state f.now b.now fixed.1)) (c.copy_over.ensures.done k)
+    let fixed = λ (k : g.W.World.is_known ≡ true). rw c.in-Err-Fixed.field-0-is at (c.in-Err-Fixed.ensures.why k (can g m k)) in
+    let same = λ (k : g.W.World.is_known ≡ true). same_state (first g m k).now (after g m k).now (fixed k).1 in
+    record {
+      moments = λ k. otherwise (first g m k) (after g m k) d c.args.part.now c.args.path.now c.args.answer.now _ (λ is. let e = sym (fixed k).0 ∙ is in cc) (same k) (fine g m k) (c.copy_over.ensures.moments k);
+      done = λ k. on_ok_weaker c.copy_over.result (brought_otherwise (first g m k) (after g m k) c.args.part.now c.args.path.now c.args.answer.now _ d.now
+          (λ is. let e = sym (fixed k).0 ∙ is in cc) (same k) (fine g m k).same_paths) (c.copy_over.ensures.done k);
+      cause = search rules;
+      left = λ k. leaves_since (first g m k) (after g m k) d c.args.part.now c.args.path.now c.args.answer.now ⊥ _ c.copy_over.result (fine g m k).same_paths (fine g m k).no_fewer
+          (subst (λ (s : FileState). HasAnswer (place_of (first g m k) c.args.path.now) c.args.answer.now s (place_of (first g m k) c.args.part.now) d.now) (same k))
+          (λ never is. let e = sym (fixed k).0 ∙ is in cc) (c.copy_over.ensures.left k);
+    }
 
 pub returns-in-Err-Failed-clause-moments : goal.returns-in-Err-Failed-clause-moments
 returns-in-Err-Failed-clause-moments g c k =
-    let f = g.W.World.files c.args.world.now in
-    let b = g.W.World.files c.replace.new.self in
-    let d = g.W.World.files c.remove.new.self in
-    let part = c.args.part.now in
-    let path = c.args.path.now in
-    let h = c.requires k in
-    let can = can_replace f part path h.number h.stands in
-    let fine = replacing f b part path c.args.answer.now h (c.replace.ensures.moments k can) in
-    let removed = c.remove.ensures.moments k (plain_on f b _ part true fine h.stands.part_plain) in
-    let at = subst (λ (x : Path). Passes b d (λ t. Same b.now t ⊎ Removed x b.now t)) (leads_on f b _ part fine) removed in
-    brings f d (place_of f part) (place_of f path) c.args.answer.now _ (removing f b d (place_of f part) (place_of f path) c.args.answer.now (λ e. h.stands.two (sym e)) fine at)
+    let m = (goal.at.returns-in-Err-Failed-clause-moments g c).After-replace in
+    removing (first g m k) (after g m k) (g.W.World.files c.remove.new.self) c.args.part.now _ c.args.answer.now _ (λ e. (c.requires k).stands.two (sym e)) (c.requires k).stands.part_plain (fine g m k) (c.remove.ensures.moments k)
 
 pub returns-in-Ok-clause-left : goal.returns-in-Ok-clause-left
-returns-in-Ok-clause-left g c k =
-    let f = g.W.World.files c.args.world.now in
-    let h = c.requires k in
-    inl (c.in-Ok.ensures.moved k (can_replace f c.args.part.now c.args.path.now h.number h.stands)).gone
-
-pub returns-in-Err-Fixed-clause-left : goal.returns-in-Err-Fixed-clause-left
-returns-in-Err-Fixed-clause-left g c k =
-    let f = g.W.World.files c.args.world.now in
-    let b = g.W.World.files c.replace.new.self in
-    let d = g.W.World.files c.copy_over.new.world in
-    let part = c.args.part.now in
-    let path = c.args.path.now in
-    let h = c.requires k in
-    let can = can_replace f part path h.number h.stands in
-    let fixed = fixed_was (Unit {0}) f b c.args.path.now c.in-Err-Fixed.field-0 c.in-Err-Fixed.field-0-is (c.in-Err-Fixed.ensures.why k can) in
-    let fine = replacing f b part path c.args.answer.now h (c.replace.ensures.moments k can) in
-    leaves_since f b d (place_of f part) (place_of f path) (place_of b part) (place_of b path) c.args.answer.now ⊥ _ c.copy_over.result (leads_on f b _ part fine) (leads_on f b _ path fine) fine.no_fewer
-    (λ a. subst (λ (s : FileState). HasAnswer (place_of f path) c.args.answer.now s (place_of f part) d.now) (same_state f.now b.now fixed.1) a)
-    (λ never is. let e = sym fixed.0 ∙ is in cc) (c.copy_over.ensures.left k)
+returns-in-Ok-clause-left g c k = inl (c.in-Ok.ensures.moved k (can g (goal.at.returns-in-Ok-clause-left g c).After-replace k)).gone
 
 pub returns-in-Err-Failed-clause-left : goal.returns-in-Err-Failed-clause-left
 returns-in-Err-Failed-clause-left g c k =
-    let f = g.W.World.files c.args.world.now in
-    let b = g.W.World.files c.replace.new.self in
-    let d = g.W.World.files c.remove.new.self in
-    let part = c.args.part.now in
-    let path = c.args.path.now in
-    let h = c.requires k in
-    let can = can_replace f part path h.number h.stands in
-    let fine = replacing f b part path c.args.answer.now h (c.replace.ensures.moments k can) in
-    let done = c.remove.ensures.removed k (plain_on f b _ part true fine h.stands.part_plain) in
-    let at = subst (λ (x : Path). OnOk c.remove.result (Removed x b.now d.now)) (leads_on f b _ part fine) done in
-    inl (gone_since f b d _ c.remove.result fine.no_fewer at (c.remove.ensures.left k))
+    let m = (goal.at.returns-in-Err-Failed-clause-left g c).After-replace in
+    inl (gone_since (first g m k) (after g m k) (g.W.World.files c.remove.new.self) _ c.args.part.now c.remove.result (fine g m k) (c.requires k).stands.part_plain (c.remove.ensures.removed k) (c.remove.ensures.left k))
