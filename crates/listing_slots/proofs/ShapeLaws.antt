@@ -1,5 +1,5 @@
 -- Words have one shape.
-use Rattle.std.proofs.Common.{◌≡◌, ℕ, zero, suc, ◌+◌, Bool, true, false, inl, inr, ◌⊎◌, List, [], ◌∷◌, ◌++◌, length, get_or, drop, map, Option, Some, None, refl, sym, ap, subst, ◌∙◌, append_assoc, arith, add-one}
+use Rattle.std.proofs.Common.{◌≡◌, ℕ, zero, suc, ◌+◌, Bool, true, false, inl, inr, ◌⊎◌, List, [], ◌∷◌, ◌++◌, length, get_or, drop, map, option_map, Option, Some, None, refl, sym, ap, subst, ◌∙◌, append_assoc, arith, add-one}
 use Rattle.std.specs.Prelude.{◌==◌, if◌then◌else◌, Result, Ok, Err, IfOk, IfSome, IfNone}
 use Rattle.dex_base.specs.declared.fault.Fault.{Fault}
 use Rattle.std.specs.List.{list_all}
@@ -16,7 +16,7 @@ use Rattle.listing_slots.specs.declared.slot.Slot.{Slot}
 use Rattle.listing_slots.specs.declared.slot.Slot.TheVariants as slot
 use Rattle.listing_slots.specs.Keys.{key_text, same, find_key, lead_keys, payload_keys}
 use Rattle.listing_slots.specs.Slots.{has_form, have_forms}
-use Rattle.listing_slots.specs.Shapes.{Shape, Row, BeginsWithKey, BeginsWithInsn, IsPlainRow, IsInsnRow, HasShape, HasBareShape, key_row, payload_row, onto_row, pairs, target}
+use Rattle.listing_slots.specs.Shapes.{Shape, Row, BeginsWithKey, BeginsWithInsn, IsPlainRow, IsInsnRow, IsKeyed, HasShape, HasBareShape, key_row, payload_row, onto_row, pairs, target}
 use Rattle.listing_slots.proofs.KeyLaws.{same_true}
 use Rattle.std.proofs.lemmas.Bool.{and_parts}
 
@@ -154,6 +154,9 @@ pub labelled_shape : (ws after : List Word) (text label : List ℕ) (row : Row) 
     → HasShape ws (record { kind = row.0; label = label; slots = row.1; words = drop 2 ws })
 labelled_shape ws after text label row e f n b = rw (e, f) (inl (record { label = label; after = after; words = refl; natural = n; row = row; insn = b; is = refl }))
 
+pub keyed_line : (ws after : List Word) (text : List ℕ) (row : Row) → ws ≡ plain_word text ∷ after → BeginsWithKey text after row → IsKeyed ws (record { kind = row.0; label = []; slots = row.1; words = drop 1 ws })
+keyed_line ws after text row e k = record { text = text; after = after; words = e; row = row; keyed = k; is = rw e refl }
+
 pub shapes_one : (ws : List Word) (s t : Shape) → HasShape ws s → HasShape ws t → s ≡ t
 shapes_one ws s t p q = elim p [
   | inl a ↦ elim q [
@@ -198,6 +201,15 @@ keyed_formless text ws lead k old new e f h forms row b =
     let s : row ≡ (k, new) = cc in
     let t = rw s at b.forms in
     let u = forms ∙ t in cc
+
+-- what holds of a kind holds of what is made of it
+pub made_all : {F : Type 0} (o : Option Kind) (r : Option F) (f : Kind → F) (P : Kind → Type 0) (Q : F → Type 0) → r ≡ option_map f o → IfSome o P → ((k : Kind) → P k → Q (f k)) → IfSome r Q
+made_all None r f P Q e p each = rw e tt
+made_all (Some k) r f P Q e p each = rw e (each k p)
+
+pub made_none : {F : Type 0} (o : Option Kind) (r : Option F) (f : Kind → F) (M N : Type 0) → r ≡ option_map f o → IfNone o M → (M → N) → IfNone r N
+made_none None r f M N e none so = rw e (so none)
+made_none (Some k) r f M N e none so = rw e tt
 
 pub leadless : (text : List ℕ) (ws : List Word) → None ≡ find_key lead_keys text → (row : Row) → BeginsWithKey text ws row → ⊥
 leadless text ws e row b = let f = b.found ∙ sym e in cc

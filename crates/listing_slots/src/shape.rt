@@ -1,10 +1,11 @@
 //! From a line's words to its shape: what it is, and a slot for each word after its keywords.
 
-ghost use Rattle.std.specs.Prelude.{◌≡◌, ◌+◌, ◌∷◌, [], ◌++◌, false, List, Some, None, map, replicate, ℕ, length, IfOk, IfSome, IfNone, OnOk, IsOkUnless};
+ghost use Rattle.std.specs.Prelude.{◌≡◌, ◌+◌, ◌∷◌, [], ◌++◌, false, List, Some, None, map, option_map, replicate, ℕ, length, IfOk, IfSome, IfNone, OnOk, IsOkUnless};
 ghost use Rattle.dex_base.specs.Fault.{memory};
 ghost use Rattle.dex_insn.specs.Opcodes.{format_of, index_kind_of};
 ghost use Rattle.dex_insn.specs.Mnemonics.{IsNamed};
 ghost use Rattle.listing_words.specs.View.{word};
+ghost use Rattle.listing_slots.specs.Keys.{find_key, lead_keys};
 ghost use Rattle.listing_slots.specs.Shapes.{Shape, Row, HasShape, HasBareShape, BeginsWithKey, BeginsWithInsn, IsPlainRow, IsInsnRow, plain_slots, key_row, payload_row, onto_row, is_first_key, pairs, target};
 ghost use Rattle.listing_slots.specs.ShapeView.{shape};
 ghost use Rattle.listing_slots.specs.declared.key.Key.TheVariants as Key;
@@ -201,20 +202,17 @@ fn label_of(text: &[u8]) -> Option<&[u8]>
     if *last == b':' { Some(label) } else { None }
 }
 
-/// What a line is whose first word is a keyword, and its slots.
+/// What a line is whose first word is this keyword, and its slots.
 fn read_keyed(
-    text: &[u8],
+    key: Key,
     after: &[Word<'_, '_>],
     slots: &mut Vec<Slot>,
 ) -> Result<Option<Kind>, Fault>
     requires { slots.old.items ≡ [] }
-    ensures found { IfOk result (λ r. IfSome r (λ kind. BeginsWithKey text.now (map word after.now) (kind, slots.new.items))) }
-    ensures none { IfOk result (λ r. IfNone r ((row : Row) → BeginsWithKey text.now (map word after.now) row → ⊥)) }
+    ensures found { IfOk result (λ r. IfSome r (λ kind. (text : List ℕ) → Some key ≡ find_key lead_keys text → BeginsWithKey text (map word after.now) (kind, slots.new.items))) }
+    ensures none { IfOk result (λ r. IfNone r ((text : List ℕ) (row : Row) → Some key ≡ find_key lead_keys text → BeginsWithKey text (map word after.now) row → ⊥)) }
     ensures memory { IsOkUnless result memory }
 {
-    let Some(key) = lead_key(text) else {
-        return Ok(None);
-    };
     let Some(kind) = push_key(slots, key, after)? else {
         return Ok(None);
     };
@@ -246,6 +244,14 @@ fn read_labelled(after: &[Word<'_, '_>], slots: &mut Vec<Slot>) -> Result<Option
     Ok(None)
 }
 
+/// A line of this kind, if it is one, with what stands before its slots.
+fn found(kind: Option<Kind>, label: &[u8], lead: usize) -> Option<Found<'_>>
+    ensures { result ≡ option_map (λ k. record { kind = k; label = label.entry; lead = lead }) kind }
+{
+    let kind = kind?;
+    Some(Found { kind, label, lead })
+}
+
 /// The shape of a line of these words; its slots are put in place of those that are there.
 pub fn read_shape<'a, 'b>(
     words: &[Word<'a, 'b>],
@@ -264,26 +270,15 @@ pub fn read_shape<'a, 'b>(
         return Ok(None);
     };
     let Some(label) = label_of(text) else {
-        let Some(kind) = read_keyed(text, after, slots)? else {
+        let Some(key) = lead_key(text) else {
             return Ok(None);
         };
-        return Ok(Some(Found {
-            kind,
-            label: &[],
-            lead: 1,
-        }));
+        return Ok(found(read_keyed(key, after, slots)?, &[], 1));
     };
     if !is_natural(label) {
         return Ok(None);
     }
-    let Some(kind) = read_labelled(after, slots)? else {
-        return Ok(None);
-    };
-    Ok(Some(Found {
-        kind,
-        label,
-        lead: 2,
-    }))
+    Ok(found(read_labelled(after, slots)?, label, 2))
 }
 
 /// The shape of a line of these words where instructions don't give themselves numbers; its slots are put in place of those
@@ -304,22 +299,8 @@ pub fn read_bare_shape<'a, 'b>(
     let Word::Plain(text) = *first else {
         return Ok(None);
     };
-    let Some(_key) = lead_key(text) else {
-        let Some(kind) = read_labelled(words, slots)? else {
-            return Ok(None);
-        };
-        return Ok(Some(Found {
-            kind,
-            label: &[],
-            lead: 1,
-        }));
-    };
-    let Some(kind) = read_keyed(text, after, slots)? else {
-        return Ok(None);
-    };
-    Ok(Some(Found {
-        kind,
-        label: &[],
-        lead: 1,
-    }))
+    match lead_key(text) {
+        Some(key) => Ok(found(read_keyed(key, after, slots)?, &[], 1)),
+        None => Ok(found(read_labelled(words, slots)?, &[], 1)),
+    }
 }
