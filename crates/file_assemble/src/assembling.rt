@@ -1,6 +1,6 @@
 //! From a program to the bytes of its file.
 //! Page: "Dalvik Executable format", "File layout".
-ghost use Rattle.std.specs.Prelude.{◌≡◌, ◌≢◌, ◌+◌, ◌<◌, ◌^◌, ◌++◌, IfOk, IfErr, OnOk, IsOkUnless, length};
+ghost use Rattle.std.specs.Prelude.{◌≡◌, ◌≢◌, ◌+◌, ◌<◌, ◌^◌, ◌++◌, IfOk, IfErr, OnOk, IsOkUnless, length, slice_index};
 ghost use Rattle.dex_base.specs.Fault.{memory};
 ghost use Rattle.file_layout.specs.Plan.{tables_end};
 ghost use Rattle.file_layout.specs.Tiles.{gap, zeros};
@@ -18,6 +18,7 @@ use crate::arrays::put_arrays;
 use crate::class_data::put_datas;
 use crate::class_defs::put_classes;
 use crate::codes::put_codes;
+use crate::placed::Placed;
 use crate::tables::name_rows;
 use crate::texts::put_strings;
 use crate::type_lists::put_lists;
@@ -135,28 +136,66 @@ impl Drop for Data {
     }
 }
 
+impl Data {
+    /// The data of parts that lie one after the other, the first from this byte on, each up to its end: type lists, code items, which
+    /// begin after the bytes that align them, texts, static values, class data.
+    ///
+    /// ```
+    /// let ends = [lists_end, codes_end, texts_end, arrays_end, datas_end];
+    /// let data = Data::laid(counts, tables_end, ends, lists, codes, texts, arrays, datas);
+    /// ```
+    pub fn laid(
+        rows: Rows,
+        begin: u32,
+        ends: [u32; 5],
+        lists: Placed,
+        codes: Placed,
+        texts: Placed,
+        arrays: Placed,
+        datas: Placed,
+    ) -> Self
+        requires { slice_index ends 0 + 3 < 2 ^ 32 }
+        ensures { result ≡ record {
+          plan = record {
+            rows = rows;
+            lists = record { items = lists.items; begin = begin; end = slice_index ends 0 };
+            codes = record { items = codes.items; begin = slice_index ends 0 + gap 4 (slice_index ends 0); end = slice_index ends 1 };
+            strings = record { items = texts.items; begin = slice_index ends 1; end = slice_index ends 2 };
+            arrays = record { items = arrays.items; begin = slice_index ends 2; end = slice_index ends 3 };
+            datas = record { items = datas.items; begin = slice_index ends 3; end = slice_index ends 4 };
+          };
+          lists = lists.places;
+          codes = codes.places;
+          texts = texts.places;
+          arrays = arrays.places;
+          datas = datas.places;
+        } }
+    {
+        let [lists_end, codes_end, texts_end, arrays_end, datas_end] = ends;
+        let padding = gap_after(lists_end as usize) as u32;
+        Data {
+            plan: Plan {
+                rows,
+                lists: part(lists.items, begin, lists_end),
+                codes: part(codes.items, lists_end + padding, codes_end),
+                strings: part(texts.items, codes_end, texts_end),
+                arrays: part(arrays.items, texts_end, arrays_end),
+                datas: part(datas.items, arrays_end, datas_end),
+            },
+            lists: lists.places,
+            codes: codes.places,
+            texts: texts.places,
+            arrays: arrays.places,
+            datas: datas.places,
+        }
+    }
+}
+
 /// A part that has so many items and lies from one byte to another.
-///
-/// ```
-/// let lists = part(placed.items, begin, out.len() as u32);
-/// ```
-pub fn part(items: u32, begin: u32, end: u32) -> Part
+fn part(items: u32, begin: u32, end: u32) -> Part
     ensures { result ≡ record { items = items; begin = begin; end = end } }
 {
     Part { items, begin, end }
-}
-
-/// The part of so many code items, which stand after the type lists: it begins at the first of them, after the bytes that align it.
-///
-/// ```
-/// let codes = codes_part(placed.items, lists_end, out.len() as u32); // from 4, where the lists end at 2
-/// ```
-pub fn codes_part(items: u32, lists_end: u32, end: u32) -> Part
-    requires { lists_end + 3 < 2 ^ 32 }
-    ensures { result ≡ record { items = items; begin = lists_end + gap 4 lists_end; end = end } }
-{
-    let padding = gap_after(lists_end as usize) as u32;
-    part(items, lists_end + padding, end)
 }
 
 /// Appends the parts of the data.
@@ -188,21 +227,8 @@ fn put_data(
     let arrays_end = out.len() as u32;
     let datas = put_datas(alloc, out, ranks, own, program, &codes.places)?;
     let datas_end = out.len() as u32;
-    Ok(Data {
-        plan: Plan {
-            rows: counts,
-            lists: part(lists.items, tables, lists_end),
-            codes: codes_part(codes.items, lists_end, codes_end),
-            strings: part(texts.items, codes_end, texts_end),
-            arrays: part(arrays.items, texts_end, arrays_end),
-            datas: part(datas.items, arrays_end, datas_end),
-        },
-        lists: lists.places,
-        codes: codes.places,
-        texts: texts.places,
-        arrays: arrays.places,
-        datas: datas.places,
-    })
+    let ends = [lists_end, codes_end, texts_end, arrays_end, datas_end];
+    Ok(Data::laid(counts, tables, ends, lists, codes, texts, arrays, datas))
 }
 
 /// The rows of the six tables.

@@ -36,7 +36,7 @@ mod assembled_laws;
 mod assembling;
 
 pub use assembled_laws::assembled_is_one;
-pub use assembling::{Data, assemble, codes_part, part, space};
+pub use assembling::{Data, assemble, space};
 pub use entries::{put_field, put_method};
 pub use index::{shorty_index, string_index};
 pub use placed::Placed;

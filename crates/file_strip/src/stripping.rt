@@ -28,9 +28,9 @@ use crate::texts::put_strings;
 use dex_base::{Fault, Seed, are_bytes, fault};
 use dex_container::Sections;
 use dex_insn::IndexKind;
-use file_assemble::{Data, codes_part, part, space};
+use file_assemble::{Data, space};
 use file_classes::class_count;
-use file_layout::{Plan, Rows, finish};
+use file_layout::{Rows, finish};
 use file_limits::plus;
 use file_renumber::Numbers;
 use std::alloc::Global;
@@ -86,21 +86,8 @@ fn put_data(
     let arrays_end = out.len() as u32;
     let datas = put_datas(alloc, out, numbers, sections, &codes.places)?;
     let datas_end = out.len() as u32;
-    Ok(Data {
-        plan: Plan {
-            rows: counts,
-            lists: part(lists.items, tables, lists_end),
-            codes: codes_part(codes.items, lists_end, codes_end),
-            strings: part(texts.items, codes_end, texts_end),
-            arrays: part(arrays.items, texts_end, arrays_end),
-            datas: part(datas.items, arrays_end, datas_end),
-        },
-        lists: lists.places,
-        codes: codes.places,
-        texts: texts.places,
-        arrays: arrays.places,
-        datas: datas.places,
-    })
+    let ends = [lists_end, codes_end, texts_end, arrays_end, datas_end];
+    Ok(Data::laid(counts, tables, ends, lists, codes, texts, arrays, datas))
 }
 
 /// The rows of the six tables, of which proto_ids has so many.

@@ -122,11 +122,11 @@ returns-clause-ok c =
     let e5 = c.len-datas_end.ensures ∙ c.put_datas.new.out.ok.0 in
     let at : Places = record { lists = c.in_ok-lists.lists.places.items; codes = c.in_ok-codes.codes.places.items; texts = c.in_ok-texts.texts.places.items; arrays = c.in_ok-arrays.arrays.places.items; datas = c.in_ok-datas.datas.places.items } in
     let d = rw c.deref.ensures.value at c.in_ok-datas.ensures.ok in
-    rw (c.part.ensures, c.codes_part.ensures, c.part-2.ensures, c.part-3.ensures, c.part-4.ensures, c.requires.counts, e0, e1, e2, e3, e4, e5)
+    rw (c.laid.ensures, c.requires.counts, e0, e1, e2, e3, e4, e5)
     (laid s p r c.args.out.now.items c.put_lists.new.out.items c.put_codes.new.out.items c.put_strings.new.out.items c.put_arrays.new.out.items c.put_datas.new.out.items at (record { lists = c.in_ok-lists.lists.items; codes = c.in_ok-codes.codes.items; texts = c.in_ok-texts.texts.items; arrays = c.in_ok-arrays.arrays.items; datas = c.in_ok-datas.datas.items }) f
     (record { lists = c.in_ok-lists.ensures.ok; codes = c.in_ok-codes.ensures.ok; texts = c.in_ok-texts.ensures.ok; arrays = c.in_ok-arrays.ensures.ok; datas = d; once = record { lists = c.in_ok-lists.ensures.once; codes = c.in_ok-codes.ensures.once; texts = c.in_ok-texts.ensures.once; arrays = c.in_ok-arrays.ensures.once; datas = datas_shared p c.requires.formed _ _ } }))
 
-pub codes_part-requires : goal.codes_part-requires
-codes_part-requires c =
+pub laid-requires : goal.laid-requires
+laid-requires c =
     let r = (next (after c.requires.needed c.requires.fits c.requires.counts c.requires.front) c.in_ok-lists.ensures.ok).small in
     omega (arith, r, c.len-lists_end.ensures, c.put_lists.new.out.ok.0)

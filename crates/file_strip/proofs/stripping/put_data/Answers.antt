@@ -85,8 +85,8 @@ overflow_cast-datas_end c =
     let w = room_of_sited s.program c.in_ok-codes.codes.places.items in
     omega (arith, s.room.small, d.bound, w, c.len-datas_end.ensures, c.put_datas.new.out.ok.0)
 
-pub codes_part-requires : goal.codes_part-requires
-codes_part-requires c =
+pub laid-requires : goal.laid-requires
+laid-requires c =
     let s = and_laid (first c.requires.ready c.requires.counts c.requires.front) c.in_ok-lists.ensures.ok in
     omega (arith, s.room.small, c.len-lists_end.ensures, c.put_lists.new.out.ok.0)
 
@@ -102,7 +102,7 @@ returns-clause-ok c = λ p r.
     let e5 = c.len-datas_end.ensures ∙ c.put_datas.new.out.ok.0 in
     let at : Places = record { lists = c.in_ok-lists.lists.places.items; codes = c.in_ok-codes.codes.places.items; texts = c.in_ok-texts.texts.places.items; arrays = c.in_ok-arrays.arrays.places.items; datas = c.in_ok-datas.datas.places.items } in
     let d = rw c.deref.ensures.value at (c.in_ok-datas.ensures.ok p r.keeps) in
-    rw (c.part.ensures, c.codes_part.ensures, c.part-2.ensures, c.part-3.ensures, c.part-4.ensures, c.requires.counts p r, e0, e1, e2, e3, e4, e5)
+    rw (c.laid.ensures, c.requires.counts p r, e0, e1, e2, e3, e4, e5)
     (laid s p (room c.args.sections.now c.args.numbers.now p r) c.args.out.now.items c.put_lists.new.out.items c.put_codes.new.out.items c.put_strings.new.out.items c.put_arrays.new.out.items c.put_datas.new.out.items at
     (record { lists = c.in_ok-lists.lists.items; codes = c.in_ok-codes.codes.items; texts = c.in_ok-texts.texts.items; arrays = c.in_ok-arrays.arrays.items; datas = c.in_ok-datas.datas.items }) f
     (record {
