@@ -13,6 +13,7 @@ use Rattle.program_types.specs.Operands.{IsOperand}
 use Rattle.program_types.specs.Formed.{insn_at, try_at, insn_payload, insn_wants, insn_reach, insn_branch, insn_short_branch, insn_targets, insn_registers, AreAmong, AreAlike, IsSwitch, RefersToPayload, IsTarget, TargetHolds, PayloadHolds, TryFormed, IsFormed}
 use Rattle.code_align.specs.Aligned.{with_nops, PadsPayloads, nops_to, moved, moved_insn, moved_catch, moved_try, padded, Aligned}
 use Rattle.code_align.proofs.PadLaws.{length-with_nops, pads-count}
+use Rattle.dex_base.proofs.ListFacts.{all_map, all_weaker}
 use Rattle.dex_base.proofs.OptionLaws.{IfSome-map}
 
 -- ---- the new numbers rise
@@ -83,6 +84,9 @@ there (false ∷ ps) (i ∷ is) (suc j) e l =
 
 -- ---- what a moved instruction says
 
+all-moved : {A B : Type 0} (f : A → B) (P : A → Type 0) (Q : B → Type 0) (ts : List A) → ((t : A) → P t → Q (f t)) → AllByRecursion P ts → AllByRecursion Q (map f ts)
+all-moved f P Q ts g h = all_map Q f ts (all_weaker P (λ t. Q (f t)) g ts h)
+
 module _ (f : ℕ → ℕ) where
   payload-same : (i : Insn) → insn_payload (moved_insn f i) ≡ insn_payload i
   unfolding insn_payload
@@ -121,14 +125,6 @@ module _ (f : ℕ → ℕ) where
   reach-same (made.I31t op a to) h = refl
   reach-same _ h = absurd h
 
-  all-moved : (P Q : ℕ → Type 0) (ts : List ℕ) → ((t : ℕ) → P t → Q (f t)) → AllByRecursion P ts → AllByRecursion Q (map f ts)
-  all-moved P Q [] g h = tt
-  all-moved P Q (t ∷ ts) g h = (g t h.0, all-moved P Q ts g h.1)
-
-  length-moved : (ts : List ℕ) → length (map f ts) ≡ length ts
-  length-moved [] = refl
-  length-moved (t ∷ ts) = ap suc (length-moved ts)
-
   operand-moved : (m n : ℕ) (i : Insn) → ((t : ℕ) → t < m → f t < n) → IsOperand m i → IsOperand n (moved_insn f i)
   operand-moved m n (made.I10t op to) g h = (h.0, g to h.1)
   operand-moved m n (made.I20t op to) g h = (h.0, g to h.1)
@@ -136,8 +132,8 @@ module _ (f : ℕ → ℕ) where
   operand-moved m n (made.I22t op a b to) g h = (h.0, h.1, h.2, g to h.3)
   operand-moved m n (made.I30t op to) g h = (h.0, g to h.1)
   operand-moved m n (made.I31t op a to) g h = (h.0, h.1, g to h.2)
-  operand-moved m n (made.Packed first to) g h = let k = length-moved to in let l = h.1 in (h.0, omega arith, all-moved (λ t. t < m) (λ t. t < n) to g h.2)
-  operand-moved m n (made.Sparse keys to) g h = let k = length-moved to in let e = h.0 in let l = h.1 in (omega arith, omega arith, h.2, h.3, all-moved (λ t. t < m) (λ t. t < n) to g h.4)
+  operand-moved m n (made.Packed first to) g h = let k = length-map to f in let l = h.1 in (h.0, omega arith, all-moved f (λ t. t < m) (λ t. t < n) to g h.2)
+  operand-moved m n (made.Sparse keys to) g h = let k = length-map to f in let e = h.0 in let l = h.1 in (omega arith, omega arith, h.2, h.3, all-moved f (λ t. t < m) (λ t. t < n) to g h.4)
   operand-moved m n _ g h = h
 
 -- ---- a nop
@@ -163,10 +159,6 @@ no-switch h = h
 two-alike : {o p q r : Option Payload} → o ≡ p → q ≡ r → AreAlike o q → AreAlike p r
 two-alike {o} {p} {q} {r} e f h = subst (λ (x : Option Payload). AreAlike p x) f (subst (λ (x : Option Payload). AreAlike x q) e h)
 
-catches-moved : (f : ℕ → ℕ) (m n : ℕ) (cs : List Catch) → ((t : ℕ) → t < m → f t < n) → AllByRecursion (λ c. c.at < m) cs → AllByRecursion (λ c. c.at < n) (map (moved_catch f) cs)
-catches-moved f m n [] g h = tt
-catches-moved f m n (c ∷ cs) g h = (g c.at h.0, catches-moved f m n cs g h.1)
-
 none-moved : (f : ℕ → ℕ) (o : Option ℕ) (cs : List Catch) → IfNone o (cs ≢ []) → IfNone (option_map f o) (map (moved_catch f) cs ≢ [])
 none-moved f None [] h = absurd (h refl)
 none-moved f None (c ∷ cs) h = λ e. cc
@@ -175,30 +167,30 @@ none-moved f (Some k) cs h = tt
 -- ---- the code
 
 module _ (c : Code) (ps : List Bool) (good : PadsPayloads ps c.insns) (formed : IsFormed c) where
-  is : List Insn
-  is = c.insns
+  abbrev new : List Insn
+  new = map (moved_insn (moved ps)) (with_nops ps c.insns)
 
   count : length ps ≡ length c.insns
   count = pads-count ps c.insns good
 
-  length-new : length (map (moved_insn (moved ps)) (with_nops ps c.insns)) ≡ moved ps (length c.insns)
+  length-new : length new ≡ moved ps (length c.insns)
   length-new = length-map (with_nops ps c.insns) (moved_insn (moved ps)) ∙ length-with_nops ps c.insns count ∙ ap (moved ps) count
 
-  at-new : (k : ℕ) → k < length (with_nops ps c.insns) → insn_at (map (moved_insn (moved ps)) (with_nops ps c.insns)) k ≡ moved_insn (moved ps) (insn_at (with_nops ps c.insns) k)
+  at-new : (k : ℕ) → k < length (with_nops ps c.insns) → insn_at new k ≡ moved_insn (moved ps) (insn_at (with_nops ps c.insns) k)
   at-new k l = get_or-map (moved_insn (moved ps)) (with_nops ps c.insns) k (made.I10x 0) (made.I10x 0) l
 
   inside : (j : ℕ) → j < length c.insns → moved ps j < length (with_nops ps c.insns)
   inside j l = let r = moved-rises ps j (length c.insns) l in let n = length-with_nops ps c.insns count in let e = ap (moved ps) count in omega arith
 
-  at-moved : (j : ℕ) → j < length c.insns → insn_at (map (moved_insn (moved ps)) (with_nops ps c.insns)) (moved ps j) ≡ moved_insn (moved ps) (insn_at c.insns j)
+  at-moved : (j : ℕ) → j < length c.insns → insn_at new (moved ps j) ≡ moved_insn (moved ps) (insn_at c.insns j)
   at-moved j l = at-new (moved ps j) (inside j l) ∙ ap (moved_insn (moved ps)) (there ps c.insns j count l)
 
-  below-new : (j : ℕ) → j < length c.insns → moved ps j < length (map (moved_insn (moved ps)) (with_nops ps c.insns))
+  below-new : (j : ℕ) → j < length c.insns → moved ps j < length new
   below-new j l = let r = moved-rises ps j (length c.insns) l in let n = length-new in omega arith
 
   -- what holds of nops and of what is moved holds of all
   each-new : (P : ℕ → Insn → Type 0) → ((k : ℕ) → P k (made.I10x 0)) → ((j : ℕ) → j < length c.insns → P (moved ps j) (moved_insn (moved ps) (insn_at c.insns j)))
-      → (k : ℕ) → k < length (map (moved_insn (moved ps)) (with_nops ps c.insns)) → P k (insn_at (map (moved_insn (moved ps)) (with_nops ps c.insns)) k)
+      → (k : ℕ) → k < length new → P k (insn_at new k)
   unfolding Origin
   each-new P nops rest k l =
       let m = length-map (with_nops ps c.insns) (moved_insn (moved ps)) in
@@ -208,49 +200,32 @@ module _ (c : Code) (ps : List Bool) (good : PadsPayloads ps c.insns) (formed : 
             (subst (λ (n : ℕ). P n (moved_insn (moved ps) (insn_at c.insns a.0))) a.2 (rest a.0 a.1))
       ]
 
-  nop-among : AreAmong c.registers (made.I10x 0)
-  unfolding insn_registers
-  nop-among = tt
+  nop-says : AreAmong c.registers (made.I10x 0) × IfSome (insn_branch (made.I10x 0)) (IsTarget new) × ((k : ℕ) → IfSome (insn_short_branch (made.I10x 0)) (λ to. to ≢ k)) × AllByRecursion (IsTarget new) (insn_targets (made.I10x 0))
+  unfolding insn_registers insn_branch insn_short_branch insn_targets
+  nop-says = (tt, tt, λ k. tt, tt)
 
-  among : (k : ℕ) → k < length (map (moved_insn (moved ps)) (with_nops ps c.insns)) → AreAmong c.registers (insn_at (map (moved_insn (moved ps)) (with_nops ps c.insns)) k)
-  among = each-new (λ k i. AreAmong c.registers i) (λ k. nop-among)
+  among : (k : ℕ) → k < length new → AreAmong c.registers (insn_at new k)
+  among = each-new (λ k i. AreAmong c.registers i) (λ k. nop-says.0)
       (λ j l. subst (λ (vs : List ℕ). AllByRecursion (λ v. v < c.registers) vs) (sym (registers-same (moved ps) (insn_at c.insns j))) (formed.named.each j l))
 
-  operands : (k : ℕ) → k < length (map (moved_insn (moved ps)) (with_nops ps c.insns)) → IsOperand (length (map (moved_insn (moved ps)) (with_nops ps c.insns))) (insn_at (map (moved_insn (moved ps)) (with_nops ps c.insns)) k)
-  operands = each-new (λ k i. IsOperand (length (map (moved_insn (moved ps)) (with_nops ps c.insns))) i) (λ k. nop-operand (length (map (moved_insn (moved ps)) (with_nops ps c.insns))))
-      (λ j l. operand-moved (moved ps) (length c.insns) (length (map (moved_insn (moved ps)) (with_nops ps c.insns))) (insn_at c.insns j) below-new (formed.operands j l))
+  operands : (k : ℕ) → k < length new → IsOperand (length new) (insn_at new k)
+  operands = each-new (λ k i. IsOperand (length new) i) (λ k. nop-operand (length new))
+      (λ j l. operand-moved (moved ps) (length c.insns) (length new) (insn_at c.insns j) below-new (formed.operands j l))
 
-  target-moved : (to : ℕ) → IsTarget c.insns to → IsTarget (map (moved_insn (moved ps)) (with_nops ps c.insns)) (moved ps to)
+  target-moved : (to : ℕ) → IsTarget c.insns to → IsTarget new (moved ps to)
   target-moved to t = record { inside = below-new to t.inside; plain = ap insn_payload (at-moved to t.inside) ∙ payload-same (moved ps) (insn_at c.insns to) ∙ t.plain }
 
-  -- the rules of targets, of instruction k
-  record TargetRule (is : List Insn) (k : ℕ) (i : Insn) : Type 0 where
-    lands : IfSome (insn_branch i) (IsTarget is)
-    moves : IfSome (insn_short_branch i) (λ to. to ≢ k)
-    all : AllByRecursion (IsTarget is) (insn_targets i)
+  targets : (k : ℕ) → k < length new → TargetHolds new k
+  targets k l = record {
+    lands = each-new (λ n i. IfSome (insn_branch i) (IsTarget new)) (λ n. nop-says.1) (λ j m. subst (λ (o : Option ℕ). IfSome o (IsTarget new)) (sym (branch-same (moved ps) (insn_at c.insns j)))
+        (IfSome-map (moved ps) (IsTarget c.insns) (IsTarget new) (insn_branch (insn_at c.insns j)) target-moved (formed.targets j m).lands)) k l;
+    moves = each-new (λ n i. IfSome (insn_short_branch i) (λ to. to ≢ n)) nop-says.2 (λ j m. subst (λ (o : Option ℕ). IfSome o (λ to. to ≢ moved ps j)) (sym (short-same (moved ps) (insn_at c.insns j)))
+        (IfSome-map (moved ps) (λ to. to ≢ j) (λ to. to ≢ moved ps j) (insn_short_branch (insn_at c.insns j)) (λ to ne e. ne (moved-one ps to j e)) (formed.targets j m).moves)) k l;
+    all = each-new (λ n i. AllByRecursion (IsTarget new) (insn_targets i)) (λ n. nop-says.3) (λ j m. subst (λ (ts : List ℕ). AllByRecursion (IsTarget new) ts) (sym (targets-same (moved ps) (insn_at c.insns j)))
+        (all-moved (moved ps) (IsTarget c.insns) (IsTarget new) (insn_targets (insn_at c.insns j)) target-moved (formed.targets j m).all)) k l;
+  }
 
-  nop-rule : (k : ℕ) → TargetRule (map (moved_insn (moved ps)) (with_nops ps c.insns)) k (made.I10x 0)
-  unfolding insn_branch insn_short_branch insn_targets
-  nop-rule k = record { lands = tt; moves = tt; all = tt }
-
-  moved-rule : (j : ℕ) → j < length c.insns → TargetRule (map (moved_insn (moved ps)) (with_nops ps c.insns)) (moved ps j) (moved_insn (moved ps) (insn_at c.insns j))
-  moved-rule j l =
-      let t = formed.targets j l in
-      let i = insn_at c.insns j in
-      let now = map (moved_insn (moved ps)) (with_nops ps c.insns) in
-      record {
-        lands = subst (λ (o : Option ℕ). IfSome o (IsTarget (map (moved_insn (moved ps)) (with_nops ps c.insns)))) (sym (branch-same (moved ps) (insn_at c.insns j)))
-            (IfSome-map (moved ps) (IsTarget c.insns) (IsTarget (map (moved_insn (moved ps)) (with_nops ps c.insns))) (insn_branch (insn_at c.insns j)) target-moved t.lands);
-        moves = subst (λ (o : Option ℕ). IfSome o (λ to. to ≢ moved ps j)) (sym (short-same (moved ps) (insn_at c.insns j)))
-            (IfSome-map (moved ps) (λ to. to ≢ j) (λ to. to ≢ moved ps j) (insn_short_branch (insn_at c.insns j)) (λ to ne e. ne (moved-one ps to j e)) t.moves);
-        all = subst (λ (ts : List ℕ). AllByRecursion (IsTarget (map (moved_insn (moved ps)) (with_nops ps c.insns))) ts) (sym (targets-same (moved ps) (insn_at c.insns j)))
-            (all-moved (moved ps) (IsTarget c.insns) (IsTarget (map (moved_insn (moved ps)) (with_nops ps c.insns))) (insn_targets (insn_at c.insns j)) target-moved t.all);
-      }
-
-  targets : (k : ℕ) → k < length (map (moved_insn (moved ps)) (with_nops ps c.insns)) → TargetHolds (map (moved_insn (moved ps)) (with_nops ps c.insns)) k
-  targets k l = let r = each-new (TargetRule (map (moved_insn (moved ps)) (with_nops ps c.insns))) nop-rule moved-rule k l in record { lands = r.lands; moves = r.moves; all = r.all }
-
-  refers-moved : (j k : ℕ) → RefersToPayload c.insns j k → RefersToPayload (map (moved_insn (moved ps)) (with_nops ps c.insns)) (moved ps j) (moved ps k)
+  refers-moved : (j k : ℕ) → RefersToPayload c.insns j k → RefersToPayload new (moved ps j) (moved ps k)
   refers-moved j k r = record {
     there = below-new j r.there;
     payload = below-new k r.payload;
@@ -259,16 +234,16 @@ module _ (c : Code) (ps : List Bool) (good : PadsPayloads ps c.insns) (formed : 
   }
 
   -- what refers to a moved payload was moved
-  refers-back : (m j : ℕ) → j < length c.insns → RefersToPayload (map (moved_insn (moved ps)) (with_nops ps c.insns)) m (moved ps j) → (a : ℕ) × (moved ps a ≡ m) × RefersToPayload c.insns a j
+  refers-back : (m j : ℕ) → j < length c.insns → RefersToPayload new m (moved ps j) → (a : ℕ) × (moved ps a ≡ m) × RefersToPayload c.insns a j
   unfolding Origin
   refers-back m j l r =
       let n = length-map (with_nops ps c.insns) (moved_insn (moved ps)) in
       let t = r.there in
       elim (origin ps c.insns m count (omega arith)) [
-        | inl a ↦ absurd (no-wants (insn_payload (insn_at (map (moved_insn (moved ps)) (with_nops ps c.insns)) (moved ps j)))
+        | inl a ↦ absurd (no-wants (insn_payload (insn_at new (moved ps j)))
             (two-alike (ap insn_wants (at-new m (omega arith) ∙ ap (moved_insn (moved ps)) a)) refl r.kind))
         | inr a ↦
-            let e : insn_at (map (moved_insn (moved ps)) (with_nops ps c.insns)) m ≡ moved_insn (moved ps) (insn_at c.insns a.0) = at-new m (omega arith) ∙ ap (moved_insn (moved ps)) a.3 in
+            let e : insn_at new m ≡ moved_insn (moved ps) (insn_at c.insns a.0) = at-new m (omega arith) ∙ ap (moved_insn (moved ps)) a.3 in
             let kind : AreAlike (insn_wants (insn_at c.insns a.0)) (insn_payload (insn_at c.insns j)) =
             two-alike (ap insn_wants e ∙ wants-same (moved ps) (insn_at c.insns a.0)) (ap insn_payload (at-moved j l) ∙ payload-same (moved ps) (insn_at c.insns j)) r.kind in (
               a.0,
@@ -282,33 +257,21 @@ module _ (c : Code) (ps : List Bool) (good : PadsPayloads ps c.insns) (formed : 
             )
       ]
 
-  record PayloadRule (is : List Insn) (k : ℕ) (i : Insn) : Type 0 where
-    refers : AreAlike (insn_wants i) (insn_wants i) → RefersToPayload is k (insn_reach i)
-    used : IsSwitch (insn_payload i) → (by : ℕ) × RefersToPayload is by k × ((m : ℕ) → RefersToPayload is m k → m ≡ by)
-
-  payload-nop : (k : ℕ) → PayloadRule (map (moved_insn (moved ps)) (with_nops ps c.insns)) k (made.I10x 0)
-  payload-nop k = record { refers = λ h. absurd (no-wants (insn_wants (made.I10x 0)) h); used = λ h. absurd (no-switch h) }
-
-  payload-moved : (j : ℕ) → j < length c.insns → PayloadRule (map (moved_insn (moved ps)) (with_nops ps c.insns)) (moved ps j) (moved_insn (moved ps) (insn_at c.insns j))
-  payload-moved j l =
-      let p = formed.payloads j l in
-      let w = wants-same (moved ps) (insn_at c.insns j) in
-      record {
-        refers = λ h.
-            let own = two-alike w w h in
-            subst (λ (k : ℕ). RefersToPayload (map (moved_insn (moved ps)) (with_nops ps c.insns)) (moved ps j) k) (sym (reach-same (moved ps) (insn_at c.insns j) own)) (refers-moved j (insn_reach (insn_at c.insns j)) (p.refers own));
-        used = λ s.
-            let u = p.used (subst IsSwitch (payload-same (moved ps) (insn_at c.insns j)) s) in
-            (moved ps u.0, refers-moved u.0 j u.1, λ m r. let b = refers-back m j l r in sym b.1 ∙ ap (moved ps) (u.2 b.0 b.2));
-      }
-
-  payloads : (k : ℕ) → k < length (map (moved_insn (moved ps)) (with_nops ps c.insns)) → PayloadHolds (map (moved_insn (moved ps)) (with_nops ps c.insns)) k
-  payloads k l = let r = each-new (PayloadRule (map (moved_insn (moved ps)) (with_nops ps c.insns))) payload-nop payload-moved k l in record { refers = r.refers; used = r.used }
+  payloads : (k : ℕ) → k < length new → PayloadHolds new k
+  payloads k l = record {
+    refers = each-new (λ n i. AreAlike (insn_wants i) (insn_wants i) → RefersToPayload new n (insn_reach i)) (λ n h. absurd (no-wants (insn_wants (made.I10x 0)) h)) (λ j m h.
+        let w = wants-same (moved ps) (insn_at c.insns j) in
+        let own = two-alike w w h in
+        subst (λ (to : ℕ). RefersToPayload new (moved ps j) to) (sym (reach-same (moved ps) (insn_at c.insns j) own)) (refers-moved j (insn_reach (insn_at c.insns j)) ((formed.payloads j m).refers own))) k l;
+    used = each-new (λ n i. IsSwitch (insn_payload i) → (by : ℕ) × RefersToPayload new by n × ((m : ℕ) → RefersToPayload new m n → m ≡ by)) (λ n h. absurd (no-switch h)) (λ j m s.
+        let u = (formed.payloads j m).used (subst IsSwitch (payload-same (moved ps) (insn_at c.insns j)) s) in
+        (moved ps u.0, refers-moved u.0 j u.1, λ n r. let b = refers-back n j m r in sym b.1 ∙ ap (moved ps) (u.2 b.0 b.2))) k l;
+  }
 
   try-new : (i : ℕ) → i < length c.tries → try_at (map (moved_try (moved ps)) c.tries) i ≡ moved_try (moved ps) (try_at c.tries i)
   try-new i l = get_or-map (moved_try (moved ps)) c.tries i (record { from = 0; to = 0; catches = []; catch_all = None }) (record { from = 0; to = 0; catches = []; catch_all = None }) l
 
-  tries : (i : ℕ) → i < length (map (moved_try (moved ps)) c.tries) → TryFormed (length (map (moved_insn (moved ps)) (with_nops ps c.insns))) (map (moved_try (moved ps)) c.tries) i
+  tries : (i : ℕ) → i < length (map (moved_try (moved ps)) c.tries) → TryFormed (length new) (map (moved_try (moved ps)) c.tries) i
   tries i m =
       let n = length-map c.tries (moved_try (moved ps)) in
       let l : i < length c.tries = omega arith in
@@ -327,14 +290,14 @@ module _ (c : Code) (ps : List Bool) (good : PadsPayloads ps c.insns) (formed : 
             let before : (try_at (map (moved_try (moved ps)) c.tries) j).to ≡ moved ps (try_at c.tries j).to = ap (λ (x : Try). x.to) f in
             let r = moved-le ps (try_at c.tries j).to (try_at c.tries i).from (t.after j q) in
             omega arith;
-        places = subst (λ (x : Try). AllByRecursion (λ y. y.at < length (map (moved_insn (moved ps)) (with_nops ps c.insns))) x.catches) (sym e)
-            (catches-moved (moved ps) (length c.insns) (length (map (moved_insn (moved ps)) (with_nops ps c.insns))) (try_at c.tries i).catches below-new t.places);
-        last = subst (λ (x : Try). IfSome x.catch_all (λ k. k < length (map (moved_insn (moved ps)) (with_nops ps c.insns)))) (sym e)
-            (IfSome-map (moved ps) (λ k. k < length c.insns) (λ k. k < length (map (moved_insn (moved ps)) (with_nops ps c.insns))) (try_at c.tries i).catch_all below-new t.last);
+        places = subst (λ (x : Try). AllByRecursion (λ y. y.at < length new) x.catches) (sym e)
+            (all-moved (moved_catch (moved ps)) (λ y. y.at < length c.insns) (λ y. y.at < length new) (try_at c.tries i).catches (λ y. below-new y.at) t.places);
+        last = subst (λ (x : Try). IfSome x.catch_all (λ k. k < length new)) (sym e)
+            (IfSome-map (moved ps) (λ k. k < length c.insns) (λ k. k < length new) (try_at c.tries i).catch_all below-new t.last);
         handled = subst (λ (x : Try). IfNone x.catch_all (x.catches ≢ [])) (sym e) (none-moved (moved ps) (try_at c.tries i).catch_all (try_at c.tries i).catches t.handled);
       }
 
-  padded-formed : length (map (moved_insn (moved ps)) (with_nops ps c.insns)) ≤ 2147483647 → IsFormed (padded ps c)
+  padded-formed : length new ≤ 2147483647 → IsFormed (padded ps c)
   padded-formed few =
       let some = formed.some in
       let low = moved-le ps 1 (length c.insns) (omega arith) in

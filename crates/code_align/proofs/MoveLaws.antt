@@ -2,23 +2,16 @@
 use Rattle.std.proofs.Common.{◌≡◌, ℕ, ◌+◌, ◌<◌, ◌≤◌, ◌++◌, List, [], ◌∷◌, map, length, get_or, drop, take, refl, ap, sym, ◌∙◌, arith, zero, suc, Bool, true, false, Option, Some, None, append_assoc}
 use Rattle.std.specs.Prelude.{option_map, IfSome}
 use Rattle.std.specs.List.{AllByRecursion}
-use Rattle.std.proofs.lemmas.List.{drop_more, take_more, map-append, length-map, get_or-map}
-use Rattle.program_types.specs.View.{insn, catch, try}
+use Rattle.std.proofs.lemmas.List.{drop_more, map-append, length-map, get_or-map}
+use Rattle.dex_base.proofs.ListFacts.{all_weaker, map_more}
+use Rattle.program_types.specs.View.{insn}
 use Rattle.program_types.specs.declared.insn.Insn.{Insn as Held}
-use Rattle.program_types.specs.declared.code.Catch.{Catch as HeldCatch}
-use Rattle.program_types.specs.declared.code.Try.{Try as HeldTry}
 use Rattle.program_types.specs.Content.{Insn, Try, Catch}
 use Rattle.program_types.specs.Content as made
 use Rattle.program_types.specs.Formed.{insn_at, try_at, TryFormed}
 use Rattle.program_types.specs.Operands.{IsOperand}
 use Rattle.code_align.specs.Aligned.{with_nops, moved_insn, moved_catch, moved_try}
 use Rattle.code_align.specs.Aligning.{IsTryBelow}
-
--- ---- loops
-
-pub map-more : {A B : Type 0} (f : A → B) (xs : List A) (k : ℕ) (d : A) (ys new : List B) (y : B) → k < length xs → ys ≡ map f (take k xs) → y ≡ f (get_or xs k d) → new ≡ ys ++ y ∷ [] → new ≡ map f (take (k + 1) xs)
-map-more {A} {B} f xs k d ys new y l e g n =
-    n ∙ (λ i. e i ++ g i ∷ []) ∙ sym (map-append f (take k xs) (get_or xs k d ∷ [])) ∙ ap (map f) (sym (take_more xs k d l))
 
 -- ---- functions that agree below a count move alike
 
@@ -29,16 +22,8 @@ operand-more m n (made.I21t op a to) l h = let b = h.2 in (h.0, h.1, omega arith
 operand-more m n (made.I22t op a b to) l h = let c = h.3 in (h.0, h.1, h.2, omega arith)
 operand-more m n (made.I30t op to) l h = let b = h.1 in (h.0, omega arith)
 operand-more m n (made.I31t op a to) l h = let b = h.2 in (h.0, h.1, omega arith)
-operand-more m n (made.Packed first to) l h = (h.0, h.1, all-more to h.2)
-  where
-    all-more : (ts : List ℕ) → AllByRecursion (λ t. t < m) ts → AllByRecursion (λ t. t < n) ts
-    all-more [] a = tt
-    all-more (t ∷ ts) a = let b = a.0 in (omega arith, all-more ts a.1)
-operand-more m n (made.Sparse keys to) l h = (h.0, h.1, h.2, h.3, all-more to h.4)
-  where
-    all-more : (ts : List ℕ) → AllByRecursion (λ t. t < m) ts → AllByRecursion (λ t. t < n) ts
-    all-more [] a = tt
-    all-more (t ∷ ts) a = let b = a.0 in (omega arith, all-more ts a.1)
+operand-more m n (made.Packed first to) l h = (h.0, h.1, all_weaker (λ (t : ℕ). t < m) (λ (t : ℕ). t < n) (λ t b. omega arith) to h.2)
+operand-more m n (made.Sparse keys to) l h = (h.0, h.1, h.2, h.3, all_weaker (λ (t : ℕ). t < m) (λ (t : ℕ). t < n) (λ t b. omega arith) to h.4)
 operand-more m n _ l h = h
 
 module _ (f g : ℕ → ℕ) (count : ℕ) (same : (k : ℕ) → k < count → f k ≡ g k) where
@@ -57,12 +42,6 @@ module _ (f g : ℕ → ℕ) (count : ℕ) (same : (k : ℕ) → k < count → f
   insn-same (made.Sparse keys to) h = ap (λ (ks : List ℕ). made.Sparse keys ks) (all-same to h.4)
   insn-same _ h = refl
 
-  plain-same : (is : List Insn) → ((k : ℕ) → k < length is → IsOperand count (insn_at is k)) → map (moved_insn f) is ≡ map (moved_insn g) is
-  plain-same [] h = refl
-  plain-same (i ∷ is) h =
-      let e = insn-same i (h zero (omega arith)) in let r = plain-same is (λ k l. h (suc k) (omega arith)) in
-      (λ j. e j ∷ r j)
-
   pub insns-same : (ps : List Bool) (is : List Insn) → ((k : ℕ) → k < length is → IsOperand count (insn_at is k)) → map (moved_insn f) (with_nops ps is) ≡ map (moved_insn g) (with_nops ps is)
   insns-same (true ∷ ps) (i ∷ is) h =
       let e = insn-same i (h zero (omega arith)) in let r = insns-same ps is (λ k l. h (suc k) (omega arith)) in
@@ -73,7 +52,9 @@ module _ (f g : ℕ → ℕ) (count : ℕ) (same : (k : ℕ) → k < count → f
   insns-same [] [] h = refl
   insns-same (true ∷ ps) [] h = refl
   insns-same (false ∷ ps) [] h = refl
-  insns-same [] (i ∷ is) h = plain-same (i ∷ is) h
+  insns-same [] (i ∷ is) h =
+      let e = insn-same i (h zero (omega arith)) in let r = insns-same [] is (λ k l. h (suc k) (omega arith)) in
+      (λ j. e j ∷ r j)
 
   catches-same : (cs : List Catch) → AllByRecursion (λ c. c.at < count) cs → map (moved_catch f) cs ≡ map (moved_catch g) cs
   catches-same [] h = refl
@@ -96,10 +77,6 @@ module _ (f g : ℕ → ℕ) (count : ℕ) (same : (k : ℕ) → k < count → f
 
 -- ---- what is moved is within bounds
 
-catches-more : (m n : ℕ) (cs : List Catch) → m ≤ n → AllByRecursion (λ c. c.at < m) cs → AllByRecursion (λ c. c.at < n) cs
-catches-more m n [] l h = tt
-catches-more m n (c ∷ cs) l h = let b = h.0 in (omega arith, catches-more m n cs l h.1)
-
 last-more : (m n : ℕ) (o : Option ℕ) → m ≤ n → IfSome o (λ k. k < m) → IfSome o (λ k. k < n)
 last-more m n None l h = tt
 last-more m n (Some k) l h = omega arith
@@ -107,7 +84,7 @@ last-more m n (Some k) l h = omega arith
 pub try-below : (count n : ℕ) (ts : List Try) (i : ℕ) → n ≡ count + 1 → TryFormed count ts i → IsTryBelow n (try_at ts i)
 try-below count n ts i e f =
     let a = f.some in let b = f.within in
-    record { from = omega arith; to = omega arith; catches = catches-more count n (try_at ts i).catches (omega arith) f.places; last = last-more count n (try_at ts i).catch_all (omega arith) f.last }
+    record { from = omega arith; to = omega arith; catches = all_weaker (λ (c : Catch). c.at < count) (λ (c : Catch). c.at < n) (λ c below. omega arith) (try_at ts i).catches f.places; last = last-more count n (try_at ts i).catch_all (omega arith) f.last }
 
 -- ---- a turn of moving instructions
 
@@ -136,16 +113,9 @@ two-more all mid new nop one e f =
     ap (map insn) f ∙ map-append insn mid (one ∷ []) ∙ ap (λ (xs : List Held). map insn xs ++ insn one ∷ []) e
     ∙ ap (λ (xs : List Insn). xs ++ insn one ∷ []) (map-append insn all (nop ∷ [])) ∙ append_assoc (map insn all) (insn nop ∷ []) (insn one ∷ [])
 
-pub catch-more : (f : ℕ → ℕ) (xs all new : List HeldCatch) (one : HeldCatch) (i : ℕ) (d : HeldCatch) → i < length xs → map catch all ≡ map (moved_catch f) (take i (map catch xs)) → catch one ≡ moved_catch f (catch (get_or xs i d)) → new ≡ all ++ one ∷ []
-    → map catch new ≡ map (moved_catch f) (take (i + 1) (map catch xs))
-catch-more f xs all new one i d l h e n =
-    let m = length-map xs catch in
-    map-more (moved_catch f) (map catch xs) i (record { ty = []; at = 0 }) (map catch all) (map catch new) (catch one) (omega arith) h
-    (e ∙ ap (moved_catch f) (sym (get_or-map catch xs i d (record { ty = []; at = 0 }) l))) (ap (map catch) n ∙ map-append catch all (one ∷ []))
-
-pub try-more : (f : ℕ → ℕ) (xs all new : List HeldTry) (one : HeldTry) (i : ℕ) (d : HeldTry) → i < length xs → map try all ≡ map (moved_try f) (take i (map try xs)) → try one ≡ moved_try f (try (get_or xs i d)) → new ≡ all ++ one ∷ []
-    → map try new ≡ map (moved_try f) (take (i + 1) (map try xs))
-try-more f xs all new one i d l h e n =
-    let m = length-map xs try in
-    map-more (moved_try f) (map try xs) i (record { from = 0; to = 0; catches = []; catch_all = None }) (map try all) (map try new) (try one) (omega arith) h
-    (e ∙ ap (moved_try f) (sym (get_or-map try xs i d (record { from = 0; to = 0; catches = []; catch_all = None }) l))) (ap (map try) n ∙ map-append try all (one ∷ []))
+pub view-more : {H V : Type 0} (view : H → V) (f : V → V) (xs all new : List H) (one : H) (i : ℕ) (d : H) → i < length xs → map view all ≡ map f (take i (map view xs)) → view one ≡ f (view (get_or xs i d)) → new ≡ all ++ one ∷ []
+    → map view new ≡ map f (take (i + 1) (map view xs))
+view-more {H} {V} view f xs all new one i d l h e n =
+    let m = length-map xs view in
+    let is : view one ≡ f (get_or (map view xs) i (view d)) = e ∙ ap f (sym (get_or-map view xs i d (view d) l)) in
+    ap (map view) n ∙ map-append view all (one ∷ []) ∙ (λ j. h j ++ is j ∷ []) ∙ sym (map_more f (map view xs) i (view d) (omega arith))

@@ -167,23 +167,17 @@ insns_stable P s c h = λ k lt. s (insn_at c.insns k) (λ no. h (λ f. no (f k l
 
 -- ---- offsets
 
+both_stable : (P Q R : Type 0) → Stable P → Stable Q → (R → P × Q) → (P → Q → R) → Stable R
+both_stable P Q R p q to from h = from (p (λ no. h (λ f. no (to f).0))) (q (λ no. h (λ f. no (to f).1)))
+
 near8 : (a b : ℕ) → Stable (FitsSigned w8 (pos a -ℤ pos b))
-near8 a b h =
-    let high = most_stable a (b + 127) (λ no. h (λ f. no (omega (arith, ints, f)))) in
-    let low = most_stable b (a + 128) (λ no. h (λ f. no (omega (arith, ints, f)))) in
-    omega (arith, ints, high, low)
+near8 a b = both_stable _ _ _ (most_stable a (b + 127)) (most_stable b (a + 128)) (λ f. (omega (arith, ints, f), omega (arith, ints, f))) (λ high low. omega (arith, ints, high, low))
 
 near16 : (a b : ℕ) → Stable (FitsSigned w16 (pos a -ℤ pos b))
-near16 a b h =
-    let high = most_stable a (b + 32767) (λ no. h (λ f. no (omega (arith, ints, f)))) in
-    let low = most_stable b (a + 32768) (λ no. h (λ f. no (omega (arith, ints, f)))) in
-    omega (arith, ints, high, low)
+near16 a b = both_stable _ _ _ (most_stable a (b + 32767)) (most_stable b (a + 32768)) (λ f. (omega (arith, ints, f), omega (arith, ints, f))) (λ high low. omega (arith, ints, high, low))
 
 near32 : (a b : ℕ) → Stable (FitsSigned w32 (pos a -ℤ pos b))
-near32 a b h =
-    let high = most_stable a (b + 2147483647) (λ no. h (λ f. no (omega (arith, ints, f)))) in
-    let low = most_stable b (a + 2147483648) (λ no. h (λ f. no (omega (arith, ints, f)))) in
-    omega (arith, ints, high, low)
+near32 a b = both_stable _ _ _ (most_stable a (b + 2147483647)) (most_stable b (a + 2147483648)) (λ f. (omega (arith, ints, f), omega (arith, ints, f))) (λ high low. omega (arith, ints, high, low))
 
 branch_stable : (ss : List ℕ) (at : ℕ) (i : Insn) → Stable (BranchFits ss at i)
 branch_stable ss at (made.I10t op to) h = near8 (get_or ss to 0) at h

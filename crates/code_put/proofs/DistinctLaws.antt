@@ -14,9 +14,9 @@ use Rattle.code_read.specs.Handlers.{Handler, AllBy}
 use Rattle.code_read.specs.Tries.{handler_of}
 use Rattle.code_read.specs.Places.{Rises}
 use Rattle.code_put.specs.Packs.{IsFirstUse, PacksHandler, PacksCatch}
-use Rattle.code_put.specs.Writing.{IsNumbered, IsDistinct, joined_keys}
+use Rattle.code_put.specs.Writing.{IsHeldAs, IsDistinct, joined_keys}
 use Rattle.code_put.proofs.ListLaws.{all-at}
-use Rattle.dex_base.proofs.ListFacts.{zip_length, zip_more, get_last, slice_left, all_get, all_append}
+use Rattle.dex_base.proofs.ListFacts.{zip_length, zip_more, get_last, slice_left, all_get, all_append, all_weaker}
 
 -- ---- elements
 
@@ -36,8 +36,7 @@ zip-right R (a ∷ xs) (b ∷ ys) (suc k) y h e = zip-right R xs ys k y h.1 e
 -- ---- numbers that rise
 
 all-below : (n : ℕ) (xs : List ℕ) → AllByRecursion (λ (k : ℕ). k < n) xs → AllByRecursion (λ (k : ℕ). k < n + 1) xs
-all-below n [] h = tt
-all-below n (x ∷ xs) h = (let lt = h.0 in omega arith, all-below n xs h.1)
+all-below n = all_weaker (λ (k : ℕ). k < n) (λ (k : ℕ). k < n + 1) (λ k lt. omega arith)
 
 rises-more : (xs : List ℕ) (x : ℕ) → Rises xs → AllByRecursion (λ (k : ℕ). k < x) xs → Rises (xs ++ x ∷ [])
 rises-more xs x r h = record {
@@ -112,7 +111,7 @@ module _ (N : ℕ → Name → Type 0) (ss : List ℕ) (ts : List Try)
   }
 
   pub distinct-more : (i n : ℕ) (old new : List (List ℕ)) (numbers more : List ℕ) (bytes : List ℕ) → i < length ts → IsDistinct N ss ts i old numbers → PacksHandler N ss bytes (handler_of (try_at ts i)) → AllBytes bytes
-      → IsNumbered old new bytes n → more ≡ numbers ++ n ∷ [] → IsDistinct N ss ts (i + 1) new more
+      → IsHeldAs old new bytes n → more ≡ numbers ++ n ∷ [] → IsDistinct N ss ts (i + 1) new more
   distinct-more i n old new numbers more bytes inside d p small s m = elim s.is_new [
     | inl same ↦
         let there = subst (λ (ks : List (List ℕ)). slice_get ks n ≡ Some bytes) same s.there in

@@ -1,6 +1,6 @@
 -- The parts of a code that fits.
-use Rattle.std.proofs.Common.{◌≡◌, ℕ, ◌+◌, ◌*◌, ◌<◌, ◌≤◌, ◌++◌, List, [], ◌∷◌, map, take, length, get_or, ap, sym, ◌∙◌, arith, zero, suc, subst, None, inl, inr, length-append}
-use Rattle.std.specs.Prelude.{FitsSigned}
+use Rattle.std.proofs.Common.{◌≡◌, ℕ, ◌+◌, ◌*◌, ◌<◌, ◌≤◌, ◌++◌, List, [], ◌∷◌, map, take, length, get_or, ap, sym, ◌∙◌, arith, zero, suc, subst, Bool, true, None, inl, inr}
+use Rattle.std.specs.Prelude.{FitsSigned, IsTrue, ◌↔◌}
 use Rattle.std.specs.Int.{w32}
 use Rattle.std.specs.List.{AllByRecursion, flat_map}
 use Rattle.std.proofs.lemmas.Bool.{cases_lt}
@@ -17,6 +17,7 @@ use Rattle.program_types.specs.Operands.{IsOperand}
 use Rattle.program_types.specs.Sizes.{insn_units, starts_from, addresses_of}
 use Rattle.code_put.specs.Fits.{distance_of, BranchFits, TargetsFit, OffsetsFit, catches_in}
 use Rattle.program_code_rules.specs.Branches.{IsOrigin}
+use Rattle.code_put.proofs.DistinctLaws as distinct
 use Rattle.code_put.proofs.ItemPieces.{seen-at}
 use Rattle.code_put.proofs.SizeLaws.{units-small}
 use Rattle.code_put.proofs.FormLaws.{length-addresses, names-at}
@@ -52,18 +53,11 @@ offsets-from is ss k o (inr s) p b t = record {
 
 -- ---- catches
 
-catches-next : (ts : List Try) (i : ℕ) → i < length ts → catches_in (take (suc i) ts) ≡ catches_in (take i ts) + length (try_at ts i).catches
-catches-next [] i l = absurd (omega arith)
-catches-next (t ∷ ts) zero l = omega (arith, length-append t.catches (flat_map (λ (x : Try). x.catches) (take zero ts)))
-catches-next (t ∷ ts) (suc i) l =
-    let r = catches-next ts i (omega arith) in
-    omega (arith, length-append t.catches (flat_map (λ (x : Try). x.catches) (take (suc i) ts)), length-append t.catches (flat_map (λ (x : Try). x.catches) (take i ts)))
-
 pub caught : (xs : List Held) (i : ℕ) (x : Held) → i < length xs → length (get_or xs i x).catches.now ≡ length (try_at (map try xs) i).catches
 caught xs i x l = sym (length-map (get_or xs i x).catches.now catch) ∙ ap (λ (t : Try). length t.catches) (seen-at xs i x l)
 
 pub catches-more : (ts : List Try) (i : ℕ) → i < length ts → catches_in (take (i + 1) ts) ≡ catches_in (take i ts) + length (try_at ts i).catches
-catches-more ts i l = let e : suc i ≡ i + 1 = omega arith in ap (λ (k : ℕ). catches_in (take k ts)) (sym e) ∙ catches-next ts i l
+catches-more ts i l = distinct.catches-more ts i
 
 pub catches-least : (ts : List Try) (i : ℕ) → i < length ts → length (try_at ts i).catches ≤ catches_in ts
 catches-least ts i l =
@@ -92,8 +86,12 @@ addresses-small is f h k l = let n = length-addresses is in let r = starts-small
 
 -- ---- one by one, in memory and in content
 
-pub by-count : (m n : ℕ) (P : ℕ → Type 0) → m ≡ n → ((k : ℕ) → k < m → P k) → (k : ℕ) → k < n → P k
-by-count m n P e h k l = h k (omega arith)
+module _ {A B : Type 0} (view : A → B) (xs : List A) (P : ℕ → Type 0) (r : Bool) (says : IsTrue r ↔ ((k : ℕ) → k < length xs → P k)) where
+  pub held : r ≡ true → (k : ℕ) → k < length (map view xs) → P k
+  held is k l = let n = length-map xs view in says.0 is k (omega arith)
+
+  pub told : ((k : ℕ) → k < length (map view xs) → P k) → r ≡ true
+  told h = let n = length-map xs view in says.1 (λ k l. h k (omega arith))
 
 pub count-of : (xs : List HeldInsn) (ss : List ℕ) → ss ≡ addresses_of (map insn xs) → length ss ≡ length xs
 count-of xs ss e = ap length e ∙ length-addresses (map insn xs) ∙ length-map xs insn

@@ -1,6 +1,7 @@
 -- What a code that is well formed and fits gives to each part of writing.
-use Rattle.std.proofs.Common.{◌≡◌, ℕ, ◌+◌, ◌<◌, ◌≤◌, List, [], ◌∷◌, map, length, get_or, refl, ap, sym, ◌∙◌, arith, zero, suc, subst}
+use Rattle.std.proofs.Common.{◌≡◌, ℕ, ◌+◌, ◌<◌, ◌≤◌, List, [], ◌∷◌, map, length, get_or, sym, ◌∙◌, arith, zero, suc, subst}
 use Rattle.std.specs.List.{AllByRecursion, flat_map}
+use Rattle.dex_insn.specs.declared.opcode.IndexKind.{IndexKind}
 use Rattle.dex_insn.specs.declared.opcode.IndexKind.TheVariants as kind
 use Rattle.program_types.specs.Content.{Name, OfText, OfDesc, OfField, OfMethod, Insn, Code}
 use Rattle.program_types.specs.Content as made
@@ -20,11 +21,7 @@ use Rattle.code_read.proofs.Runs.{length-starts}
 -- ---- addresses
 
 pub length-addresses : (is : List Insn) → length (addresses_of is) ≡ length is
-length-addresses is = length-starts 0 (map insn_units is) ∙ count is
-  where
-    count : (js : List Insn) → length (map insn_units js) ≡ length js
-    count [] = refl
-    count (j ∷ js) = ap suc (count js)
+length-addresses is = length-starts 0 (map insn_units is) ∙ length-map is insn_units
 
 starts-low : (a : ℕ) (is : List Insn) (k : ℕ) → k < length is → a ≤ get_or (starts_from a (map insn_units is)) k 0
 starts-low a [] k l = absurd (omega arith)
@@ -60,37 +57,29 @@ names-at P [] k h l = absurd (omega arith)
 names-at P (i ∷ is) zero h l = all_front P (names_of_insn i) (flat_map names_of_insn is) h
 names-at P (i ∷ is) (suc k) h l = names-at P is k (all_back P (names_of_insn i) (flat_map names_of_insn is) h) (omega arith)
 
+-- the index of a name is short, if it is of this kind
+abbrev IsShort : (ℕ → Name → Type 0) → Name → IndexKind → Type 0
+IsShort N which k = IsOfKind k which → (i : ℕ) → N i which → i < 65536
+
 -- a name of any kind fits where all of its kind do
-record Shorts (N : ℕ → Name → Type 0) (which : Name) : Type 0 where
-  text : IsOfKind kind.String which → (i : ℕ) → N i which → i < 65536
-  type : IsOfKind kind.Type which → (i : ℕ) → N i which → i < 65536
-  field : IsOfKind kind.Field which → (i : ℕ) → N i which → i < 65536
-  method : IsOfKind kind.Method which → (i : ℕ) → N i which → i < 65536
+short-fits : (N : ℕ → Name → Type 0) (which : Name) → HasIndexBelow N 4294967296 which → IsShort N which kind.String → IsShort N which kind.Type → IsShort N which kind.Field → IsShort N which kind.Method → HasIndexBelow N 65536 which
+short-fits N (OfText t) h a b c d = (h.0, a tt h.0 h.2, h.2)
+short-fits N (OfDesc t) h a b c d = (h.0, b tt h.0 h.2, h.2)
+short-fits N (OfField t) h a b c d = (h.0, c tt h.0 h.2, h.2)
+short-fits N (OfMethod t) h a b c d = (h.0, d tt h.0 h.2, h.2)
 
-short-fits : (N : ℕ → Name → Type 0) (which : Name) → HasIndexBelow N 4294967296 which → Shorts N which → HasIndexBelow N 65536 which
-short-fits N (OfText t) h s = (h.0, s.text tt h.0 h.2, h.2)
-short-fits N (OfDesc t) h s = (h.0, s.type tt h.0 h.2, h.2)
-short-fits N (OfField t) h s = (h.0, s.field tt h.0 h.2, h.2)
-short-fits N (OfMethod t) h s = (h.0, s.method tt h.0 h.2, h.2)
-
-record AllShort (N : ℕ → Name → Type 0) (i : Insn) : Type 0 where
-  text : ShortFits N kind.String i
-  type : ShortFits N kind.Type i
-  field : ShortFits N kind.Field i
-  method : ShortFits N kind.Method i
-
-name-fits : (N : ℕ → Name → Type 0) (i : Insn) → AllByRecursion (HasIndexBelow N 4294967296) (names_of_insn i) → AllShort N i → NameFits N i
-name-fits N (made.I21c op a which) h s = short-fits N which h.0 (record { text = s.text; type = s.type; field = s.field; method = s.method })
-name-fits N (made.I22c op a b which) h s = short-fits N which h.0 (record { text = s.text; type = s.type; field = s.field; method = s.method })
-name-fits N (made.I31c op a which) h s = h.0
-name-fits N (made.I35c op n regs which) h s = short-fits N which h.0 (record { text = s.text; type = s.type; field = s.field; method = s.method })
-name-fits N (made.I3rc op n first which) h s = short-fits N which h.0 (record { text = s.text; type = s.type; field = s.field; method = s.method })
-name-fits N _ h s = tt
+name-fits : (N : ℕ → Name → Type 0) (i : Insn) → AllByRecursion (HasIndexBelow N 4294967296) (names_of_insn i) → ShortFits N kind.String i → ShortFits N kind.Type i → ShortFits N kind.Field i → ShortFits N kind.Method i → NameFits N i
+name-fits N (made.I21c op a which) h s t f m = short-fits N which h.0 s t f m
+name-fits N (made.I22c op a b which) h s t f m = short-fits N which h.0 s t f m
+name-fits N (made.I31c op a which) h s t f m = h.0
+name-fits N (made.I35c op n regs which) h s t f m = short-fits N which h.0 s t f m
+name-fits N (made.I3rc op n first which) h s t f m = short-fits N which h.0 s t f m
+name-fits N _ h s t f m = tt
 
 pub names-fit : (N : ℕ → Name → Type 0) (c : Code) (k : ℕ) → FitsCode N c → CanBePut N c → k < length c.insns → NameFits N (insn_at c.insns k)
 names-fit N c k f p l = name-fits N (insn_at c.insns k)
     (names-at (HasIndexBelow N 4294967296) c.insns k (all_front (HasIndexBelow N 4294967296) (flat_map names_of_insn c.insns) (flat_map names_of_try c.tries) p.ranked) l)
-    (record { text = f.strings k l; type = p.types k l; field = f.fields k l; method = f.methods k l })
+    (f.strings k l) (p.types k l) (f.fields k l) (f.methods k l)
 
 pub caught-ranked : (N : ℕ → Name → Type 0) (c : Code) → CanBePut N c → AllByRecursion (HasIndexBelow N 4294967296) (flat_map names_of_try c.tries)
 caught-ranked N c p = all_back (HasIndexBelow N 4294967296) (flat_map names_of_insn c.insns) (flat_map names_of_try c.tries) p.ranked

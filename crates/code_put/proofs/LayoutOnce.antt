@@ -1,8 +1,9 @@
 -- What is written of the handlers of tries is one list, with one offset for each try.
 use Rattle.std.proofs.Common.{◌≡◌, ℕ, ◌+◌, ◌<◌, ◌++◌, List, [], ◌∷◌, map, length, get_or, refl, ap, sym, ◌∙◌, arith, zero, suc, subst, Some, Bool, true, false, inl, inr, ◌==◌, if◌then◌else◌}
-use Rattle.std.specs.Prelude.{slice_get}
+use Rattle.std.specs.Prelude.{slice_get, option_map}
+use Rattle.std.proofs.lemmas.List.{length-map}
 use Rattle.std.proofs.lemmas.Bool.{cases_lt}
-use Rattle.std.proofs.lemmas.Option.{slice_get_within, slice_get-get_or}
+use Rattle.std.proofs.lemmas.Option.{slice_get_within, slice_get-get_or, slice_get-map}
 use Rattle.dex_base.specs.Grammar.{Placed}
 use Rattle.dex_base.specs.Leb128.{Spells, Shortest}
 use Rattle.dex_base.proofs.ShortestLaws.{AllBytes, shortest_one}
@@ -85,9 +86,7 @@ rise-at xs k l x y r lt a b =
     omega (arith, less, p, q)
 
 second-get : (hs : List (ℕ × Handler)) (k : ℕ) (r : ℕ × Handler) → slice_get hs k ≡ Some r → slice_get (map (λ (p : ℕ × Handler). p.1) hs) k ≡ Some r.1
-second-get [] k r e = absurd cc
-second-get (p ∷ ps) zero r e = let q : p ≡ r = cc in ap (λ (s : ℕ × Handler). Some s.1) q
-second-get (p ∷ ps) (suc k) r e = second-get ps k r e
+second-get hs k r e = slice_get-map (λ (p : ℕ × Handler). p.1) hs k ∙ ap (option_map (λ (p : ℕ × Handler). p.1)) e
 
 -- a handler that begins at a place is one of the list
 handler-in : (hs : List (ℕ × Handler)) (off : ℕ) (h : Handler) → handler_at hs off ≡ Some h → (k : ℕ) × (r : ℕ × Handler) × (slice_get hs k ≡ Some r) × (r.0 ≡ off) × (r.1 ≡ h)
@@ -122,21 +121,12 @@ module _ (N : ℕ → Name → Type 0) (ss : List ℕ) (inj : IsInjective N) whe
   list-once zero a b gs hs e p q x y = (x.0 ∙ sym y.0, x.1 ∙ sym y.1)
   list-once (suc m) a b gs hs e p q x y =
       let u = two-parts a x.front x.back x.joined p in let v = two-parts b y.front y.back y.joined q in
-      let n : length gs ≡ length hs = counts gs hs e in
+      let n : length gs ≡ length hs = sym (length-map gs (λ (p : ℕ × Handler). p.1)) ∙ ap length e ∙ length-map hs (λ (p : ℕ × Handler). p.1) in
       let f = shortest_one x.front y.front (length gs) u.0 v.0 x.count (subst (λ (k : ℕ). Shortest Spells y.front k) (sym n) y.count) in
       let t = placed-once (length x.front) x.back y.back gs hs e u.1 v.1 x.each (subst (λ (l : List ℕ). Placed (PacksHandler N ss) (length l) y.back hs) (sym f) y.each) in
       (x.joined ∙ (λ k. f k ++ t.0 k) ∙ sym y.joined, t.1)
-    where
-      counts : (xs ys : List (ℕ × Handler)) → map (λ (p : ℕ × Handler). p.1) xs ≡ map (λ (p : ℕ × Handler). p.1) ys → length xs ≡ length ys
-      counts [] [] q = refl
-      counts [] (y ∷ ys) q = absurd cc
-      counts (x ∷ xs) [] q = absurd cc
-      counts (x ∷ xs) (y ∷ ys) q = ap suc (counts xs ys cc)
 
   module _ (ts : List Try) where
-    user : ℕ → Handler
-    user i = handler_of (try_at ts i)
-
     ordered-of : (list offs : List ℕ) (p : PacksHandlersOf N ss ts list offs) → Ordered Handler (λ i. handler_of (try_at ts i)) (length ts) (map (λ (r : ℕ × Handler). r.1) p.handlers)
     ordered-of list offs p = record {
       order = λ k l g h lt a b i li e.

@@ -7,7 +7,7 @@ use Rattle.std.proofs.lemmas.Slice.Eq.{bytes_eq-Decides}
 use Rattle.std.proofs.lemmas.Option.{slice_get-map}
 use Rattle.std.proofs.lemmas.List.{length-map, map-append}
 use Rattle.indexmap.specs.IndexSet.{insert_key}
-use Rattle.code_put.specs.Writing.{IsNumbered}
+use Rattle.code_put.specs.Writing.{IsHeldAs}
 use Rattle.std.proofs.lemmas.Bool.{or_parts}
 
 abbrev Held : Type 0
@@ -34,7 +34,7 @@ by-test : (t : Bool) (ks new : List Held) (b : Held) (n : ℕ) → list_any (sam
 by-test true ks new b n e f g = inl (ap (map items) f)
 by-test false ks new b n e f g = inr (g ∙ last-place ks b e ∙ sym (length-map ks items), ap (map items) f ∙ map-append items ks (b ∷ []), λ k h. none-there ks b k e h)
 
-pub numbered : (ks new : List Held) (b : Held) (n : ℕ) (x : Held) → slice_get new n ≡ Some x → bytes_eq b.items x.items ≡ true → new ≡ insert_key same ks b → n ≡ position_or_len (same b) ks → IsNumbered (map items ks) (map items new) b.items n
+pub numbered : (ks new : List Held) (b : Held) (n : ℕ) (x : Held) → slice_get new n ≡ Some x → bytes_eq b.items x.items ≡ true → new ≡ insert_key same ks b → n ≡ position_or_len (same b) ks → IsHeldAs (map items ks) (map items new) b.items n
 numbered ks new b n x there eq keys index = record {
   there = slice_get-map items new n ∙ ap (option_map items) there ∙ ap (λ (l : List ℕ). Some l) (sym ((bytes_eq-Decides b.items x.items).0 eq));
   is_new = by-test (list_any (same b) ks) ks new b n refl keys index;

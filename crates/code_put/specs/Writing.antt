@@ -25,7 +25,7 @@ PutPayload ss at i old new = (ranks : Five) → PutInsn (NameRanks ranks) ss at 
 -- ---- handlers, each as its bytes
 
 -- The bytes are number n of those that are held after the call, at its place of before if they were held, else last.
-pub record IsNumbered (old new : List (List ℕ)) (bytes : List ℕ) (n : ℕ) : Type 0 where
+pub record IsHeldAs (old new : List (List ℕ)) (bytes : List ℕ) (n : ℕ) : Type 0 where
   pub there : slice_get new n ≡ Some bytes
   pub is_new : (new ≡ old) ⊎ ((n ≡ length old) × (new ≡ old ++ bytes ∷ []) × ((k : ℕ) → slice_get old k ≡ Some bytes → ⊥))
 

@@ -12,7 +12,7 @@ ghost use Rattle.program_types.specs.Mentions.{names_of_try};
 ghost use Rattle.tables_names.specs.Closure.{Five, NameRanks};
 ghost use Rattle.code_read.specs.Tries.{handler_of};
 ghost use Rattle.code_put.specs.Packs.{AddressAt, PacksCatch, PacksHandler, PacksHandlersOf};
-ghost use Rattle.code_put.specs.Writing.{IsNumbered, IsDistinct, IsDistinctOf, IsListed, joined_keys};
+ghost use Rattle.code_put.specs.Writing.{IsHeldAs, IsDistinct, IsDistinctOf, IsListed, joined_keys};
 ghost use Rattle.code_put.specs.Fits.{HasIndexBelow, catches_in};
 
 use crate::begins::Begins;
@@ -101,7 +101,7 @@ fn put_handler(
 /// The number of these bytes among those that are held, where they come last if they weren't held.
 pub fn number_of(handlers: &mut IndexSet<Vec<u8>, Seed>, bytes: Vec<u8>) -> Result<u32, Fault>
     requires few { length handlers.old.keys < 65536 }
-    ensures ok { IfOk result (λ n. IsNumbered (map (λ v. v.items) handlers.old.keys) (map (λ v. v.items) handlers.new.keys) bytes.items n) }
+    ensures ok { IfOk result (λ n. IsHeldAs (map (λ v. v.items) handlers.old.keys) (map (λ v. v.items) handlers.new.keys) bytes.items n) }
     ensures memory { IsOkUnless result memory }
 {
     let (number, _) = handlers.insert_full(bytes)?;

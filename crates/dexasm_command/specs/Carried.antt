@@ -21,6 +21,7 @@ pub record Around : Type 0 where
   pub taken : Option (List ℕ)
   pub output_failed : Bool
 
+-- what is around a call whose six things are known by their terms
 abbrev pub around : Bool → Files → Option (List ℕ) → Bool → Option (List ℕ) → Bool → Around
 around known files left input_failed taken output_failed =
     record { known = known; files = files; left = left; input_failed = input_failed; taken = taken; output_failed = output_failed }

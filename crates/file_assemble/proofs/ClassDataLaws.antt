@@ -1,29 +1,26 @@
--- Class data of a class in memory.
-use Rattle.std.proofs.Common.{◌≡◌, ℕ, ◌+◌, ◌<◌, ◌≤◌, List, ◌++◌, length, map, refl, sym, ap, ◌∙◌, arith, length-append, append_assoc}
-use Rattle.std.proofs.lemmas.List.{length-map}
+-- Class data of a class.
+use Rattle.std.proofs.Common.{◌≡◌, ℕ, ◌+◌, ◌<◌, ◌≤◌, List, ◌++◌, length, refl, sym, ap, ◌∙◌, arith, length-append, append_assoc}
 use Rattle.dex_base.specs.Grammar.{Appends}
 use Rattle.dex_base.specs.Leb128.{Spells, Shortest}
 use Rattle.file_classes.specs.ClassData.{SpellsCounts}
 use Rattle.file_layout.specs.Sections.{AddsSome}
 use Rattle.file_layout.proofs.SectionLaws.{adds_some, gap_one, unpadded}
 use Rattle.tables_names.specs.Closure.{Five, NameRanks}
-use Rattle.program_types.specs.View as view
-use Rattle.program_types.specs.declared.class.Class as made
+use Rattle.program_types.specs.Content.{Class}
 use Rattle.file_assemble.specs.Data.{PacksData, ClassWithCodes, code_offs, has_no_members, wide_with_codes}
 use Rattle.file_assemble.specs.Growing.{AddsFields, AddsMethods}
 use Rattle.file_assemble.proofs.DataLengths.{data_length, some_members}
 
 -- four counts, then the four lists
-pub members_append : (s : Five) (c : made.Class) (codes first last old m0 m1 m2 m3 new : List ℕ) → codes ≡ first ++ last
-    → Appends (SpellsCounts (Shortest Spells)) old m0 (length c.statics.now, (length c.instances.now, (length c.directs.now, length c.virtuals.now)))
-    → AddsFields (NameRanks s) (view.desc c.ty) m0 m1 (map view.member c.statics.now) → AddsFields (NameRanks s) (view.desc c.ty) m1 m2 (map view.member c.instances.now)
-    → AddsMethods (NameRanks s) (view.desc c.ty) first m2 m3 (map view.method c.directs.now) → AddsMethods (NameRanks s) (view.desc c.ty) last m3 new (map view.method c.virtuals.now)
-    → Appends (PacksData (NameRanks s)) old new (record { class = view.class c; codes = codes })
-members_append s c codes first last old m0 m1 m2 m3 new whole n a b d v =
-    let e1 : length a.entries ≡ length c.statics.now = sym a.run.count ∙ length-map c.statics.now view.member in
-    let e2 : length b.entries ≡ length c.instances.now = sym b.run.count ∙ length-map c.instances.now view.member in
-    let e3 : length d.entries ≡ length c.directs.now = sym d.run.count ∙ length-map c.directs.now view.method in
-    let e4 : length v.entries ≡ length c.virtuals.now = sym v.run.count ∙ length-map c.virtuals.now view.method in
+pub members_append : (s : Five) (c : Class) (a b d v : ℕ) (codes first last old m0 m1 m2 m3 new : List ℕ) → a ≡ length c.statics → b ≡ length c.instances → d ≡ length c.directs → v ≡ length c.virtuals → codes ≡ first ++ last
+    → Appends (SpellsCounts (Shortest Spells)) old m0 (a, (b, (d, v)))
+    → AddsFields (NameRanks s) c.ty m0 m1 c.statics → AddsFields (NameRanks s) c.ty m1 m2 c.instances → AddsMethods (NameRanks s) c.ty first m2 m3 c.directs → AddsMethods (NameRanks s) c.ty last m3 new c.virtuals
+    → Appends (PacksData (NameRanks s)) old new (record { class = c; codes = codes })
+members_append s c n1 n2 n3 n4 codes first last old m0 m1 m2 m3 new f1 f2 f3 f4 whole n a b d v =
+    let e1 : length a.entries ≡ n1 = sym (f1 ∙ a.run.count) in
+    let e2 : length b.entries ≡ n2 = sym (f2 ∙ b.run.count) in
+    let e3 : length d.entries ≡ n3 = sym (f3 ∙ d.run.count) in
+    let e4 : length v.entries ≡ n4 = sym (f4 ∙ v.run.count) in
     let counted : SpellsCounts (Shortest Spells) n.bytes (length a.entries, (length b.entries, (length d.entries, length v.entries))) = rw (e1, e2, e3, e4) n.spelled in
     record {
       bytes = n.bytes ++ (a.bytes ++ (b.bytes ++ (d.bytes ++ v.bytes)));
@@ -54,17 +51,12 @@ members_append s c codes first last old m0 m1 m2 m3 new whole n a b d v =
       };
     }
 
-pub data_adds : (s : Five) (old new : List ℕ) (c : made.Class) (codes : List ℕ) (place : ℕ) → 0 < length c.statics.now + length c.instances.now + (length c.directs.now + length c.virtuals.now) → place ≡ length old
-    → Appends (PacksData (NameRanks s)) old new (record { class = view.class c; codes = codes }) → AddsSome has_no_members (PacksData (NameRanks s)) 1 old new (record { class = view.class c; codes = codes }) place
+pub data_adds : (s : Five) (old new : List ℕ) (c : Class) (codes : List ℕ) (place : ℕ) → 0 < length c.statics + length c.instances + (length c.directs + length c.virtuals) → place ≡ length old
+    → Appends (PacksData (NameRanks s)) old new (record { class = c; codes = codes }) → AddsSome has_no_members (PacksData (NameRanks s)) 1 old new (record { class = c; codes = codes }) place
 data_adds s old new c codes place some p a =
-    let e1 = length-map c.statics.now view.member in
-    let e2 = length-map c.instances.now view.member in
-    let e3 = length-map c.directs.now view.method in
-    let e4 = length-map c.virtuals.now view.method in
     let g = gap_one (length old) in
-    adds_some has_no_members (PacksData (NameRanks s)) 1 old new (record { class = view.class c; codes = codes }) place
-    (some_members (map view.member c.statics.now) (map view.member c.instances.now) (map view.method c.directs.now) (map view.method c.virtuals.now) (omega (arith, e1, e2, e3, e4, some)))
-    (record { there = omega (arith, p, g); bytes = a.bytes; whole = a.joined ∙ ap (λ (l : List ℕ). l ++ a.bytes) (sym (unpadded old)); some = (data_length s a.bytes (record { class = view.class c; codes = codes }) a.spelled).0; spelled = a.spelled })
+    adds_some has_no_members (PacksData (NameRanks s)) 1 old new (record { class = c; codes = codes }) place (some_members c.statics c.instances c.directs c.virtuals some)
+    (record { there = omega (arith, p, g); bytes = a.bytes; whole = a.joined ∙ ap (λ (l : List ℕ). l ++ a.bytes) (sym (unpadded old)); some = (data_length s a.bytes (record { class = c; codes = codes }) a.spelled).0; spelled = a.spelled })
 
 pub data_bound : (s : Five) (old new : List ℕ) (v : ClassWithCodes) → Appends (PacksData (NameRanks s)) old new v → length new ≤ length old + wide_with_codes v
 data_bound s old new v a =

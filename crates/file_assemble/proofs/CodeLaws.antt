@@ -1,6 +1,7 @@
 -- Bodies, one after the other.
-use Rattle.std.proofs.Common.{◌≡◌, ℕ, zero, suc, ◌+◌, ◌<◌, ◌≤◌, List, [], ◌∷◌, ◌++◌, length, map, take, drop, get_or, refl, sym, ap, ◌∙◌, arith, subst, append_assoc, Option, Some}
-use Rattle.std.proofs.lemmas.List.{take_all, drop_all}
+use Rattle.std.proofs.Common.{◌≡◌, ℕ, ◌+◌, ◌<◌, ◌≤◌, List, [], ◌∷◌, ◌++◌, length, map, take, drop, get_or, sym, ap, ◌∙◌, arith, subst, append_assoc, Option, Some}
+use Rattle.std.proofs.lemmas.Grind.{flat_map-append}
+use Rattle.std.proofs.lemmas.List.{take_all, drop_all, append-nil}
 use Rattle.std.specs.List.{AllByRecursion, flat_map}
 use Rattle.code_put.proofs.PackedLaws.{packed-spells}
 use Rattle.code_put.specs.Packs.{PacksCode}
@@ -19,7 +20,7 @@ use Rattle.program_types.specs.declared.class.Method as made_method
 use Rattle.file_assemble.proofs.LengthLaws.{map_drop}
 use Rattle.file_assemble.specs.Codes.{PacksBody, WritesBody, is_bodiless}
 use Rattle.file_assemble.specs.Named.{CanPut}
-use Rattle.dex_base.proofs.ListFacts.{map_more}
+use Rattle.dex_base.proofs.ListFacts.{map_more, all_at}
 use Rattle.file_limits.proofs.PartLaws.{map_map}
 use Rattle.file_assemble.proofs.OneBody.{bodies_packs, bodies_one, bodies_most}
 
@@ -53,13 +54,9 @@ bodies_left ms i d lt = ap (λ (l : List content.Method). bodies_in l) (map_drop
 
 pub bodies_start : (s : Five) (before : List ℕ) (bodies : List (Option Code)) (places : List ℕ) (items : List Entry) → BodiesTo s before before bodies [] bodies places places items items
 bodies_start s before bodies places items = record {
-  lays = λ old front back all some l. subst (λ (f : List (Option Code)). Bodies s old before f (bodies ++ back) all places items) (sym (nothing_more front)) l;
+  lays = λ old front back all some l. subst (λ (f : List (Option Code)). Bodies s old before f (bodies ++ back) all places items) (sym (append-nil front)) l;
   bound = omega arith;
 }
-  where
-    nothing_more : (xs : List (Option Code)) → xs ++ [] ≡ xs
-    nothing_more [] = refl
-    nothing_more (x ∷ xs) = ap (λ (l : List (Option Code)). x ∷ l) (nothing_more xs)
 
 -- one more method
 pub bodies_step : (s : Five) (before mid now : List ℕ) (bodies : List (Option Code)) (ms : List made_method.Method) (i : ℕ) (d : made_method.Method) (places_before places more : List ℕ) (items_before items kept : List Entry) (place : ℕ) → i < length ms
@@ -101,25 +98,16 @@ pub class_left : (cs : List made.Class) (i : ℕ) (d : made.Class) → i < lengt
 class_left cs i d lt =
     ap (flat_map bodies_of) (map_drop view.class cs i d lt) ∙ append_assoc (bodies_in (map view.method (get_or cs i d).directs.now)) (bodies_in (map view.method (get_or cs i d).virtuals.now)) (flat_map bodies_of (map view.class (drop (i + 1) cs)))
 
-flat_one : (p : List Class) (c : Class) → flat_map bodies_of (p ++ c ∷ []) ≡ flat_map bodies_of p ++ bodies_of c
-flat_one [] c = one (bodies_of c)
-  where
-    one : (xs : List (Option Code)) → xs ++ [] ≡ xs
-    one [] = refl
-    one (x ∷ xs) = ap (λ (l : List (Option Code)). x ∷ l) (one xs)
-flat_one (x ∷ p) c = ap (λ (l : List (Option Code)). bodies_of x ++ l) (flat_one p c) ∙ sym (append_assoc (bodies_of x) (flat_map bodies_of p) (bodies_of c))
-
 pub class_done : (cs : List made.Class) (i : ℕ) (d : made.Class) → i < length cs
     → flat_map bodies_of (map view.class (take (i + 1) cs)) ≡ (flat_map bodies_of (map view.class (take i cs)) ++ bodies_in (map view.method (get_or cs i d).directs.now)) ++ bodies_in (map view.method (get_or cs i d).virtuals.now)
 class_done cs i d lt =
-    ap (flat_map bodies_of) (map_more view.class cs i d lt) ∙ flat_one (map view.class (take i cs)) (view.class (get_or cs i d))
+    ap (flat_map bodies_of) (map_more view.class cs i d lt) ∙ flat_map-append bodies_of (map view.class (take i cs)) (view.class (get_or cs i d) ∷ [])
+    ∙ ap (λ (l : List (Option Code)). flat_map bodies_of (map view.class (take i cs)) ++ l) (append-nil (bodies_of (view.class (get_or cs i d))))
     ∙ sym (append_assoc (flat_map bodies_of (map view.class (take i cs))) (bodies_in (map view.method (get_or cs i d).directs.now)) (bodies_in (map view.method (get_or cs i d).virtuals.now)))
 
 -- the body of one of the methods
 pub body_at : (P : Option Code → Type 0) (ms : List made_method.Method) (i : ℕ) (d : made_method.Method) → i < length ms → AllByRecursion P (bodies_in (map view.method ms)) → P (view.method (get_or ms i d)).code
-body_at P [] i d lt h = absurd (omega (arith, lt))
-body_at P (m ∷ ms) zero d lt h = h.0
-body_at P (m ∷ ms) (suc i) d lt h = body_at P ms i d (omega (arith, lt)) h.1
+body_at P ms i d lt h = all_at P (λ (m : made_method.Method). (view.method m).code) ms i d lt (subst (λ (l : List (Option Code)). AllByRecursion P l) (map_map (λ (m : content.Method). m.code) view.method ms) h)
 
 pub body_room : (ms : List made_method.Method) (i : ℕ) (d : made_method.Method) → i < length ms → wide_body (view.method (get_or ms i d)).code ≤ wide_all wide_body (bodies_in (map view.method (drop i ms)))
 body_room ms i d lt = let e = ap (wide_all wide_body) (bodies_left ms i d lt) in omega (arith, e)

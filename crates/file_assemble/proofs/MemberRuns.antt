@@ -8,9 +8,9 @@ use Rattle.std.specs.Ordering.{nat_cmp, ordering_then}
 use Rattle.std.specs.declared.cmp.Ordering.TheVariants.{Less, Equal}
 use Rattle.std.specs.declared.cmp.Ordering.{Ordering}
 use Rattle.dex_base.proofs.GrammarLaws.{Each-push}
-use Rattle.dex_base.specs.Grammar.{Appends}
+use Rattle.dex_base.specs.Grammar.{Appends, Each}
 use Rattle.dex_base.specs.Leb128.{Spells, Shortest}
-use Rattle.file_classes.specs.ClassData.{FieldEntry, MethodEntry, SpellsFieldEntry, SpellsMethodEntry}
+use Rattle.file_classes.specs.ClassData.{EntriesAre, MethodEntry, SpellsFieldEntry, SpellsMethodEntry}
 use Rattle.tables_names.proofs.RowLemmas.{keys_compare_as_indices}
 use Rattle.tables_names.specs.Closure.{Five, NameRanks, method_of_class}
 use Rattle.tables_names.specs.Rank.{Rising, IsAt}
@@ -18,11 +18,10 @@ use Rattle.program_types.specs.Content.{Units, Descriptor, Member, Method}
 use Rattle.program_types.specs.Key.{Key, key_cmp}
 use Rattle.program_types.specs.Mentions.{field_of_class}
 use Rattle.program_types.specs.View as view
-use Rattle.program_types.specs.declared.class.Member as made
 use Rattle.program_types.specs.declared.class.Method as made_method
 use Rattle.program_rules.specs.Rules.{KeysRise, member_key, method_key}
 use Rattle.file_assemble.proofs.RunLaws.{total, total_push, no_run, run_push}
-use Rattle.file_assemble.specs.Data.{FieldRanks, MethodRanks}
+use Rattle.file_assemble.specs.Data.{FieldRanks, MethodRanks, code_offs}
 use Rattle.file_assemble.specs.Growing.{AddsFields, AddsMethods}
 use Rattle.program_rules.proofs.MemberLaws.{key-at}
 use Rattle.tables_names.proofs.IndexLemmas.{less_than}
@@ -53,139 +52,103 @@ next_above key g xs k d lt rise =
     sym (ap (λ (x : Key). key_cmp x (key (g (get_or xs (suc k) d)))) (key-at key g xs k d (omega (arith, lt))) ∙ ap (key_cmp (key (g (get_or xs k d)))) refl)
     ∙ sym (ap (key_cmp (get_or (map key (map g xs)) k [])) (ap (λ (j : ℕ). get_or (map key (map g xs)) j []) s ∙ key-at key g xs (suc k) d lt)) ∙ r
 
--- ---- fields
+-- ---- entries
 
--- The fields so far, the last of them with this index, 0 for none.
-pub record FieldsTo (s : Five) (class : Descriptor) (old new : List ℕ) (ms : List Member) (last : ℕ) : Type 0 where
-  pub adds : AddsFields (NameRanks s) class old new ms
-  pub sum : last ≡ total adds.entries
-  pub after : (j : ℕ) (m : Member) → length ms ≡ j + 1 → slice_get ms j ≡ Some m → NameRanks s last (field_of_class class m)
+-- The entries so far, where N says which index stands for which value, the last of them with this index, 0 for none.
+pub record RunTo {R V : Type 0} (M : ℕ → ℕ × R → V → Type 0) (G : List ℕ → ℕ × R → Type 0) (N : ℕ → V → Type 0) (old new : List ℕ) (vs : List V) (last : ℕ) : Type 0 where
+  pub bytes : List ℕ
+  pub entries : List (ℕ × R)
+  pub whole : new ≡ old ++ bytes
+  pub spelled : Each G bytes entries
+  pub run : EntriesAre M entries vs
+  pub sum : last ≡ total entries
+  pub after : (j : ℕ) (v : V) → length vs ≡ j + 1 → slice_get vs j ≡ Some v → N last v
 
-pub fields_start : (s : Five) (class : Descriptor) (old : List ℕ) → FieldsTo s class old old [] 0
-fields_start s class old = record {
-  adds = record { bytes = []; entries = []; whole = sym (append-nil old); spelled = refl; run = no_run (FieldRanks (NameRanks s) class) };
-  sum = refl;
-  after = λ j m n at. absurd (omega (arith, n));
-}
+abbrev pub run_start : {R V : Type 0} (M : ℕ → ℕ × R → V → Type 0) (G : List ℕ → ℕ × R → Type 0) (N : ℕ → V → Type 0) (old : List ℕ) → RunTo M G N old old [] 0
+run_start M G N old = record { bytes = []; entries = []; whole = sym (append-nil old); spelled = refl; run = no_run M; sum = refl; after = λ j v n at. absurd (omega (arith, n)) }
 
-no_total : (s : Five) (class : Descriptor) (old new : List ℕ) (last : ℕ) → FieldsTo s class old new [] last → last ≡ 0
-no_total s class old new last f = let c = f.adds.run.count in f.sum ∙ none f.adds.entries (omega (arith, c))
-  where
-    none : (es : List FieldEntry) → length es ≡ 0 → total es ≡ 0
-    none [] e = refl
-    none (x ∷ es) e = absurd (omega (arith, e))
+no_total : {R : Type 0} (es : List (ℕ × R)) → length es ≡ 0 → total es ≡ 0
+no_total [] e = refl
+no_total (x ∷ es) e = absurd (omega (arith, e))
 
-taken_field : (ys : List made.Member) (k : ℕ) (d : made.Member) → suc k < length ys → slice_get (map view.member (take (suc k) ys)) k ≡ Some (view.member (get_or ys k d))
-taken_field [] k d h = absurd (omega (arith, h))
-taken_field (y ∷ ys) zero d h = refl
-taken_field (y ∷ ys) (suc k) d h = taken_field ys k d (omega (arith, h))
+taken : {A V : Type 0} (g : A → V) (ys : List A) (k : ℕ) (d : A) → suc k < length ys → slice_get (map g (take (suc k) ys)) k ≡ Some (g (get_or ys k d))
+taken g [] k d h = absurd (omega (arith, h))
+taken g (y ∷ ys) zero d h = refl
+taken g (y ∷ ys) (suc k) d h = taken g ys k d (omega (arith, h))
 
--- the field at i comes after those before it
-pub field_step : (s : Five) (class : Descriptor) (old new : List ℕ) (xs : List made.Member) (i : ℕ) (d : made.Member) (last index : ℕ) → Rising s.fields → i < length xs → KeysRise (map member_key (map view.member xs))
-    → FieldsTo s class old new (map view.member (take i xs)) last → NameRanks s index (field_of_class class (view.member (get_or xs i d))) → (0 < i → last < index) × (last ≤ index)
-field_step s class old new xs zero d last index up lt rise f at =
-    let e = no_total s class old new last f in
+pub last_one : {V : Type 0} (vs : List V) (v : V) (j : ℕ) (w : V) → length (vs ++ v ∷ []) ≡ j + 1 → slice_get (vs ++ v ∷ []) j ≡ Some w → v ≡ w
+last_one [] v zero w n e = ap (some_or v) e
+last_one [] v (suc j) w n e = absurd (omega (arith, n))
+last_one (x ∷ vs) v zero w n e = let l = length-append vs (v ∷ []) in absurd (omega (arith, n, l))
+last_one (x ∷ vs) v (suc j) w n e = last_one vs v j w (omega (arith, n)) e
+
+-- the value at i comes after those before it
+pub run_step : {R V A : Type 0} {M : ℕ → ℕ × R → V → Type 0} {G : List ℕ → ℕ × R → Type 0} {N : ℕ → V → Type 0} {old new : List ℕ} {last : ℕ} (g : A → V) (key : V → Key) → ((i j : ℕ) (v w : V) → N i v → N j w → key_cmp (key v) (key w) ≡ Less → i < j)
+    → (xs : List A) (i : ℕ) (d : A) (index : ℕ) → i < length xs → KeysRise (map key (map g xs)) → RunTo M G N old new (map g (take i xs)) last → N index (g (get_or xs i d)) → (0 < i → last < index) × (last ≤ index)
+run_step g key rises xs zero d index lt up f at =
+    let n = f.run.count in
+    let e = f.sum ∙ no_total f.entries (omega (arith, n)) in
     (λ h. absurd (omega (arith, h)), omega (arith, e))
-field_step s class old new xs (suc i) d last index up lt rise f at =
-    let n : length (map view.member (take (suc i) xs)) ≡ i + 1 = let a = length-map (take (suc i) xs) view.member in let b = length-take (suc i) xs in omega (arith, a, b, lt) in
-    let b = f.after i (view.member (get_or xs i d)) n (taken_field xs i d lt) in
-    let r = rank_rises s.fields class last index _ _ up b at (next_above member_key view.member xs i d lt rise) in
+run_step g key rises xs (suc i) d index lt up f at =
+    let n : length (map g (take (suc i) xs)) ≡ i + 1 = let a = length-map (take (suc i) xs) g in let b = length-take (suc i) xs in omega (arith, a, b, lt) in
+    let r = rises _ index _ _ (f.after i (g (get_or xs i d)) n (taken g xs i d lt)) at (next_above key g xs i d lt up) in
     (λ h. r, omega (arith, r))
 
-last_field : (vs : List Member) (v : Member) (j : ℕ) (w : Member) → length (vs ++ v ∷ []) ≡ j + 1 → slice_get (vs ++ v ∷ []) j ≡ Some w → v ≡ w
-last_field [] v zero w n e = ap (some_or v) e
-last_field [] v (suc j) w n e = absurd (omega (arith, n))
-last_field (x ∷ vs) v zero w n e = let l = length-append vs (v ∷ []) in absurd (omega (arith, n, l))
-last_field (x ∷ vs) v (suc j) w n e = last_field vs v j w (omega (arith, n)) e
-
-pub fields_more : (s : Five) (class : Descriptor) (old mid new : List ℕ) (xs : List made.Member) (i : ℕ) (d : made.Member) (last index : ℕ) → Rising s.fields → i < length xs → KeysRise (map member_key (map view.member xs))
-    → FieldsTo s class old mid (map view.member (take i xs)) last → NameRanks s index (field_of_class class (view.member (get_or xs i d)))
-    → Appends (SpellsFieldEntry (Shortest Spells)) mid new (index - last, (view.member (get_or xs i d)).flags) → FieldsTo s class old new (map view.member (take (i + 1) xs)) index
-fields_more s class old mid new xs i d last index up lt rise f at a =
-    let p = field_step s class old mid xs i d last index up lt rise f at in
-    let m = view.member (get_or xs i d) in
+abbrev pub run_more : {R V A : Type 0} {M : ℕ → ℕ × R → V → Type 0} {G : List ℕ → ℕ × R → Type 0} {N : ℕ → V → Type 0} {old mid new : List ℕ} {last : ℕ} (g : A → V) (key : V → Key) → ((i j : ℕ) (v w : V) → N i v → N j w → key_cmp (key v) (key w) ≡ Less → i < j)
+    → (xs : List A) (i : ℕ) (d : A) (index : ℕ) → i < length xs → KeysRise (map key (map g xs)) → RunTo M G N old mid (map g (take i xs)) last → N index (g (get_or xs i d))
+    → (rest : R) → M index (index - last, rest) (g (get_or xs i d)) → Appends G mid new (index - last, rest) → RunTo M G N old new (map g (take (i + 1) xs)) index
+run_more {V = V} {M = M} {G = G} {N = N} {old = old} {last = last} g key rises xs i d index lt up f at rest m a =
+    let p = run_step g key rises xs i d index lt up f at in
+    let v = g (get_or xs i d) in
     let low = p.1 in
-    let n : length (map view.member (take i xs)) ≡ i = let x = length-map (take i xs) view.member in let y = length-take i xs in omega (arith, x, y, lt) in
+    let n : length (map g (take i xs)) ≡ i = let x = length-map (take i xs) g in let y = length-take i xs in omega (arith, x, y, lt) in
     let sum = f.sum in
-    let t = total_push f.adds.entries (index - last, m.flags) in
-    subst (λ (ms : List Member). FieldsTo s class old new ms index) (sym (map_more view.member xs i d lt))
-    (record {
-      adds = record {
-        bytes = f.adds.bytes ++ a.bytes;
-        entries = f.adds.entries ++ (index - last, m.flags) ∷ [];
-        whole = a.joined ∙ ap (λ (l : List ℕ). l ++ a.bytes) f.adds.whole ∙ append_assoc old f.adds.bytes a.bytes;
-        spelled = Each-push (SpellsFieldEntry (Shortest Spells)) f.adds.bytes a.bytes f.adds.entries (index - last, m.flags) f.adds.spelled a.spelled;
-        run = run_push (FieldRanks (NameRanks s) class) f.adds.entries (map view.member (take i xs)) (index - last, m.flags) m index f.adds.run (omega (arith, sum, low)) (record { field = at; flags = refl }) (λ h. let q = p.0 (omega (arith, h, n)) in omega (arith, q));
-      };
+    let t = total_push f.entries (index - last, rest) in
+    let more : map g (take i xs) ++ v ∷ [] ≡ map g (take (i + 1) xs) = sym (map_more g xs i d lt) in
+    record {
+      bytes = f.bytes ++ a.bytes;
+      entries = f.entries ++ (index - last, rest) ∷ [];
+      whole = a.joined ∙ ap (λ (l : List ℕ). l ++ a.bytes) f.whole ∙ append_assoc old f.bytes a.bytes;
+      spelled = Each-push G f.bytes a.bytes f.entries (index - last, rest) f.spelled a.spelled;
+      run = subst (λ (vs : List V). EntriesAre M (f.entries ++ (index - last, rest) ∷ []) vs) more
+          (run_push M f.entries (map g (take i xs)) (index - last, rest) v index f.run (omega (arith, sum, low)) m (λ h. let q = p.0 (omega (arith, h, n)) in omega (arith, q)));
       sum = omega (arith, t, sum, low);
-      after = λ j v count there. subst (λ (w : Member). NameRanks s index (field_of_class class w)) (last_field (map view.member (take i xs)) m j v count there) at;
-    })
+      after = λ j w count there. subst (λ (x : V). N index x) (last_one (map g (take i xs)) v j w (ap length more ∙ count) (subst (λ (vs : List V). slice_get vs j ≡ Some w) (sym more) there)) at;
+    }
+
+-- ---- fields
+
+abbrev pub FieldsTo : Five → Descriptor → List ℕ → List ℕ → List Member → ℕ → Type 0
+FieldsTo s class old new ms last = RunTo (FieldRanks (NameRanks s) class) (SpellsFieldEntry (Shortest Spells)) (λ i m. NameRanks s i (field_of_class class m)) old new ms last
+
+pub fields_rise : (s : Five) (class : Descriptor) → Rising s.fields → (i j : ℕ) (v w : Member) → NameRanks s i (field_of_class class v) → NameRanks s j (field_of_class class w) → key_cmp (member_key v) (member_key w) ≡ Less → i < j
+fields_rise s class up i j v w p q less = rank_rises s.fields class i j _ _ up p q less
+
+pub fields_added : (s : Five) (class : Descriptor) {old new : List ℕ} {ms : List Member} {last : ℕ} → FieldsTo s class old new ms last → AddsFields (NameRanks s) class old new ms
+fields_added s class f = record { bytes = f.bytes; entries = f.entries; whole = f.whole; spelled = f.spelled; run = f.run }
 
 -- ---- methods
 
--- The methods so far, of which the bodies stand at these places, the last of them with this index, 0 for none.
+-- The methods so far, of which the bodies stand at these places.
 pub record MethodsTo (s : Five) (class : Descriptor) (codes old new : List ℕ) (ms : List Method) (last : ℕ) : Type 0 where
-  pub adds : AddsMethods (NameRanks s) class codes old new ms
-  pub sum : last ≡ total adds.entries
-  pub after : (j : ℕ) (m : Method) → length ms ≡ j + 1 → slice_get ms j ≡ Some m → NameRanks s last (method_of_class class m)
+  pub to : RunTo (MethodRanks (NameRanks s) class) (SpellsMethodEntry (Shortest Spells)) (λ i m. NameRanks s i (method_of_class class m)) old new ms last
+  pub places : code_offs to.entries ≡ codes
 
 pub methods_start : (s : Five) (class : Descriptor) (old : List ℕ) → MethodsTo s class [] old old [] 0
-methods_start s class old = record {
-  adds = record { bytes = []; entries = []; whole = sym (append-nil old); spelled = refl; run = no_run (MethodRanks (NameRanks s) class); places = refl };
-  sum = refl;
-  after = λ j m n at. absurd (omega (arith, n));
-}
+methods_start s class old = record { to = run_start (MethodRanks (NameRanks s) class) (SpellsMethodEntry (Shortest Spells)) (λ i m. NameRanks s i (method_of_class class m)) old; places = refl }
 
-no_method_total : (s : Five) (class : Descriptor) (codes old new : List ℕ) (last : ℕ) → MethodsTo s class codes old new [] last → last ≡ 0
-no_method_total s class codes old new last f = let c = f.adds.run.count in f.sum ∙ none f.adds.entries (omega (arith, c))
-  where
-    none : (es : List MethodEntry) → length es ≡ 0 → total es ≡ 0
-    none [] e = refl
-    none (x ∷ es) e = absurd (omega (arith, e))
-
-taken_method : (ys : List made_method.Method) (k : ℕ) (d : made_method.Method) → suc k < length ys → slice_get (map view.method (take (suc k) ys)) k ≡ Some (view.method (get_or ys k d))
-taken_method [] k d h = absurd (omega (arith, h))
-taken_method (y ∷ ys) zero d h = refl
-taken_method (y ∷ ys) (suc k) d h = taken_method ys k d (omega (arith, h))
-
--- the method at i comes after those before it
-pub method_step : (s : Five) (class : Descriptor) (codes old new : List ℕ) (xs : List made_method.Method) (i : ℕ) (d : made_method.Method) (last index : ℕ) → Rising s.methods → i < length xs → KeysRise (map method_key (map view.method xs))
-    → MethodsTo s class codes old new (map view.method (take i xs)) last → NameRanks s index (method_of_class class (view.method (get_or xs i d))) → (0 < i → last < index) × (last ≤ index)
-method_step s class codes old new xs zero d last index up lt rise f at =
-    let e = no_method_total s class codes old new last f in
-    (λ h. absurd (omega (arith, h)), omega (arith, e))
-method_step s class codes old new xs (suc i) d last index up lt rise f at =
-    let n : length (map view.method (take (suc i) xs)) ≡ i + 1 = let a = length-map (take (suc i) xs) view.method in let b = length-take (suc i) xs in omega (arith, a, b, lt) in
-    let b = f.after i (view.method (get_or xs i d)) n (taken_method xs i d lt) in
-    let r = rank_rises s.methods class last index _ _ up b at (next_above method_key view.method xs i d lt rise) in
-    (λ h. r, omega (arith, r))
-
-last_method : (vs : List Method) (v : Method) (j : ℕ) (w : Method) → length (vs ++ v ∷ []) ≡ j + 1 → slice_get (vs ++ v ∷ []) j ≡ Some w → v ≡ w
-last_method [] v zero w n e = ap (some_or v) e
-last_method [] v (suc j) w n e = absurd (omega (arith, n))
-last_method (x ∷ vs) v zero w n e = let l = length-append vs (v ∷ []) in absurd (omega (arith, n, l))
-last_method (x ∷ vs) v (suc j) w n e = last_method vs v j w (omega (arith, n)) e
+pub methods_rise : (s : Five) (class : Descriptor) → Rising s.methods → (i j : ℕ) (v w : Method) → NameRanks s i (method_of_class class v) → NameRanks s j (method_of_class class w) → key_cmp (method_key v) (method_key w) ≡ Less → i < j
+methods_rise s class up i j v w p q less = rank_rises s.methods class i j _ _ up p q less
 
 pub methods_more : (s : Five) (class : Descriptor) (codes old mid new : List ℕ) (xs : List made_method.Method) (i : ℕ) (d : made_method.Method) (last index code : ℕ) → Rising s.methods → i < length xs → KeysRise (map method_key (map view.method xs))
     → MethodsTo s class codes old mid (map view.method (take i xs)) last → NameRanks s index (method_of_class class (view.method (get_or xs i d)))
     → Appends (SpellsMethodEntry (Shortest Spells)) mid new (index - last, ((view.method (get_or xs i d)).flags, code)) → MethodsTo s class (codes ++ code ∷ []) old new (map view.method (take (i + 1) xs)) index
 methods_more s class codes old mid new xs i d last index code up lt rise f at a =
-    let p = method_step s class codes old mid xs i d last index up lt rise f at in
-    let m = view.method (get_or xs i d) in
-    let low = p.1 in
-    let n : length (map view.method (take i xs)) ≡ i = let x = length-map (take i xs) view.method in let y = length-take i xs in omega (arith, x, y, lt) in
-    let sum = f.sum in
-    let t = total_push f.adds.entries (index - last, (m.flags, code)) in
-    subst (λ (ms : List Method). MethodsTo s class (codes ++ code ∷ []) old new ms index) (sym (map_more view.method xs i d lt))
-    (record {
-      adds = record {
-        bytes = f.adds.bytes ++ a.bytes;
-        entries = f.adds.entries ++ (index - last, (m.flags, code)) ∷ [];
-        whole = a.joined ∙ ap (λ (l : List ℕ). l ++ a.bytes) f.adds.whole ∙ append_assoc old f.adds.bytes a.bytes;
-        spelled = Each-push (SpellsMethodEntry (Shortest Spells)) f.adds.bytes a.bytes f.adds.entries (index - last, (m.flags, code)) f.adds.spelled a.spelled;
-        run = run_push (MethodRanks (NameRanks s) class) f.adds.entries (map view.method (take i xs)) (index - last, (m.flags, code)) m index f.adds.run (omega (arith, sum, low)) (record { method = at; flags = refl }) (λ h. let q = p.0 (omega (arith, h, n)) in omega (arith, q));
-        places = map-append (λ (e : MethodEntry). e.1.1) f.adds.entries ((index - last, (m.flags, code)) ∷ []) ∙ ap (λ (l : List ℕ). l ++ code ∷ []) f.adds.places;
-      };
-      sum = omega (arith, t, sum, low);
-      after = λ j v count there. subst (λ (w : Method). NameRanks s index (method_of_class class w)) (last_method (map view.method (take i xs)) m j v count there) at;
-    })
+    let flags = (view.method (get_or xs i d)).flags in
+    record {
+      to = run_more view.method method_key (methods_rise s class up) xs i d index lt rise f.to at (flags, code) (record { method = at; flags = refl }) a;
+      places = map-append (λ (e : MethodEntry). e.1.1) f.to.entries ((index - last, (flags, code)) ∷ []) ∙ ap (λ (l : List ℕ). l ++ code ∷ []) f.places;
+    }
+
+pub methods_added : {s : Five} {class : Descriptor} {codes old new : List ℕ} {ms : List Method} {last : ℕ} → MethodsTo s class codes old new ms last → AddsMethods (NameRanks s) class codes old new ms
+methods_added f = record { bytes = f.to.bytes; entries = f.to.entries; whole = f.to.whole; spelled = f.to.spelled; run = f.to.run; places = f.places }

@@ -1,7 +1,7 @@
 -- Runs of entries, one entry more.
-use Rattle.std.proofs.Common.{◌≡◌, ℕ, zero, suc, ◌+◌, ◌-◌, ◌<◌, ◌≤◌, List, [], ◌∷◌, ◌++◌, length, take, get_or, refl, sym, ap, ◌∙◌, arith, subst, length-append, Some, ⊎_elim, inl, inr, ◌⊎◌}
+use Rattle.std.proofs.Common.{◌≡◌, ℕ, ◌+◌, ◌-◌, ◌<◌, List, [], ◌∷◌, ◌++◌, length, take, get_or, refl, sym, ap, ◌∙◌, arith, subst, length-append, inl, inr}
 use Rattle.std.specs.Prelude.{sum}
-use Rattle.std.specs.List.{slice_get}
+use Rattle.std.proofs.lemmas.Bool.{cases_lt}
 use Rattle.std.proofs.lemmas.List.{take_all, take-append-le, map-append, length-map, get_or-append_right, get_or_append_left}
 use Rattle.std.proofs.lemmas.Option.{slice_get_within}
 use Rattle.std.proofs.lemmas.List.Sums.{sum_by-append}
@@ -48,15 +48,6 @@ step_last es e =
 pub no_run : {R V : Type 0} (M : ℕ → ℕ × R → V → Type 0) → EntriesAre M [] []
 no_run M = record { count = refl; each = λ k e v at to. absurd (cc at); rises = λ k some lt. absurd (omega (arith, lt)) }
 
-within : {A : Type 0} (xs : List A) (k : ℕ) (x : A) → slice_get xs k ≡ Some x → k < length xs
-within xs k x at = slice_get_within xs k x at
-
-split : (k n : ℕ) → k ≤ n → (k < n) ⊎ (k ≡ n)
-split zero zero h = inr refl
-split zero (suc n) h = inl (omega arith)
-split (suc k) zero h = absurd (omega (arith, h))
-split (suc k) (suc n) h = elim (split k n (omega (arith, h))) [ inl x ↦ inl (omega (arith, x)) | inr x ↦ inr (ap suc x) ]
-
 -- one more entry
 pub run_push : {R V : Type 0} (M : ℕ → ℕ × R → V → Type 0) (es : List (ℕ × R)) (vs : List V) (e : ℕ × R) (v : V) (i : ℕ) → EntriesAre M es vs → i ≡ total es + e.0 → M i e v → (0 < length vs → 0 < e.0) → EntriesAre M (es ++ e ∷ []) (vs ++ v ∷ [])
 run_push {R} {V} M es vs e v i run is m some =
@@ -67,16 +58,16 @@ run_push {R} {V} M es vs e v i run is m some =
       count = omega (arith, c, le, lv);
       each = λ k x w at to. elim (slice_split es e x k at) [
         | inl before ↦ elim (slice_split vs v w k to) [
-          | inl same ↦ (let lt = within es k x before in subst (λ (j : ℕ). M j x w) (sym (index_before es e k lt)) (run.each k x w before same))
-          | inr last ↦ (let lt = within es k x before in let f = last.0 in absurd (omega (arith, lt, f, c)))
+          | inl same ↦ (let lt = slice_get_within es k x before in subst (λ (j : ℕ). M j x w) (sym (index_before es e k lt)) (run.each k x w before same))
+          | inr last ↦ (let lt = slice_get_within es k x before in let f = last.0 in absurd (omega (arith, lt, f, c)))
         ]
         | inr last ↦ elim (slice_split vs v w k to) [
-          | inl same ↦ (let lt = within vs k w same in let f = last.0 in absurd (omega (arith, lt, f, c)))
+          | inl same ↦ (let lt = slice_get_within vs k w same in let f = last.0 in absurd (omega (arith, lt, f, c)))
           | inr end ↦ subst (λ (j : ℕ). M j x w) (is ∙ sym (index_last es e) ∙ ap (index_of (steps (es ++ e ∷ []))) (sym last.0)) (subst (λ (y : ℕ × R). M i y w) last.1 (subst (λ (y : V). M i e y) end.1 m))
         ]
       ];
-      rises = λ k some_k lt. ⊎_elim
-          (λ (before : k < length es). subst (λ (n : ℕ). 0 < n) (sym (step_before es e k before)) (run.rises k some_k before))
-          (λ (end : k ≡ length es). subst (λ (n : ℕ). 0 < n) (sym (ap (λ (j : ℕ). get_or (steps (es ++ e ∷ [])) j 0) end ∙ step_last es e)) (some (omega (arith, c, end, some_k))))
-          (split k (length es) (omega (arith, lt, le)));
+      rises = λ k some_k lt. elim (cases_lt k (length es)) [
+        | inl before ↦ subst (λ (n : ℕ). 0 < n) (sym (step_before es e k before)) (run.rises k some_k before)
+        | inr ge ↦ let end : k ≡ length es = omega (arith, lt, le, ge) in subst (λ (n : ℕ). 0 < n) (sym (ap (λ (j : ℕ). get_or (steps (es ++ e ∷ [])) j 0) end ∙ step_last es e)) (some (omega (arith, c, end, some_k)))
+      ];
     }

@@ -1,37 +1,38 @@
 -- Classes with the places of their bodies, one by one.
-use Rattle.std.proofs.Common.{◌≡◌, ℕ, zero, suc, ◌+◌, ◌<◌, ◌≤◌, List, [], ◌∷◌, length, map, take, drop, get_or, refl, arith, length-append, length-drop, None}
+use Rattle.std.proofs.Common.{◌≡◌, ℕ, zero, suc, ◌+◌, ◌≤◌, List, [], ◌∷◌, length, take, drop, get_or, ap, subst, arith, length-append, length-drop, slice_get, Some, None}
 use Rattle.std.proofs.lemmas.List.{length-map}
 use Rattle.std.specs.List.{flat_map}
 use Rattle.file_limits.specs.Wide.{bodies_of, body_values}
+use Rattle.program_types.specs.Content.{Class, Program}
 use Rattle.program_types.specs.View as view
 use Rattle.program_types.specs.declared.class.Class as made
 use Rattle.file_assemble.specs.Data.{ClassWithCodes, method_count, with_code_places}
 use Rattle.file_assemble.proofs.SitedLaws.{rest_after, count_of_bodies}
 
 -- class i with its places
-pub sited_at : (cs : List made.Class) (codes : List ℕ) (i : ℕ) (d : made.Class) (n : ClassWithCodes) → i < length cs
-    → get_or (with_code_places (map view.class cs) codes) i n ≡ record { class = view.class (get_or cs i d); codes = take (method_count (view.class (get_or cs i d))) (rest_after (map view.class cs) codes i) }
-sited_at [] codes i d n lt = absurd (omega (arith, lt))
-sited_at (c ∷ cs) codes zero d n lt = refl
-sited_at (c ∷ cs) codes (suc i) d n lt = sited_at cs (drop (method_count (view.class c)) codes) i d n (omega (arith, lt))
+pub sited_at : (p : Program) (codes : List ℕ) (i : ℕ) (c : Class) (n : ClassWithCodes) → slice_get p i ≡ Some c → get_or (with_code_places p codes) i n ≡ record { class = c; codes = take (method_count c) (rest_after p codes i) }
+sited_at [] codes i c n at = absurd cc
+sited_at (d ∷ p) codes zero c n at = let e : d ≡ c = cc in ap (λ (x : Class). record { class = x; codes = take (method_count x) codes }) e
+sited_at (d ∷ p) codes (suc i) c n at = sited_at p (drop (method_count d) codes) i c n at
 
-pub rest_next : (cs : List made.Class) (codes : List ℕ) (i : ℕ) (d : made.Class) → i < length cs → rest_after (map view.class cs) codes (suc i) ≡ drop (method_count (view.class (get_or cs i d))) (rest_after (map view.class cs) codes i)
-rest_next [] codes i d lt = absurd (omega (arith, lt))
-rest_next (c ∷ cs) codes zero d lt = refl
-rest_next (c ∷ cs) codes (suc i) d lt = rest_next cs (drop (method_count (view.class c)) codes) i d (omega (arith, lt))
+pub rest_next : (p : Program) (codes : List ℕ) (i : ℕ) (c : Class) → slice_get p i ≡ Some c → rest_after p codes (suc i) ≡ drop (method_count c) (rest_after p codes i)
+rest_next [] codes i c at = absurd cc
+rest_next (d ∷ p) codes zero c at = let e : d ≡ c = cc in ap (λ (x : Class). drop (method_count x) codes) e
+rest_next (d ∷ p) codes (suc i) c at = rest_next p (drop (method_count d) codes) i c at
 
 -- there are places left for class i
-pub rest_enough : (cs : List made.Class) (codes : List ℕ) (i : ℕ) (d : made.Class) → i < length cs → length codes ≡ length (body_values (map view.class cs)) → method_count (view.class (get_or cs i d)) ≤ length (rest_after (map view.class cs) codes i)
-rest_enough [] codes i d lt e = absurd (omega (arith, lt))
-rest_enough (c ∷ cs) codes zero d lt e =
-    let a = length-append (bodies_of (view.class c)) (flat_map bodies_of (map view.class cs)) in
-    let b = count_of_bodies (view.class c) in
-    omega (arith, e, a, b)
-rest_enough (c ∷ cs) codes (suc i) d lt e =
-    let a = length-append (bodies_of (view.class c)) (flat_map bodies_of (map view.class cs)) in
-    let b = count_of_bodies (view.class c) in
-    let n = length-drop (method_count (view.class c)) codes in
-    rest_enough cs (drop (method_count (view.class c)) codes) i d (omega (arith, lt)) (omega (arith, e, a, b, n))
+pub rest_enough : (p : Program) (codes : List ℕ) (i : ℕ) (c : Class) → slice_get p i ≡ Some c → length codes ≡ length (body_values p) → method_count c ≤ length (rest_after p codes i)
+rest_enough [] codes i c at e = absurd cc
+rest_enough (d ∷ p) codes zero c at e =
+    let same : d ≡ c = cc in
+    let a = length-append (bodies_of d) (flat_map bodies_of p) in
+    let b = count_of_bodies d in
+    subst (λ (x : Class). method_count x ≤ length codes) same (omega (arith, e, a, b))
+rest_enough (d ∷ p) codes (suc i) c at e =
+    let a = length-append (bodies_of d) (flat_map bodies_of p) in
+    let b = count_of_bodies d in
+    let n = length-drop (method_count d) codes in
+    rest_enough p (drop (method_count d) codes) i c at (omega (arith, e, a, b, n))
 
 -- how many methods a class in memory has
 pub count_in : (c : made.Class) → method_count (view.class c) ≡ length c.directs.now + length c.virtuals.now

@@ -32,17 +32,9 @@ module _ (b : List ℕ) (class : Units) where
   pub method_owned : (i : ℕ) (e : MethodEntry) (v : Method) → IsMethod b class i e v → MethodOwner b i class
   method_owned i e v m = (record { class = class; name = v.name; proto = v.proto }, m.method, refl)
 
-  bare_owned : (i : ℕ) (e : MethodEntry) (v : Bare) → IsBare b class i e v → MethodOwner b i class
+  pub bare_owned : (i : ℕ) (e : MethodEntry) (v : Bare) → IsBare b class i e v → MethodOwner b i class
   bare_owned i e v m = method_owned i e _ m.method
 
-  -- the entries so far
-  pub fields_before : (es : List FieldEntry) (n : ℕ) (vs : List Member) → n ≤ length es → FirstEntriesAre (IsField b class) es n vs → (k : ℕ) → k < n → MemberEntryHolds (FieldOwner b) class (steps es) k
-  fields_before es n vs = run_holds (IsField b class) (FieldOwner b) class field_owned es n vs
-
-  pub bares_before : (es : List MethodEntry) (n : ℕ) (vs : List Bare) → n ≤ length es → FirstEntriesAre (IsBare b class) es n vs → (k : ℕ) → k < n → MemberEntryHolds (MethodOwner b) class (steps es) k
-  bares_before es n vs = run_holds (IsBare b class) (MethodOwner b) class bare_owned es n vs
-
-  -- all of them
   pub fields_hold : (es : List FieldEntry) (vs : List Member) → EntriesAre (IsField b class) es vs → FieldEntriesHold b class es
   fields_hold es vs = all_hold (IsField b class) (FieldOwner b) class field_owned es vs
 

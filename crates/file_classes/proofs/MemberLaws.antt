@@ -13,6 +13,7 @@ use Rattle.tables_rows.specs.TableFaults.{BreaksAt}
 use Rattle.file_classes.specs.ClassRows.{class_word, InOrder}
 use Rattle.file_classes.specs.ClassFaults.{HasHead, MemberEntryHolds, IsForeign, EntryBreaks, MemberIndex, MemberOwner, MemberOrder, ClassRowBreaks, Member, ClassRowHolds}
 use Rattle.file_classes.proofs.EntryLaws.{entry_at}
+use Rattle.file_classes.proofs.EntryFaults.{run_holds}
 use Rattle.file_classes.specs.Reading.{bare, HaveCodes, IsBare, IndexBreaks, IndexIsOut, IndexIsForeign, IndexFails, EntriesFail, MembersFail, head, IsHead}
 use Rattle.file_classes.specs.declared.members.Bare.{Bare}
 use Rattle.file_classes.specs.Classes.{IsField, IsMethod, RowIs, InterfacesAt, HeadIs}
@@ -49,22 +50,25 @@ module _ {E R : Type 0} (view : E → ℕ × R) where
     inside : k < length (steps (map view es))
     inside = let n = all in omega (arith, n, lt)
 
-    module _ (IsOwner : ℕ → Units → Type 0) (size : ℕ) (class : Units) (index place : ℕ) (is : index ≡ index_of (steps (map view es)) k)
-        (before : (j : ℕ) → j < k → MemberEntryHolds IsOwner class (steps (map view es)) j) where
+    module _ {V : Type 0} (M : ℕ → ℕ × R → V → Type 0) (IsOwner : ℕ → Units → Type 0) (class : Units) (owns : (i : ℕ) (e : ℕ × R) (v : V) → M i e v → IsOwner i class) (vs : List V) (runs : FirstEntriesAre M (map view es) k vs)
+        (size index step place : ℕ) (last : index ≡ sum (take k (steps (map view es)))) (at : step ≡ (view (get_or es k d)).0) where
+      before : (j : ℕ) → j < k → MemberEntryHolds IsOwner class (steps (map view es)) j
+      before = run_holds M IsOwner class owns (map view es) k vs (let n = length-map es view in omega (arith, n, lt)) runs
+
       -- a fault of the row at the next index is one of the list
-      pub index_fails : (e : Fault) → IndexFails IsOwner size class index place e → EntriesFail IsOwner size class (steps (map view es)) place e
+      pub index_fails : (e : Fault) → IndexFails IsOwner size class (index + step) place e → EntriesFail IsOwner size class (steps (map view es)) place e
       index_fails e f = record {
-        breaks = record { entry = k; within = inside; breaks = entry_breaks IsOwner size class (steps (map view es)) k index e.code is f.breaks; before = before };
+        breaks = record { entry = k; within = inside; breaks = entry_breaks IsOwner size class (steps (map view es)) k (index + step) e.code (next_index index step last at) f.breaks; before = before };
         there = f.there;
       }
 
       -- a difference of 0 after another entry is one
-      pub step_fails : IsOwner index class → 0 < k → (view (get_or es k d)).0 ≡ 0 → EntriesFail IsOwner size class (steps (map view es)) place (record { code = 47; place = place })
+      pub step_fails : IsOwner (index + step) class → 0 < k → (view (get_or es k d)).0 ≡ 0 → EntriesFail IsOwner size class (steps (map view es)) place (record { code = 47; place = place })
       step_fails owned some zero_step = record {
         breaks = record {
           entry = k;
           within = inside;
-          breaks = MemberOrder (record { owned = subst (λ (i : ℕ). IsOwner i class) is owned; after = some; same = step_at es k d lt ∙ zero_step });
+          breaks = MemberOrder (record { owned = subst (λ (i : ℕ). IsOwner i class) (next_index index step last at) owned; after = some; same = step_at es k d lt ∙ zero_step });
           before = before;
         };
         there = refl;

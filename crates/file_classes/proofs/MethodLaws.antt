@@ -266,27 +266,28 @@ module _ (b : List ℕ) (names : Names) (are : AreNamesOf b names) (off : ℕ) (
   registers_fail_at None h = tt
   registers_fail_at (Some e) h = record { some = some; names = names; of_file = are; breaks = record { code = code; body = stands; breaks = h } }
 
+-- each method of a list has its code
+each_code : (At : ℕ → Option Code → Type 0) (es : List MethodEntry) (ms : List Method) → length ms ≡ length es → ((k : ℕ) (e : MethodEntry) (m : Method) → slice_get es k ≡ Some e → slice_get ms k ≡ Some m → At e.1.1 m.code)
+    → (k : ℕ) (e : MethodEntry) → slice_get es k ≡ Some e → (code : Option Code) × At e.1.1 code
+each_code At es ms count each k e at = let m = entry_at ms k (let l = slice_get_within es k e at in omega (arith, count, l)) in (m.0.code, each k e m.0 at m.1)
+
 -- a class that a row spells keeps the rules of code
 pub methods_hold : (b : List ℕ) (i : ℕ) (c : Class) → SpellsClass b i c → RowRegistersHold b i
-methods_hold b i c s =
-    let ms = s.head.members in
-    record {
-      entries = s.entries;
-      class_data = s.head.class_data;
-      directs = λ k e at. let m = entry_at c.directs k (let n = ms.directs.count in let l = slice_get_within s.entries.directs k e at in omega (arith, n, l)) in (m.0.code, s.directs k e m.0 at m.1);
-      virtuals = λ k e at. let m = entry_at c.virtuals k (let n = ms.virtuals.count in let l = slice_get_within s.entries.virtuals k e at in omega (arith, n, l)) in (m.0.code, s.virtuals k e m.0 at m.1);
-    }
+methods_hold b i c s = record {
+  entries = s.entries;
+  class_data = s.head.class_data;
+  directs = each_code (CodeAt b) s.entries.directs c.directs s.head.members.directs.count s.directs;
+  virtuals = each_code (CodeAt b) s.entries.virtuals c.virtuals s.head.members.virtuals.count s.virtuals;
+}
 
 -- the same of one whose registers aren't looked at
 pub bodies_hold : (b : List ℕ) (i : ℕ) (c : Class) → SpellsBodies b i c → BodiesHold b i
-bodies_hold b i c s =
-    let ms = s.head.members in
-    record {
-      entries = s.entries;
-      class_data = s.head.class_data;
-      directs = λ k e at. let m = entry_at c.directs k (let n = ms.directs.count in let l = slice_get_within s.entries.directs k e at in omega (arith, n, l)) in (m.0.code, s.directs k e m.0 at m.1);
-      virtuals = λ k e at. let m = entry_at c.virtuals k (let n = ms.virtuals.count in let l = slice_get_within s.entries.virtuals k e at in omega (arith, n, l)) in (m.0.code, s.virtuals k e m.0 at m.1);
-    }
+bodies_hold b i c s = record {
+  entries = s.entries;
+  class_data = s.head.class_data;
+  directs = each_code (BodyAt b) s.entries.directs c.directs s.head.members.directs.count s.directs;
+  virtuals = each_code (BodyAt b) s.entries.virtuals c.virtuals s.head.members.virtuals.count s.virtuals;
+}
 
 -- where code stands, its body does
 pub code_body_holds : (b : List ℕ) (place : ℕ) → CodeHolds b place → BodyHolds b place

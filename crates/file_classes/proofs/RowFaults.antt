@@ -1,5 +1,6 @@
 -- A class row holds, or it breaks one rule.
-use Rattle.std.proofs.Common.{◌≡◌, ◌≢◌, ℕ, inl, inr, List, Option, Some, None, refl, subst, arith}
+use Rattle.std.proofs.Common.{◌≡◌, ◌≢◌, ℕ, ◌≤◌, inl, inr, List, Option, Some, None, refl, sym, subst, arith}
+use Rattle.std.proofs.lemmas.Bool.{cases_lt}
 use Rattle.std.specs.Prelude.{IfSome}
 use Rattle.dex_base.specs.Descriptor.{IsClass}
 use Rattle.dex_container.specs.Frame.{IsFramed}
@@ -9,7 +10,7 @@ use Rattle.tables_rows.proofs.TypeLists.{type_one}
 use Rattle.file_classes.specs.ClassRows.{class_word, no_index, IndexOrNone}
 use Rattle.file_classes.specs.ClassData.{Entries}
 use Rattle.file_classes.specs.Classes.{RowIs}
-use Rattle.file_classes.specs.ClassFaults.{HasNoName, IsOfOtherKind, HasNoInterfaces, ComesTooEarly, HasNoClassData, MembersHold, MembersBreak, MemberBreaks, ClassRowBreaks, ClassIndex, ClassKind, InterfaceList, ClassOrder, ClassData, Member, ClassRowHolds, ClassRowKeeps}
+use Rattle.file_classes.specs.ClassFaults.{HasNoName, IsOfOtherKind, MembersHold, MembersBreak, ClassRowBreaks, ClassIndex, ClassKind, InterfaceList, ClassOrder, ClassData, Member, ClassRowHolds, ClassRowKeeps}
 use Rattle.file_classes.proofs.EntryLaws.{entries_one}
 use Rattle.file_classes.proofs.EntryFaults.{fields_hold, methods_hold, members_clear, members_number}
 use Rattle.file_classes.proofs.OnceLaws.{index_one}
@@ -82,62 +83,45 @@ module _ (b : List ℕ) (framed : IsFramed b) (i : ℕ) where
 
   -- ---- a row that breaks a rule
 
-  index : (n : ℕ) → HasNoName b i → ClassRowBreaks b i n → 40 ≡ n
-  index n p (ClassIndex q) = refl
-  index n p (ClassKind q) = absurd (named q.class q.superclass q.source p q.named q.above q.written_in)
-  index n p (InterfaceList q) = absurd (row_named q.class q.superclass q.source q.flags q.row p)
-  index n p (ClassOrder q) = absurd (row_named q.class q.head.superclass q.head.source q.head.flags q.head.row p)
-  index n p (ClassData q) = absurd (row_named q.class q.head.superclass q.head.source q.head.flags q.head.row p)
-  index n p (Member q) = absurd (row_named q.class q.head.superclass q.head.source q.head.flags q.head.row p)
+  -- in which order the rules are asked
+  abbrev turn : (n : ℕ) → ClassRowBreaks b i n → ℕ
+  turn n (ClassIndex p) = 0
+  turn n (ClassKind p) = 1
+  turn n (InterfaceList p) = 2
+  turn n (ClassOrder p) = 3
+  turn n (ClassData p) = 4
+  turn n (Member p) = 5
 
-  kind : (n : ℕ) → IsOfOtherKind b i → ClassRowBreaks b i n → 41 ≡ n
-  kind n p (ClassIndex q) = absurd (named p.class p.superclass p.source q p.named p.above p.written_in)
-  kind n p (ClassKind q) = refl
-  kind n p (InterfaceList q) = absurd (row_fits q.class q.superclass q.source q.flags q.row p)
-  kind n p (ClassOrder q) = absurd (row_fits q.class q.head.superclass q.head.source q.head.flags q.head.row p)
-  kind n p (ClassData q) = absurd (row_fits q.class q.head.superclass q.head.source q.head.flags q.head.row p)
-  kind n p (Member q) = absurd (row_fits q.class q.head.superclass q.head.source q.head.flags q.head.row p)
-
-  interfaces : (n : ℕ) → HasNoInterfaces b i → ClassRowBreaks b i n → 43 ≡ n
-  interfaces n p (ClassIndex q) = absurd (row_named p.class p.superclass p.source p.flags p.row q)
-  interfaces n p (ClassKind q) = absurd (row_fits p.class p.superclass p.source p.flags p.row q)
-  interfaces n p (InterfaceList q) = refl
-  interfaces n p (ClassOrder q) = absurd (p.none q.head.interfaces q.head.list)
-  interfaces n p (ClassData q) = absurd (p.none q.head.interfaces q.head.list)
-  interfaces n p (Member q) = absurd (p.none q.head.interfaces q.head.list)
-
-  order : (n : ℕ) → ComesTooEarly b i → ClassRowBreaks b i n → 42 ≡ n
-  order n p (ClassIndex q) = absurd (row_named p.class p.head.superclass p.head.source p.head.flags p.head.row q)
-  order n p (ClassKind q) = absurd (row_fits p.class p.head.superclass p.head.source p.head.flags p.head.row q)
-  order n p (InterfaceList q) = absurd (q.none p.head.interfaces p.head.list)
-  order n p (ClassOrder q) = refl
-  order n p (ClassData q) = absurd (p.late q.order)
-  order n p (Member q) = absurd (p.late q.order)
-
-  class_data : (n : ℕ) → HasNoClassData b i → ClassRowBreaks b i n → 44 ≡ n
-  class_data n p (ClassIndex q) = absurd (row_named p.class p.head.superclass p.head.source p.head.flags p.head.row q)
-  class_data n p (ClassKind q) = absurd (row_fits p.class p.head.superclass p.head.source p.head.flags p.head.row q)
-  class_data n p (InterfaceList q) = absurd (q.none p.head.interfaces p.head.list)
-  class_data n p (ClassOrder q) = absurd (q.late p.order)
-  class_data n p (ClassData q) = refl
-  class_data n p (Member q) = absurd (p.none q.entries q.class_data)
-
-  member : (m n : ℕ) → MemberBreaks b i m → ClassRowBreaks b i n → m ≡ n
-  member m n p (ClassIndex q) = absurd (row_named p.class p.head.superclass p.head.source p.head.flags p.head.row q)
-  member m n p (ClassKind q) = absurd (row_fits p.class p.head.superclass p.head.source p.head.flags p.head.row q)
-  member m n p (InterfaceList q) = absurd (q.none p.head.interfaces p.head.list)
-  member m n p (ClassOrder q) = absurd (q.late p.order)
-  member m n p (ClassData q) = absurd (q.none p.entries p.class_data)
-  member m n p (Member q) =
+  in_turn : (m n : ℕ) (x : ClassRowBreaks b i m) (y : ClassRowBreaks b i n) → turn m x ≤ turn n y → m ≡ n
+  in_turn m n (ClassIndex p) (ClassIndex q) le = refl
+  in_turn m n (ClassIndex p) (ClassKind q) le = absurd (named q.class q.superclass q.source p q.named q.above q.written_in)
+  in_turn m n (ClassIndex p) (InterfaceList q) le = absurd (row_named q.class q.superclass q.source q.flags q.row p)
+  in_turn m n (ClassIndex p) (ClassOrder q) le = absurd (row_named q.class q.head.superclass q.head.source q.head.flags q.head.row p)
+  in_turn m n (ClassIndex p) (ClassData q) le = absurd (row_named q.class q.head.superclass q.head.source q.head.flags q.head.row p)
+  in_turn m n (ClassIndex p) (Member q) le = absurd (row_named q.class q.head.superclass q.head.source q.head.flags q.head.row p)
+  in_turn m n (ClassKind p) (ClassKind q) le = refl
+  in_turn m n (ClassKind p) (InterfaceList q) le = absurd (row_fits q.class q.superclass q.source q.flags q.row p)
+  in_turn m n (ClassKind p) (ClassOrder q) le = absurd (row_fits q.class q.head.superclass q.head.source q.head.flags q.head.row p)
+  in_turn m n (ClassKind p) (ClassData q) le = absurd (row_fits q.class q.head.superclass q.head.source q.head.flags q.head.row p)
+  in_turn m n (ClassKind p) (Member q) le = absurd (row_fits q.class q.head.superclass q.head.source q.head.flags q.head.row p)
+  in_turn m n (InterfaceList p) (InterfaceList q) le = refl
+  in_turn m n (InterfaceList p) (ClassOrder q) le = absurd (p.none q.head.interfaces q.head.list)
+  in_turn m n (InterfaceList p) (ClassData q) le = absurd (p.none q.head.interfaces q.head.list)
+  in_turn m n (InterfaceList p) (Member q) le = absurd (p.none q.head.interfaces q.head.list)
+  in_turn m n (ClassOrder p) (ClassOrder q) le = refl
+  in_turn m n (ClassOrder p) (ClassData q) le = absurd (p.late q.order)
+  in_turn m n (ClassOrder p) (Member q) le = absurd (p.late q.order)
+  in_turn m n (ClassData p) (ClassData q) le = refl
+  in_turn m n (ClassData p) (Member q) le = absurd (p.none q.entries q.class_data)
+  in_turn m n (Member p) (Member q) le =
       let class = type_one b (class_word b i 0) p.class q.class framed p.head.row.named q.head.row.named in
       let same = entries_one b framed (class_word b i 6) p.entries q.entries p.class_data q.class_data in
       members_number b framed q.class q.entries m n
       (subst (λ (t : Units). MembersBreak b t q.entries m) class (subst (λ (x : Entries). MembersBreak b p.class x m) same p.breaks)) q.breaks
+  in_turn m n _ _ le = absurd (omega arith)
 
   pub class_number : (m n : ℕ) → ClassRowBreaks b i m → ClassRowBreaks b i n → m ≡ n
-  class_number m n (ClassIndex p) y = index n p y
-  class_number m n (ClassKind p) y = kind n p y
-  class_number m n (InterfaceList p) y = interfaces n p y
-  class_number m n (ClassOrder p) y = order n p y
-  class_number m n (ClassData p) y = class_data n p y
-  class_number m n (Member p) y = member m n p y
+  class_number m n x y = elim (cases_lt (turn n y) (turn m x)) [
+    | inl later ↦ sym (in_turn n m y x (omega arith))
+    | inr le ↦ in_turn m n x y le
+  ]

@@ -1,7 +1,6 @@
 -- Values that are spelled anew.
 use Rattle.std.proofs.Common.{◌≡◌, ℕ, zero, suc, ◌+◌, ◌<◌, ◌≤◌, List, [], ◌∷◌, ◌++◌, length, take, drop, get_or, Some, slice_get, refl, sym, ap, subst, ◌∙◌, arith, true, false, rules}
-use Rattle.std.proofs.Math.Seq.{drop-cons}
-use Rattle.std.proofs.lemmas.List.{take_more, take_all, drop_all}
+use Rattle.std.proofs.lemmas.List.{take_more, take_all}
 use Rattle.dex_base.specs.Grammar.{Appends, Takes, Each, Many}
 use Rattle.dex_base.specs.Leb128.{Spells, Shortest}
 use Rattle.dex_base.proofs.GrammarLaws.{Each-appends_none, Each-appends_more}
@@ -26,11 +25,10 @@ use Rattle.dex_value.proofs.Carrying.{NameStands-functional}
 use Rattle.file_renumber.specs.Marked.{Columns, kind_of}
 use Rattle.file_renumber.specs.Numbers.{Carries, column_of}
 use Rattle.file_renumber.specs.ValueWalks.{IsLow, CarriedValue, CarriedValues}
-use Rattle.file_renumber.proofs.FrontLemmas.{TakenArray, next_value, values_due}
+use Rattle.file_renumber.proofs.FrontLemmas.{TakenArray, due_start, NextDue, due_next, due_end, values_due}
 use Rattle.file_renumber.specs.CarriedArrays.{IsCarriedArray, IsItemOf}
 use Rattle.file_renumber.proofs.NameLemmas.{NamedRow, row_of_low}
 use Rattle.dex_base.proofs.ListFacts.{some_inj}
-use Rattle.file_renumber.proofs.ValueMarks.{none_left}
 use Rattle.program_types.proofs.Nesting.{listed, values-listed}
 
 -- ---- a value of bytes after its head
@@ -117,7 +115,7 @@ array_spelled N start one two new v vs n is count head c a =
 -- ---- values one after the other
 
 -- what holds of the names of all holds of those of one
-all_at : (P : Name → Type 0) (vs : List Value) (i : ℕ) → i < length vs → AllNamesHold P (values vs) → NamesHold P (get_or vs i Null)
+pub all_at : (P : Name → Type 0) (vs : List Value) (i : ℕ) → i < length vs → AllNamesHold P (values vs) → NamesHold P (get_or vs i Null)
 all_at P [] i lt all = absurd (omega (arith, lt))
 all_at P (v ∷ vs) zero lt all = all.0
 all_at P (v ∷ vs) (suc i) lt all = all_at P vs i (omega (arith, lt)) all.1
@@ -130,33 +128,19 @@ pub record Renumbered (b : List ℕ) (s : Five) (old out left : List ℕ) (turn 
 pub renumbered_start : (numbers : Columns) (n : ℕ) (bytes : List ℕ) (x : CarriedValues numbers n bytes) (old : List ℕ) → Renumbered x.file x.names old old bytes 0 x.all x.rest
 renumbered_start numbers n bytes x old = record {
   done = Each-appends_none (Shortest (SpellsValue (NameRanks x.names))) old;
-  due = record { front = x.taken.front; whole = x.taken.whole; spelled = x.taken.spelled.1 };
+  due = due_start (SpellsValue (NameStands x.file)) n bytes x.all x.rest x.taken;
 }
 
--- the value that is due next
-pub record NextDue (numbers : Columns) (b : List ℕ) (s : Five) (left : List ℕ) (turn : ℕ) (vs : List Value) (rest : List ℕ) : Type 0 where
-  pub mid : List ℕ
-  pub taken : Takes (SpellsValue (NameStands b)) left (get_or vs turn Null) mid
-  pub carried : NamesHold (Carries (NameStands b) (NameRanks s) numbers) (get_or vs turn Null)
-  pub more : Takes (Each (SpellsValue (NameStands b))) mid (drop (turn + 1) vs) rest
-
 module _ (numbers : Columns) (n : ℕ) (bytes : List ℕ) (x : CarriedValues numbers n bytes) (old out left : List ℕ) (turn : ℕ) (r : Renumbered x.file x.names old out left turn x.all x.rest) where
-  pub next_due : turn < n → NextDue numbers x.file x.names left turn x.all x.rest
-  next_due lt =
+  pub next_due : turn < n → NextDue (SpellsValue (NameStands x.file)) left turn x.all Null x.rest
+  next_due lt = let count = x.taken.spelled.0 in due_next (SpellsValue (NameStands x.file)) left turn x.all Null x.rest (omega (arith, lt, count)) r.due
+
+  abbrev pub next_carried : turn < n → NextDue (SpellsValue (NameStands x.file)) left turn x.all Null x.rest → CarriedValue numbers left
+  next_carried lt d =
       let count = x.taken.spelled.0 in
-      let within : turn < length x.all = omega (arith, lt, count) in
-      let y = next_value (NameStands x.file) n left (get_or x.all turn Null) (drop (suc turn) x.all) x.rest (subst (λ (ws : List Value). Takes (Each (SpellsValue (NameStands x.file))) left ws x.rest) (drop-cons x.all turn Null within) r.due) in
-      record {
-        mid = y.0;
-        taken = y.1;
-        carried = all_at (Carries (NameStands x.file) (NameRanks x.names) numbers) x.all turn within x.carried;
-        more = (let e : suc turn ≡ turn + 1 = omega arith in subst (λ (k : ℕ). Takes (Each (SpellsValue (NameStands x.file))) y.0 (drop k x.all) x.rest) e y.2);
-      }
+      record { file = x.file; names = x.names; value = get_or x.all turn Null; rest = d.mid; framed = x.framed; rise = x.rise; taken = d.one; carried = all_at (Carries (NameStands x.file) (NameRanks x.names) numbers) x.all turn (omega (arith, lt, count)) x.carried }
 
-  abbrev pub next_carried : NextDue numbers x.file x.names left turn x.all x.rest → CarriedValue numbers left
-  next_carried d = record { file = x.file; names = x.names; value = get_or x.all turn Null; rest = d.mid; framed = x.framed; rise = x.rise; taken = d.taken; carried = d.carried }
-
-  pub renumbered_next : turn < n → (d : NextDue numbers x.file x.names left turn x.all x.rest) (after new : List ℕ) → after ≡ d.mid → Appends (Shortest (SpellsValue (NameRanks x.names))) out new (get_or x.all turn Null) → Renumbered x.file x.names old new after (turn + 1) x.all x.rest
+  pub renumbered_next : turn < n → (d : NextDue (SpellsValue (NameStands x.file)) left turn x.all Null x.rest) (after new : List ℕ) → after ≡ d.mid → Appends (Shortest (SpellsValue (NameRanks x.names))) out new (get_or x.all turn Null) → Renumbered x.file x.names old new after (turn + 1) x.all x.rest
   renumbered_next lt d after new follows a =
       let count = x.taken.spelled.0 in record {
         done = subst (λ (ws : List Value). Appends (Each (Shortest (SpellsValue (NameRanks x.names)))) old new ws) (sym (take_more x.all turn Null (omega (arith, lt, count))))
@@ -169,7 +153,7 @@ module _ (numbers : Columns) (n : ℕ) (bytes : List ℕ) (x : CarriedValues num
       let count = x.taken.spelled.0 in
       let all : length x.all ≤ turn = omega (arith, le, count) in (
         subst (λ (ws : List Value). Appends (Each (Shortest (SpellsValue (NameRanks x.names)))) old out ws) (take_all turn x.all all) r.done,
-        none_left (NameStands x.file) left x.rest (drop turn x.all) (drop_all turn x.all all) r.due,
+        due_end (SpellsValue (NameStands x.file)) left turn x.all x.rest all r.due,
       )
 
 -- ---- indices

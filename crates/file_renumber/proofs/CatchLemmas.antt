@@ -16,8 +16,9 @@ use Rattle.code_read.specs.Handlers.{Handler, catches_of, HasAll, AllBy, SpellsC
 use Rattle.code_put.specs.Packs.{PacksCatch, PacksHandler}
 use Rattle.code_put.proofs.HandlerPacks.{via-appends, catch-appends, all-none, all-some, handler-appends, alone}
 use Rattle.file_renumber.specs.Fronts.{IsCatch, types_of}
-use Rattle.file_renumber.specs.CarriedCodes.{CarriedCatches, CarriedHandler}
-use Rattle.file_renumber.proofs.HandlerLemmas.{due_start, NextDue, due_end, no_catch, parts_from, catches_due}
+use Rattle.file_renumber.specs.CarriedCodes.{CarriedCatches}
+use Rattle.file_renumber.proofs.FrontLemmas.{due_start, NextDue, due_end}
+use Rattle.file_renumber.proofs.HandlerLemmas.{no_catch}
 use Rattle.dex_base.proofs.GrammarLaws.{Each-appends_none, Each-appends_more}
 use Rattle.dex_base.proofs.ListFacts.{some_one}
 
@@ -74,12 +75,6 @@ written_all numbers n bytes x old new left turn le w =
 -- the address that was read is the place's
 pub place_read : (ss : List ℕ) (a address number : ℕ) → a ≡ address → position ss address ≡ Some number → position ss a ≡ Some number
 place_read ss a address number e p = subst (λ (x : ℕ). position ss x ≡ Some number) (sym e) p
-
--- the catches of a handler
-abbrev pub carried_catches : (numbers : Columns) (bytes : List ℕ) (z : ℤ) (mid : List ℕ) (n : ℕ) → n ≡ catches_of z → Takes SpellsSigned bytes z mid → CarriedHandler numbers bytes → CarriedCatches numbers n mid
-carried_catches numbers bytes z mid n e p x =
-    let parts = parts_from (NameStands x.file) x.starts bytes x.handler x.rest z mid p x.taken in
-    record { file = x.file; names = x.names; starts = x.starts; catches = x.handler.catches; rest = parts.left; taken = catches_due (NameStands x.file) x.starts z mid x.handler x.rest n e parts; carried = x.carried }
 
 module _ (s : Five) (ss old a m : List ℕ) (z : ℤ) (h : Handler) (count : length h.catches ≡ catches_of z) (first : Appends (Shortest SpellsSigned) old a z) (mid : Appends (Each (PacksCatch (NameRanks s) ss)) a m h.catches) where
   -- without a place for all others

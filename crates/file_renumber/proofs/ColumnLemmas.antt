@@ -58,20 +58,20 @@ module _ {V : Type 0} (n : ℕ) (Stands : ℕ → V → Type 0) (key : V → Key
 
 -- ---- no row is marked
 
-zeros : (n i : ℕ) → get_or {A = ℕ} (replicate n 0) i 0 ≡ 0
-zeros zero i = refl
-zeros (suc n) zero = refl
-zeros (suc n) (suc i) = zeros n i
+pub zero_at : (n i : ℕ) → get_or {A = ℕ} (replicate n 0) i 0 ≡ 0
+zero_at zero i = refl
+zero_at (suc n) zero = refl
+zero_at (suc n) (suc i) = zero_at n i
 
 pub marks_none : {V : Type 0} (n : ℕ) (Stands : ℕ → V → Type 0) (key : V → Key) (column : List ℕ) → n < 2 ^ 32 → column ≡ replicate (n + 1) 0 → MarksOf n Stands key [] column
 marks_none n Stands key column few is = rw is (record {
   shape = record {
     long = length-replicate (n + 1) 0;
     few = few;
-    small = λ i. let e = zeros (n + 1) i in omega (arith, e);
-    last = zeros (n + 1) n;
+    small = λ i. let e = zero_at (n + 1) i in omega (arith, e);
+    last = zero_at (n + 1) n;
   };
-  held = λ i v there at. let e = zeros (n + 1) i in absurd (omega (arith, e, at));
+  held = λ i v there at. let e = zero_at (n + 1) i in absurd (omega (arith, e, at));
   rows = λ k h. absurd cc;
 })
 

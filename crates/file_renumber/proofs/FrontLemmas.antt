@@ -1,9 +1,10 @@
 -- The value at the front of bytes, by the first of them.
-use Rattle.std.proofs.Common.{◌≡◌, ℕ, suc, ◌+◌, ◌*◌, ◌-◌, ◌/◌, ◌%◌, ◌≤◌, ◌⊎◌, inl, inr, List, [], ◌∷◌, ◌++◌, length, take, drop, refl, sym, ap, subst, ◌∙◌, arith, append_assoc}
-use Rattle.std.proofs.lemmas.List.{take_at, drop_at, length-append, length-take-le}
+use Rattle.std.proofs.Common.{◌≡◌, ℕ, suc, ◌+◌, ◌*◌, ◌-◌, ◌/◌, ◌%◌, ◌<◌, ◌≤◌, ◌⊎◌, inl, inr, List, [], ◌∷◌, ◌++◌, length, take, drop, get_or, refl, sym, ap, subst, ◌∙◌, arith, append_assoc}
+use Rattle.std.proofs.Math.Seq.{drop-cons}
+use Rattle.std.proofs.lemmas.List.{take_at, drop_at, drop_all, length-append, length-take-le}
 use Rattle.dex_base.specs.Grammar.{Takes, Each, Many}
 use Rattle.dex_base.specs.Leb128.{Spells}
-use Rattle.dex_base.proofs.TakesLaws.{Then-takes}
+use Rattle.dex_base.proofs.TakesLaws.{Then-takes, Each-takes_first}
 use Rattle.dex_container.specs.Frame.{IsFramed}
 use Rattle.tables_rows.specs.Stands.{NameStands}
 use Rattle.file_renumber.specs.ValueWalks.{IsLow}
@@ -118,15 +119,6 @@ taken_some N bytes rest v t none = by (front N t.front v t.spelled)
     by (inr (inl p)) = empty 28 p.text p.joined
     by (inr (inr p)) = let f = first_of_lone t.front v p in empty f.0 [] f.1
 
--- the next of the values that are due
-pub next_value : (N : ℕ → Name → Type 0) (n : ℕ) (bytes : List ℕ) (v : Value) (vs : List Value) (rest : List ℕ) → Takes (Each (SpellsValue N)) bytes (v ∷ vs) rest → (mid : List ℕ) × Takes (SpellsValue N) bytes v mid × Takes (Each (SpellsValue N)) mid vs rest
-next_value N n bytes v vs rest t =
-    let s = t.spelled in (
-      s.1 ++ rest,
-      record { front = s.0; whole = t.whole ∙ ap (λ l. l ++ rest) s.2 ∙ append_assoc s.0 s.1 rest; spelled = s.3 },
-      record { front = s.1; whole = refl; spelled = s.4 },
-    )
-
 -- the bytes after the head of such a value
 pub low_of : (b : List ℕ) (h : ℕ) (tail low : List ℕ) (v : Value) (rest : List ℕ) → IsFramed b → low ≡ take (h / 32 + 1) tail → TakenLow (NameStands b) h tail v rest → IsLow b (h % 32) low v
 low_of b h tail low v rest framed is t =
@@ -149,6 +141,33 @@ pub values_due : (N : ℕ → Name → Type 0) (bytes : List ℕ) (m n : ℕ) (m
 values_due N bytes m n mid left vs rest p q t =
     let one = number_one bytes m n mid left p q in
     subst (λ (l : List ℕ). Takes (Many (SpellsValue N) n) l vs rest) one.1 (subst (λ (k : ℕ). Takes (Many (SpellsValue N) k) mid vs rest) one.0 t)
+
+-- ---- what is due, one after the other
+
+module _ {V : Type 0} (G : List ℕ → V → Type 0) where
+  pub due_start : (n : ℕ) (bytes : List ℕ) (vs : List V) (rest : List ℕ) → Takes (Many G n) bytes vs rest → Takes (Each G) bytes vs rest
+  due_start n bytes vs rest t = record { front = t.front; whole = t.whole; spelled = t.spelled.1 }
+
+  pub record NextDue (left : List ℕ) (turn : ℕ) (vs : List V) (d : V) (rest : List ℕ) : Type 0 where
+    pub mid : List ℕ
+    pub one : Takes G left (get_or vs turn d) mid
+    pub more : Takes (Each G) mid (drop (turn + 1) vs) rest
+
+  pub due_next : (left : List ℕ) (turn : ℕ) (vs : List V) (d : V) (rest : List ℕ) → turn < length vs → Takes (Each G) left (drop turn vs) rest → NextDue left turn vs d rest
+  due_next left turn vs d rest lt t =
+      let x = Each-takes_first G left rest (get_or vs turn d) (drop (suc turn) vs) (subst (λ (ws : List V). Takes (Each G) left ws rest) (drop-cons vs turn d lt) t) in
+      record {
+        mid = x.0;
+        one = x.1;
+        more = (let e : suc turn ≡ turn + 1 = omega arith in subst (λ (k : ℕ). Takes (Each G) x.0 (drop k vs) rest) e x.2);
+      }
+
+  none_left : (left rest : List ℕ) (vs : List V) → vs ≡ [] → Takes (Each G) left vs rest → left ≡ rest
+  none_left left rest [] e t = t.whole ∙ ap (λ l. l ++ rest) t.spelled
+  none_left left rest (v ∷ vs) e t = absurd cc
+
+  pub due_end : (left : List ℕ) (turn : ℕ) (vs : List V) (rest : List ℕ) → length vs ≤ turn → Takes (Each G) left (drop turn vs) rest → left ≡ rest
+  due_end left turn vs rest le t = none_left left rest (drop turn vs) (drop_all turn vs le) t
 
 -- what follows is no longer
 pub taken_short : {V : Type 0} (G : List ℕ → V → Type 0) (bytes : List ℕ) (v : V) (rest : List ℕ) → Takes G bytes v rest → length rest ≤ length bytes

@@ -1,26 +1,21 @@
 -- Catches and handlers at the front of bytes.
-use Rattle.std.proofs.Common.{◌≡◌, ℕ, ℤ, suc, ◌+◌, ◌<◌, ◌≤◌, List, [], ◌∷◌, ◌++◌, length, take, drop, get_or, Option, Some, None, refl, sym, ap, subst, ◌∙◌, arith, append_assoc}
-use Rattle.std.proofs.Math.Seq.{drop-cons}
-use Rattle.std.proofs.lemmas.List.{take_more, take_all, map-append, drop_all}
+use Rattle.std.proofs.Common.{◌≡◌, ℕ, ℤ, ◌+◌, ◌<◌, ◌≤◌, List, [], ◌∷◌, ◌++◌, length, take, drop, get_or, Option, Some, None, refl, sym, ap, subst, ◌∙◌, arith, append_assoc}
+use Rattle.std.proofs.lemmas.List.{take_more, take_all, map-append}
 use Rattle.dex_base.specs.Grammar.{Takes, Each, Many}
 use Rattle.dex_base.specs.Leb128.{Spells, SpellsSigned}
 use Rattle.dex_base.proofs.Signed.{signed_unique}
-use Rattle.dex_base.proofs.TakesLaws.{Takes-unique, Each-takes_first}
+use Rattle.dex_base.proofs.TakesLaws.{Takes-unique}
 use Rattle.dex_insn.specs.declared.opcode.IndexKind.TheVariants as kind
 use Rattle.program_types.specs.Content.{Name, OfDesc, Catch}
 use Rattle.tables_rows.specs.Stands.{NameStands}
 use Rattle.file_renumber.specs.Marked.{Marked, AddsNames, IsRowOf}
+use Rattle.file_renumber.proofs.FrontLemmas.{due_start, NextDue}
 use Rattle.file_renumber.proofs.MarkLemmas.{adds_none, adds_more}
 use Rattle.code_read.specs.Places.{position}
 use Rattle.code_read.specs.Handlers.{Handler, catches_of, HasAll, SpellsCatch, SpellsHandler}
 use Rattle.code_read.proofs.HandlerReading.{SpellsCatchAll}
 use Rattle.file_renumber.specs.Fronts.{IsCatch, types_of}
 use Rattle.dex_base.proofs.ListFacts.{number_one}
-
--- ---- numbers
-
-signed_one : (bytes : List ℕ) (m n : ℤ) (a b : List ℕ) → Takes SpellsSigned bytes m a → Takes SpellsSigned bytes n b → (m ≡ n) × (a ≡ b)
-signed_one bytes m n a b p q = Takes-unique SpellsSigned bytes m n a b signed_unique p q
 
 -- ---- a catch
 
@@ -64,46 +59,19 @@ module _ (N : ℕ → Name → Type 0) (ss : List ℕ) where
         follows = sym two.1;
       }
 
--- ---- what is due, one after the other
-
-module _ {V : Type 0} (G : List ℕ → V → Type 0) where
-  pub due_start : (n : ℕ) (bytes : List ℕ) (vs : List V) (rest : List ℕ) → Takes (Many G n) bytes vs rest → Takes (Each G) bytes vs rest
-  due_start n bytes vs rest t = record { front = t.front; whole = t.whole; spelled = t.spelled.1 }
-
-  pub record NextDue (left : List ℕ) (turn : ℕ) (vs : List V) (d : V) (rest : List ℕ) : Type 0 where
-    pub mid : List ℕ
-    pub one : Takes G left (get_or vs turn d) mid
-    pub more : Takes (Each G) mid (drop (turn + 1) vs) rest
-
-  pub due_next : (left : List ℕ) (turn : ℕ) (vs : List V) (d : V) (rest : List ℕ) → turn < length vs → Takes (Each G) left (drop turn vs) rest → NextDue left turn vs d rest
-  due_next left turn vs d rest lt t =
-      let x = Each-takes_first G left rest (get_or vs turn d) (drop (suc turn) vs) (subst (λ (ws : List V). Takes (Each G) left ws rest) (drop-cons vs turn d lt) t) in
-      record {
-        mid = x.0;
-        one = x.1;
-        more = (let e : suc turn ≡ turn + 1 = omega arith in subst (λ (k : ℕ). Takes (Each G) x.0 (drop k vs) rest) e x.2);
-      }
-
-  none_left : (left rest : List ℕ) (vs : List V) → vs ≡ [] → Takes (Each G) left vs rest → left ≡ rest
-  none_left left rest [] e t = t.whole ∙ ap (λ l. l ++ rest) t.spelled
-  none_left left rest (v ∷ vs) e t = absurd cc
-
-  pub due_end : (left : List ℕ) (turn : ℕ) (vs : List V) (rest : List ℕ) → length vs ≤ turn → Takes (Each G) left (drop turn vs) rest → left ≡ rest
-  due_end left turn vs rest le t = none_left left rest (drop turn vs) (drop_all turn vs le) t
-
 -- past the end of a list
 abbrev pub no_catch : Catch
 no_catch = record { ty = []; at = 0 }
 
 -- ---- a handler
 
-pub record HandlerParts (N : ℕ → Name → Type 0) (ss : List ℕ) (z : ℤ) (mid : List ℕ) (h : Handler) (rest : List ℕ) : Type 0 where
+pub record HandlerParts (N : ℕ → Name → Type 0) (ss : List ℕ) (z : ℤ) (n : ℕ) (mid : List ℕ) (h : Handler) (rest : List ℕ) : Type 0 where
   pub left : List ℕ
-  pub catches : Takes (Many (SpellsCatch N ss) (catches_of z)) mid h.catches left
+  pub catches : Takes (Many (SpellsCatch N ss) n) mid h.catches left
   pub last : Takes (SpellsCatchAll N ss z) left h.all rest
 
 module _ (N : ℕ → Name → Type 0) (ss : List ℕ) where
-  pub handler_parts : (bytes : List ℕ) (h : Handler) (rest : List ℕ) → Takes (SpellsHandler N ss) bytes h rest → (z : ℤ) × (mid : List ℕ) × Takes SpellsSigned bytes z mid × HandlerParts N ss z mid h rest
+  pub handler_parts : (bytes : List ℕ) (h : Handler) (rest : List ℕ) → Takes (SpellsHandler N ss) bytes h rest → (z : ℤ) × (mid : List ℕ) × Takes SpellsSigned bytes z mid × HandlerParts N ss z (catches_of z) mid h rest
   handler_parts bytes h rest t =
       let v = t.spelled in
       let s = v.spelled in
@@ -123,15 +91,12 @@ module _ (N : ℕ → Name → Type 0) (ss : List ℕ) where
         },
       )
 
-  -- after the number that was read
-  pub parts_from : (bytes : List ℕ) (h : Handler) (rest : List ℕ) (z : ℤ) (mid : List ℕ) → Takes SpellsSigned bytes z mid → Takes (SpellsHandler N ss) bytes h rest → HandlerParts N ss z mid h rest
-  parts_from bytes h rest z mid p t =
+  -- after the number that was read, and so many catches
+  pub parts_from : (bytes : List ℕ) (h : Handler) (rest : List ℕ) (z : ℤ) (mid : List ℕ) (n : ℕ) → n ≡ catches_of z → Takes SpellsSigned bytes z mid → Takes (SpellsHandler N ss) bytes h rest → HandlerParts N ss z n mid h rest
+  parts_from bytes h rest z mid n e p t =
       let x = handler_parts bytes h rest t in
-      let one = signed_one bytes x.0 z x.1 mid x.2 p in
-      subst (λ (y : ℤ). HandlerParts N ss y mid h rest) one.0 (subst (λ (l : List ℕ). HandlerParts N ss x.0 l h rest) one.1 x.3)
-
-  pub catches_due : (z : ℤ) (mid : List ℕ) (h : Handler) (rest : List ℕ) (n : ℕ) → n ≡ catches_of z → (p : HandlerParts N ss z mid h rest) → Takes (Many (SpellsCatch N ss) n) mid h.catches p.left
-  catches_due z mid h rest n e p = subst (λ (k : ℕ). Takes (Many (SpellsCatch N ss) k) mid h.catches p.left) (sym e) p.catches
+      let one = Takes-unique SpellsSigned bytes x.0 z x.1 mid signed_unique x.2 p in
+      subst (λ (k : ℕ). HandlerParts N ss z k mid h rest) (sym e) (subst (λ (y : ℤ). HandlerParts N ss y (catches_of y) mid h rest) one.0 (subst (λ (l : List ℕ). HandlerParts N ss x.0 (catches_of x.0) l h rest) one.1 x.3))
 
   pub record LastPlace (left : List ℕ) (o : Option ℕ) (rest : List ℕ) : Type 0 where
     pub address : ℕ

@@ -19,7 +19,7 @@ use Rattle.code_read.proofs.PlaceLaws.{position-there}
 use Rattle.code_read.specs.Item.{try_start, try_count, try_handler}
 use Rattle.code_read.specs.Tries.{handler_of}
 use Rattle.code_read.specs.declared.item.Item.{Item}
-use Rattle.code_put.specs.Writing.{IsNumbered}
+use Rattle.code_put.specs.Writing.{IsHeldAs}
 use Rattle.code_put.proofs.ListLaws.{all-from}
 use Rattle.file_renumber.specs.CarriedCodes.{CarriedHandler, CarriedTries}
 use Rattle.file_renumber.specs.TryWalks.{CarriedList, IsWrittenOf, AreKnown, CoversTry}
@@ -47,14 +47,14 @@ carried_at numbers i offsets some x j k lt at =
 pub known_none : (numbers : Columns) (bytes offsets known : List ℕ) (keys : List (List ℕ)) → ((k : ℕ) → get_or known k 0 ≡ 0) → AreKnown numbers bytes offsets known keys
 known_none numbers bytes offsets known keys z k l = absurd (all_zero known z k l)
 
-still_held : (keys new : List (List ℕ)) (key : List ℕ) (n : ℕ) (k : ℕ) (y : List ℕ) → IsNumbered keys new key n → slice_get keys k ≡ Some y → slice_get new k ≡ Some y
+still_held : (keys new : List (List ℕ)) (key : List ℕ) (n : ℕ) (k : ℕ) (y : List ℕ) → IsHeldAs keys new key n → slice_get keys k ≡ Some y → slice_get new k ≡ Some y
 still_held keys new key n k y m e = elim m.is_new [
   | inl same ↦ subst (λ (ks : List (List ℕ)). slice_get ks k ≡ Some y) (sym same) e
   | inr fresh ↦ subst (λ (ks : List (List ℕ)). slice_get ks k ≡ Some y) (sym fresh.1) (slice_left keys (key ∷ []) k y e)
 ]
 
 -- one handler more is known
-pub known_more : (numbers : Columns) (bytes offsets known : List ℕ) (keys new : List (List ℕ)) (key : List ℕ) (k n : ℕ) → k < length known → AreKnown numbers bytes offsets known keys → IsNumbered keys new key n → IsWrittenOf numbers (drop (get_or offsets k 0) bytes) key
+pub known_more : (numbers : Columns) (bytes offsets known : List ℕ) (keys new : List (List ℕ)) (key : List ℕ) (k n : ℕ) → k < length known → AreKnown numbers bytes offsets known keys → IsHeldAs keys new key n → IsWrittenOf numbers (drop (get_or offsets k 0) bytes) key
     → AreKnown numbers bytes offsets (set known k (n + 1)) new
 known_more numbers bytes offsets known keys new key k n inside a m w q l = elim (cases_lt q k) [
   | inl lt ↦ other (λ e. omega (arith, e, lt))
@@ -91,7 +91,7 @@ item_put size ss items i off begin cov t old a c new x e f p q r =
 
 -- ---- numbers of handlers
 
-pub number_low : (old new : List (List ℕ)) (key : List ℕ) (n : ℕ) → IsNumbered old new key n → n ≤ length old
+pub number_low : (old new : List (List ℕ)) (key : List ℕ) (n : ℕ) → IsHeldAs old new key n → n ≤ length old
 number_low old new key n m = elim m.is_new [
   | inl same ↦ let w = slice_get_within new n key m.there in let e = ap length same in omega (arith, w, e)
   | inr fresh ↦ let e = fresh.0 in omega (arith, e)

@@ -1,14 +1,14 @@
 -- The marks of the five tables.
 use Rattle.std.proofs.Common.{◌≡◌, ℕ, zero, suc, ◌+◌, ◌<◌, length, take, List, [], ◌∷◌, ◌++◌, map, get_or, set, refl, sym, ap, ◌∙◌, subst, arith, nat_eq, Bool, true, false, cond, true≢false, ◌⊎◌, inl, inr}
-use Rattle.std.specs.List.{AllByRecursion, AllZip, list_any}
-use Rattle.std.proofs.lemmas.List.{take_more, map-append}
+use Rattle.std.specs.List.{AllByRecursion, AllZip, list_any, flat_map}
+use Rattle.std.proofs.lemmas.Grind.{flat_map-append}
+use Rattle.std.proofs.lemmas.List.{take_more, map-append, append-nil}
 use Rattle.std.proofs.lemmas.Bool.{eqb-true}
 use Rattle.dex_container.specs.Frame.{IsFramed}
 use Rattle.dex_container.specs.Layout.{size_of}
 use Rattle.program_types.specs.Content.{Units, Proto, FieldRef, MethodRef, Name, OfText, OfDesc, OfField, OfMethod}
 use Rattle.program_types.specs.Key.{text_key, proto_key, field_ref_key, method_ref_key}
 use Rattle.program_types.specs.Shorty.{shorty}
-use Rattle.tables_names.specs.Rank.{insert_key, IsSubset}
 use Rattle.tables_names.specs.Closure.{Five, nothing, IsClosed, AreRising, Holds, join, closure_of, type_closure, proto_closure, with_name, with_names, with_proto}
 use Rattle.tables_names.proofs.FiveLemmas.{part_adds_nothing, IsPart-right, parts_of_proto, proto_there, closed-protos}
 use Rattle.tables_names.proofs.NeededLemmas.{closed_with, with_names-rising, with_names-holds, rising_join, needed_is_least, names_append}
@@ -25,13 +25,9 @@ use Rattle.file_renumber.specs.Marked.{Marked, MarksOf, AreMarks, IsOneOf, HasMa
 use Rattle.dex_insn.specs.declared.opcode.IndexKind.{IndexKind}
 use Rattle.dex_insn.specs.declared.opcode.IndexKind.TheVariants as kind
 use Rattle.file_renumber.proofs.ColumnLemmas.{marks_more}
+use Rattle.dex_base.proofs.ListFacts.{all_map, all_weaker, zip_length}
 
 -- ---- what is marked already
-
--- types that are held are among more
-all_types : (s t : Five) → IsSubset s.types t.types → (ts : List Units) → AllByRecursion (λ u. Holds s (OfDesc u)) ts → AllByRecursion (λ u. Holds t (OfDesc u)) ts
-all_types s t part [] all = tt
-all_types s t part (u ∷ ts) all = (part.each (text_key u) all.0, all_types s t part ts all.1)
 
 module _ (b : List ℕ) (m : Marked) (s : Five) (a : AreMarks b m s) where
   pub type_is_there : (i : ℕ) (t : Units) → TypeStands b i t → get_or m.columns.types i 0 ≡ 1 → AreMarks b m (with_name s (OfDesc t))
@@ -59,13 +55,14 @@ pub type_adds_nothing : (s : Five) (t : Units) → IsClosed s → AreRising s �
 unfolding with_name
 type_adds_nothing s t closed up h = part_adds_nothing s (type_closure (text_key t)) up (closed.of_types (text_key t) h)
 
-types_add_nothing : (s : Five) (ts : List Units) → IsClosed s → AreRising s → AllByRecursion (λ t. Holds s (OfDesc t)) ts → s ≡ with_names s (map OfDesc ts)
-types_add_nothing s [] closed up all = refl
-types_add_nothing s (t ∷ ts) closed up all =
-    types_add_nothing s ts closed up all.1 ∙ ap (λ x. with_names x (map OfDesc ts)) (type_adds_nothing s t closed up all.0)
+-- .. by what they are the types of
+pub types_add_nothing : {A : Type 0} (f : A → Units) (s : Five) (xs : List A) → IsClosed s → AreRising s → AllByRecursion (Holds s) (map (λ x. OfDesc (f x)) xs) → s ≡ with_names s (map (λ x. OfDesc (f x)) xs)
+types_add_nothing f s [] closed up all = refl
+types_add_nothing f s (x ∷ xs) closed up all =
+    types_add_nothing f s xs closed up all.1 ∙ ap (λ y. with_names y (map (λ z. OfDesc (f z)) xs)) (type_adds_nothing s (f x) closed up all.0)
 
 pub list_is_there : (b : List ℕ) (m : Marked) (s : Five) (off : ℕ) (ts : List Units) → AreMarks b m s → IsOneOf m.lists off → TypesAt b off ts → AreMarks b m (with_names s (map OfDesc ts))
-list_is_there b m s off ts a one at = subst (AreMarks b m) (types_add_nothing s ts a.closed a.rise (a.lists off ts one at)) a
+list_is_there b m s off ts a one at = subst (AreMarks b m) (types_add_nothing (λ t. t) s ts a.closed a.rise (all_map (Holds s) OfDesc ts (a.lists off ts one at))) a
 
 -- ---- one more row
 
@@ -96,7 +93,7 @@ module _ (b : List ℕ) (m : Marked) (s : Five) (closed : IsClosed s) (up : AreR
     protos = a.protos;
     fields = a.fields;
     methods = a.methods;
-    lists = λ off ts one at. all_types s (record s { types = insert_key s.types (text_key t) }) (sub.IsSubset-insert s.types (text_key t)) ts (a.lists off ts one at);
+    lists = λ off ts one at. all_weaker (λ u. Holds s (OfDesc u)) (λ u. Holds (with_name s (OfDesc t)) (OfDesc u)) (λ u h. (sub.IsSubset-insert s.types (text_key t)).each (text_key u) h) ts (a.lists off ts one at);
   }
 
   pub field_marked : (f : FieldRef) (xs : List ℕ) → xs ≡ set m.columns.fields i 1 → FieldStands b i f → AreMarks b m (with_name (with_name (with_name s (OfDesc f.class)) (OfText f.name)) (OfDesc f.ty)) → AreMarks b (record m { columns = record m.columns { fields = xs } }) (with_name s (OfField f))
@@ -223,36 +220,42 @@ adds_none b m s a = a
 pub adds_more : (b : List ℕ) (old mid new : Marked) (xs ys : List Name) → AddsNames b old mid xs → AddsNames b mid new ys → AddsNames b old new (xs ++ ys)
 adds_more b old mid new xs ys f g s a = subst (AreMarks b new) (sym (names_append s xs ys)) (g (with_names s xs) (f s a))
 
+-- the names of the items before a place, and those of the next
+pub names_next : {A : Type 0} (f : A → List Name) (xs : List A) (i : ℕ) (d : A) → i < length xs → flat_map f (take i xs) ++ f (get_or xs i d) ≡ flat_map f (take (i + 1) xs)
+names_next f xs i d lt =
+    ap (λ l. flat_map f (take i xs) ++ l) (sym (append-nil (f (get_or xs i d)))) ∙ sym (flat_map-append f (take i xs) (get_or xs i d ∷ [])) ∙ ap (flat_map f) (sym (take_more xs i d lt))
+
+pub adds_next : {A : Type 0} (f : A → List Name) (b : List ℕ) (old mid new : Marked) (xs : List A) (i : ℕ) (d : A) → i < length xs → AddsNames b old mid (flat_map f (take i xs)) → AddsNames b mid new (f (get_or xs i d)) → AddsNames b old new (flat_map f (take (i + 1) xs))
+adds_next f b old mid new xs i d lt m n =
+    subst (λ (ns : List Name). AddsNames b old new ns) (names_next f xs i d lt) (adds_more b old mid new (flat_map f (take i xs)) (f (get_or xs i d)) m n)
+
 pub has_marks_after : (b : List ℕ) (old new : Marked) (names : List Name) → HasMarks b old → AddsNames b old new names → HasMarks b new
 has_marks_after b old new names h f = (with_names h.0 names, f h.0 h.1)
 
 -- ---- the bytes of a list's indices
 
+pub zip_at : {A B : Type 0} (R : A → B → Type 0) (xs : List A) (ys : List B) (i : ℕ) (c : A) (d : B) → i < length xs → AllZip R xs ys → R (get_or xs i c) (get_or ys i d)
+zip_at R [] ys i c d lt z = absurd (omega (arith, lt))
+zip_at R (x ∷ xs) [] i c d lt z = absurd z
+zip_at R (x ∷ xs) (y ∷ ys) zero c d lt z = z.0
+zip_at R (x ∷ xs) (y ∷ ys) (suc i) c d lt z = zip_at R xs ys i c d (omega (arith, lt)) z.1
+
+-- the indices of a list stand for its types
+pub types_stand : (b : List ℕ) (off : ℕ) (indexes : List ℕ) (ts : List Units) → IsFramed b → AtOrNone SpellsIndexes b 0x1001 4 off indexes → TypesAt b off ts → AllZip (TypeStands b) indexes ts
+types_stand b off indexes ts framed at types =
+    let x = indexes_of b off ts types in
+    subst (λ (xs : List ℕ). AllZip (TypeStands b) xs ts) (list_or_none_one b framed 0x1001 4 off x.indexes indexes x.spelled at) x.named
+
 -- index j of a list stands for its type j
 pub type_at : (b : List ℕ) (off : ℕ) (indexes : List ℕ) (ts : List Units) (j : ℕ) → IsFramed b → AtOrNone SpellsIndexes b 0x1001 4 off indexes → TypesAt b off ts → j < length indexes → TypeStands b (get_or indexes j 0) (get_or ts j []) × (j < length ts)
 type_at b off indexes ts j framed at types lt =
-    let x = indexes_of b off ts types in
-    let same : x.indexes ≡ indexes = list_or_none_one b framed 0x1001 4 off x.indexes indexes x.spelled at in
-    each indexes ts j lt (subst (λ (xs : List ℕ). AllZip (TypeStands b) xs ts) same x.named)
-  where
-    each : (xs : List ℕ) (ys : List Units) (k : ℕ) → k < length xs → AllZip (TypeStands b) xs ys → TypeStands b (get_or xs k 0) (get_or ys k []) × (k < length ys)
-    each [] ys k lt z = absurd (omega (arith, lt))
-    each (x ∷ xs) [] k lt z = absurd z
-    each (x ∷ xs) (y ∷ ys) zero lt z = (z.0, omega arith)
-    each (x ∷ xs) (y ∷ ys) (suc k) lt z = let r = each xs ys k (omega (arith, lt)) z.1 in (r.0, (let h = r.1 in omega (arith, h)))
+    let z = types_stand b off indexes ts framed at types in
+    let n = zip_length (TypeStands b) indexes ts z in
+    (zip_at (TypeStands b) indexes ts j 0 [] lt z, omega (arith, n, lt))
 
 -- there are as many
 pub types_count : (b : List ℕ) (off : ℕ) (indexes : List ℕ) (ts : List Units) → IsFramed b → AtOrNone SpellsIndexes b 0x1001 4 off indexes → TypesAt b off ts → length ts ≡ length indexes
-types_count b off indexes ts framed at types =
-    let x = indexes_of b off ts types in
-    let same : x.indexes ≡ indexes = list_or_none_one b framed 0x1001 4 off x.indexes indexes x.spelled at in
-    each indexes ts (subst (λ (xs : List ℕ). AllZip (TypeStands b) xs ts) same x.named)
-  where
-    each : (xs : List ℕ) (ys : List Units) → AllZip (TypeStands b) xs ys → length ys ≡ length xs
-    each [] [] z = refl
-    each [] (y ∷ ys) z = absurd z
-    each (x ∷ xs) [] z = absurd z
-    each (x ∷ xs) (y ∷ ys) z = ap suc (each xs ys z.1)
+types_count b off indexes ts framed at types = sym (zip_length (TypeStands b) indexes ts (types_stand b off indexes ts framed at types))
 
 -- one type more of a list
 pub next_type : (b : List ℕ) (old mid new : Marked) (ts : List Units) (j : ℕ) → j < length ts → AddsNames b old mid (map OfDesc (take j ts)) → AddsNames b mid new (OfDesc (get_or ts j []) ∷ []) → AddsNames b old new (map OfDesc (take (j + 1) ts))
@@ -265,27 +268,19 @@ next_type b old mid new ts j lt f g =
 module _ (b : List ℕ) (table : IndexKind) (i : ℕ) where
   pub string_row : (which : Name) → table ≡ kind.String → IsRowOf b table i which → (t : Units) × (which ≡ OfText t) × StringStands b i t
   string_row (OfText t) e r = (t, refl, r.stands)
-  string_row (OfDesc t) e r = let h : kind.Type ≡ kind.String = r.kind ∙ e in absurd cc
-  string_row (OfField f) e r = let h : kind.Field ≡ kind.String = r.kind ∙ e in absurd cc
-  string_row (OfMethod m) e r = let h : kind.Method ≡ kind.String = r.kind ∙ e in absurd cc
+  string_row _ e r = let h = r.kind ∙ e in absurd cc
 
   pub type_row : (which : Name) → table ≡ kind.Type → IsRowOf b table i which → (t : Units) × (which ≡ OfDesc t) × TypeStands b i t
-  type_row (OfText t) e r = let h : kind.String ≡ kind.Type = r.kind ∙ e in absurd cc
   type_row (OfDesc t) e r = (t, refl, r.stands)
-  type_row (OfField f) e r = let h : kind.Field ≡ kind.Type = r.kind ∙ e in absurd cc
-  type_row (OfMethod m) e r = let h : kind.Method ≡ kind.Type = r.kind ∙ e in absurd cc
+  type_row _ e r = let h = r.kind ∙ e in absurd cc
 
   pub field_row : (which : Name) → table ≡ kind.Field → IsRowOf b table i which → (f : FieldRef) × (which ≡ OfField f) × FieldStands b i f
-  field_row (OfText t) e r = let h : kind.String ≡ kind.Field = r.kind ∙ e in absurd cc
-  field_row (OfDesc t) e r = let h : kind.Type ≡ kind.Field = r.kind ∙ e in absurd cc
   field_row (OfField f) e r = (f, refl, r.stands)
-  field_row (OfMethod m) e r = let h : kind.Method ≡ kind.Field = r.kind ∙ e in absurd cc
+  field_row _ e r = let h = r.kind ∙ e in absurd cc
 
   pub method_row : (which : Name) → table ≡ kind.Method → IsRowOf b table i which → (m : MethodRef) × (which ≡ OfMethod m) × MethodStands b i m
-  method_row (OfText t) e r = let h : kind.String ≡ kind.Method = r.kind ∙ e in absurd cc
-  method_row (OfDesc t) e r = let h : kind.Type ≡ kind.Method = r.kind ∙ e in absurd cc
-  method_row (OfField f) e r = let h : kind.Field ≡ kind.Method = r.kind ∙ e in absurd cc
   method_row (OfMethod m) e r = (m, refl, r.stands)
+  method_row _ e r = let h = r.kind ∙ e in absurd cc
 
 -- the same name
 pub adds_same : (b : List ℕ) (old new : Marked) (x y : Name) → x ≡ y → AddsNames b old new (y ∷ []) → AddsNames b old new (x ∷ [])

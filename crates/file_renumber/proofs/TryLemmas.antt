@@ -1,19 +1,20 @@
 -- Tries, one by one.
-use Rattle.std.proofs.Common.{◌≡◌, ℕ, zero, suc, ◌+◌, ◌<◌, ◌≤◌, inl, inr, List, [], ◌∷◌, ◌++◌, length, take, drop, get_or, set, Some, refl, sym, ap, subst, ◌∙◌, arith, append_assoc, length-append}
+use Rattle.std.proofs.Common.{◌≡◌, ℕ, ◌+◌, ◌<◌, ◌≤◌, inl, inr, List, ◌++◌, length, take, drop, get_or, set, Some, refl, sym, ap, subst, ◌∙◌, arith, length-append}
 use Rattle.std.specs.Prelude.{replicate}
 use Rattle.std.specs.List.{AllByRecursion, flat_map}
 use Rattle.std.proofs.lemmas.Bool.{cases_lt}
-use Rattle.std.proofs.lemmas.List.{take_more, take_all, append-nil, get_or-take, get_or-set_other, length-map, length-replicate}
+use Rattle.std.proofs.lemmas.List.{take_all, get_or-take, get_or-set_other, length-map, length-replicate, length-take-le}
 use Rattle.dex_base.specs.Grammar.{Takes}
 use Rattle.dex_base.proofs.Numbers.{some_byte}
 use Rattle.program_types.specs.Content.{Name, Catch, Try}
 use Rattle.program_types.specs.Formed.{try_at}
 use Rattle.program_types.specs.Mentions.{names_of_try}
-use Rattle.tables_names.specs.Closure.{Five, IsClosed, AreRising, Holds, with_names}
+use Rattle.tables_names.specs.Closure.{Five, Holds, with_names}
 use Rattle.tables_names.proofs.NeededLemmas.{names_append, with_names-holds}
 use Rattle.tables_rows.specs.Stands.{NameStands}
 use Rattle.file_renumber.specs.Marked.{Marked, AreMarks, AddsNames}
-use Rattle.file_renumber.proofs.MarkLemmas.{adds_none, adds_more, type_adds_nothing}
+use Rattle.file_renumber.proofs.ColumnLemmas.{zero_at}
+use Rattle.file_renumber.proofs.MarkLemmas.{adds_none, adds_next, names_next, types_add_nothing}
 use Rattle.code_read.specs.Places.{position}
 use Rattle.code_read.proofs.PlaceLaws.{position-there}
 use Rattle.code_read.specs.Handlers.{Handler, SpellsHandler, handler_at}
@@ -39,16 +40,11 @@ handler_some N ss bytes h rest t =
 
 -- ---- names that are marked already
 
-types_add_nothing : (s : Five) (cs : List Catch) → IsClosed s → AreRising s → AllByRecursion (Holds s) (types_of cs) → s ≡ with_names s (types_of cs)
-types_add_nothing s [] closed up all = refl
-types_add_nothing s (c ∷ cs) closed up all =
-    types_add_nothing s cs closed up all.1 ∙ ap (λ x. with_names x (types_of cs)) (type_adds_nothing s c.ty closed up all.0)
-
 -- types that were among the names add nothing
 adds_again : (b : List ℕ) (old new : Marked) (xs : List Name) (cs : List Catch) → ((s : Five) → AllByRecursion (Holds (with_names s xs)) (types_of cs)) → AddsNames b old new xs → AddsNames b old new (xs ++ types_of cs)
 adds_again b old new xs cs held f s a =
     let m = f s a in
-    subst (AreMarks b new) (types_add_nothing (with_names s xs) cs m.closed m.rise (held s) ∙ sym (names_append s xs (types_of cs))) m
+    subst (AreMarks b new) (types_add_nothing (λ (c : Catch). c.ty) (with_names s xs) cs m.closed m.rise (held s) ∙ sym (names_append s xs (types_of cs))) m
 
 -- ---- the handlers that were seen
 
@@ -63,14 +59,6 @@ all_zero seen h k l = let z = h k in omega (arith, z, l)
 
 pub tries_start : (b items offsets : List ℕ) (m : Marked) (seen : List ℕ) (ts : List Try) → ((k : ℕ) → get_or seen k 0 ≡ 0) → MarkedTries b items offsets m m seen 0 0 ts
 tries_start b items offsets m seen ts z = record { marked = adds_none b m; known = λ k l. absurd (all_zero seen z k l); counted = refl }
-
-names_more : (ts : List Try) (i : ℕ) → i < length ts → flat_map names_of_try (take i ts) ++ names_of_try (try_at ts i) ≡ flat_map names_of_try (take (i + 1) ts)
-names_more ts i lt =
-    ap (λ l. flat_map names_of_try (take i ts) ++ l) (sym (append-nil (names_of_try (try_at ts i)))) ∙ sym (append (take i ts) (try_at ts i ∷ [])) ∙ ap (flat_map names_of_try) (sym (take_more ts i no_try lt))
-  where
-    append : (xs ys : List Try) → flat_map names_of_try (xs ++ ys) ≡ flat_map names_of_try xs ++ flat_map names_of_try ys
-    append [] ys = refl
-    append (x ∷ xs) ys = ap (λ l. names_of_try x ++ l) (append xs ys) ∙ sym (append_assoc (names_of_try x) (flat_map names_of_try xs) (flat_map names_of_try ys))
 
 -- tries with one handler catch the same types
 same_handler : (items offsets : List ℕ) (i j k : ℕ) → position offsets (try_handler items i) ≡ Some k → position offsets (try_handler items j) ≡ Some k → try_handler items j ≡ try_handler items i
@@ -107,16 +95,10 @@ module _ (b : List ℕ) (ss : List ℕ) (size n : ℕ) (items bytes offsets catc
       let t = with_names s (flat_map names_of_try (take i ts)) in
       let count = r.tries.count in
       let all = with_names-holds s (flat_map names_of_try (take i ts)) in
-      let inside : j < length (take i ts) = long ts i (omega (arith, lt, count)) j before in
-      let one = all-part (Holds t) names_of_try (take i ts) j no_try all inside in
+      let long = length-take-le i ts (omega (arith, lt, count)) in
+      let one = all-part (Holds t) names_of_try (take i ts) j no_try all (omega (arith, long, before)) in
       let here : AllByRecursion (Holds t) (names_of_try (try_at ts j)) = subst (λ (x : Try). AllByRecursion (Holds t) (names_of_try x)) (get_or-take i ts j no_try before) one in
       subst (λ (ns : List Name). AllByRecursion (Holds t) ns) (same_catches i j k lt (omega (arith, before, lt)) p q) here
-    where
-      long : (xs : List Try) (i : ℕ) → i ≤ length xs → (j : ℕ) → j < i → j < length (take i xs)
-      long xs zero le j lt = absurd (omega (arith, lt))
-      long [] (suc i) le j lt = absurd (omega (arith, le))
-      long (x ∷ xs) (suc i) le zero lt = omega arith
-      long (x ∷ xs) (suc i) le (suc j) lt = let r = long xs i (omega (arith, le)) j (omega (arith, lt)) in omega (arith, r)
 
   pub tries_more : (old mid new : Marked) (seen more : List ℕ) (sum types i k : ℕ) → i < n → position offsets (try_handler items i) ≡ Some k → k < length seen → types ≡ get_or catches k 0 → MarkedTries b items offsets old mid seen sum i ts
       → MarksOnce b bytes (get_or offsets k 0) mid new seen more k → MarkedTries b items offsets old new more (sum + types) (i + 1) ts
@@ -124,8 +106,7 @@ module _ (b : List ℕ) (ss : List ℕ) (size n : ℕ) (items bytes offsets catc
       let count = r.tries.count in
       let x = taken_at i k lt at in
       record {
-        marked = subst (λ (ns : List Name). AddsNames b old new ns) (names_more ts i (omega (arith, lt, count)))
-            (adds_more b old mid new (flat_map names_of_try (take i ts)) (names_of_try (try_at ts i)) m.marked (f.1 ss (handler_of (try_at ts i)) x.0 x.1));
+        marked = adds_next names_of_try b old mid new ts i no_try (omega (arith, lt, count)) m.marked (f.1 ss (handler_of (try_at ts i)) x.0 x.1);
         known = λ q l. elim (cases_lt q k) [
           | inl a ↦ old_one q (subst (λ (xs : List ℕ). 0 < get_or xs q 0) f.0 l) (λ e. omega (arith, e, a))
           | inr a ↦ elim (cases_lt k q) [
@@ -150,7 +131,7 @@ module _ (b : List ℕ) (ss : List ℕ) (size n : ℕ) (items bytes offsets catc
       let o = m.known k f.0 in
       let again = adds_again b old mid (flat_map names_of_try (take i ts)) (try_at ts i).catches (λ s. held_again i o.0 k lt o.1 at o.2 s) m.marked in
       record {
-        marked = subst (λ (x : Marked). AddsNames b old x (flat_map names_of_try (take (i + 1) ts))) (sym f.2) (subst (λ (ns : List Name). AddsNames b old mid ns) (names_more ts i (omega (arith, lt, count))) again);
+        marked = subst (λ (x : Marked). AddsNames b old x (flat_map names_of_try (take (i + 1) ts))) (sym f.2) (subst (λ (ns : List Name). AddsNames b old mid ns) (names_next names_of_try ts i no_try (omega (arith, lt, count))) again);
         known = λ q l.
             let p = m.known q (subst (λ (xs : List ℕ). 0 < get_or xs q 0) f.1 l) in
             let before = p.1 in
@@ -178,12 +159,7 @@ found_in items offsets others i j k o e at =
     subst (λ (os : List ℕ). position os (try_handler items i) ≡ Some k) o (subst (λ (n : ℕ). position others (try_handler items n) ≡ Some k) e at)
 
 pub zeros : (xs : List ℕ) (n : ℕ) → xs ≡ replicate n 0 → (k : ℕ) → get_or xs k 0 ≡ 0
-zeros xs n e k = subst (λ (ys : List ℕ). get_or ys k 0 ≡ 0) (sym e) (by n k)
-  where
-    by : (n k : ℕ) → let z : ℕ = 0 in get_or (replicate n z) k z ≡ z
-    by zero k = refl
-    by (suc n) zero = refl
-    by (suc n) (suc k) = by n k
+zeros xs n e k = subst (λ (ys : List ℕ). get_or ys k 0 ≡ 0) (sym e) (zero_at n k)
 
 pub zeros_long : (xs : List ℕ) (n : ℕ) → xs ≡ replicate n 0 → length xs ≡ n
 zeros_long xs n e = ap length e ∙ length-replicate {A = ℕ} n 0

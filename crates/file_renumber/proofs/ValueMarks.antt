@@ -1,7 +1,7 @@
 -- What values name is marked.
-use Rattle.std.proofs.Common.{◌≡◌, ℕ, suc, ◌+◌, ◌*◌, ◌<◌, ◌≤◌, List, [], ◌∷◌, ◌++◌, length, take, drop, get_or, refl, sym, ap, subst, ◌∙◌, arith, append_assoc}
+use Rattle.std.proofs.Common.{◌≡◌, ℕ, ◌+◌, ◌*◌, ◌<◌, ◌≤◌, List, [], ◌∷◌, ◌++◌, length, take, drop, get_or, refl, sym, ap, subst, ◌∙◌, arith}
 use Rattle.std.proofs.Math.Seq.{drop-cons}
-use Rattle.std.proofs.lemmas.List.{take_more, take_all, length-append, append-nil, take-append-drop, drop_all}
+use Rattle.std.proofs.lemmas.List.{take_more, take_all, length-append, take-append-drop}
 use Rattle.std.specs.List.{flat_map}
 use Rattle.dex_base.specs.Grammar.{Takes, Each, Many}
 use Rattle.program_types.specs.Content.{Name, Value, Null, values}
@@ -10,17 +10,13 @@ use Rattle.tables_rows.specs.Stands.{NameStands}
 use Rattle.dex_value.specs.Spelling.{SpellsValue}
 use Rattle.dex_value.specs.Wide.{wide_value, wide_values}
 use Rattle.file_renumber.specs.Marked.{Marked, AddsNames}
-use Rattle.file_renumber.proofs.MarkLemmas.{adds_none, adds_more}
+use Rattle.file_renumber.proofs.MarkLemmas.{adds_none, adds_next}
 use Rattle.file_renumber.specs.ValueWalks.{MarksValue, MarksValues}
-use Rattle.file_renumber.proofs.FrontLemmas.{TakenArray, IsLone, taken_lone, next_value}
+use Rattle.file_renumber.proofs.FrontLemmas.{TakenArray, IsLone, taken_lone, due_start, NextDue, due_next, due_end}
 use Rattle.file_renumber.proofs.NameLemmas.{names-listed, each_wide, lone_wide, lone_names}
 use Rattle.program_types.proofs.Nesting.{listed, values-listed}
 
 -- ---- lists of names
-
-names_append : (xs ys : List Value) → flat_map names_of_value (xs ++ ys) ≡ flat_map names_of_value xs ++ flat_map names_of_value ys
-names_append [] ys = refl
-names_append (x ∷ xs) ys = ap (λ l. names_of_value x ++ l) (names_append xs ys) ∙ sym (append_assoc (names_of_value x) (flat_map names_of_value xs) (flat_map names_of_value ys))
 
 wide_append : (xs ys : List Value) → wide_values (values (xs ++ ys)) ≡ wide_values (values xs) + wide_values (values ys)
 wide_append [] ys = omega arith
@@ -47,28 +43,15 @@ pub walked_start : (b : List ℕ) (old : Marked) (n : ℕ) (bytes : List ℕ) (v
 walked_start b old n bytes vs rest t = record {
   wide = refl;
   marked = adds_none b old;
-  due = record { front = t.front; whole = t.whole; spelled = t.spelled.1 };
+  due = due_start (SpellsValue (NameStands b)) n bytes vs rest t;
 }
 
 -- the value that is due next
-pub record NextDue (b : List ℕ) (left : List ℕ) (turn : ℕ) (vs : List Value) (rest : List ℕ) : Type 0 where
-  pub mid : List ℕ
-  pub one : Takes (SpellsValue (NameStands b)) left (get_or vs turn Null) mid
-  pub more : Takes (Each (SpellsValue (NameStands b))) mid (drop (turn + 1) vs) rest
-
-pub next_due : (b : List ℕ) (n : ℕ) (bytes left : List ℕ) (turn : ℕ) (vs : List Value) (rest : List ℕ) (old new : Marked) (sum : ℕ) → turn < n → Takes (Many (SpellsValue (NameStands b)) n) bytes vs rest → Walked b old new sum left turn vs rest → NextDue b left turn vs rest
-next_due b n bytes left turn vs rest old new sum lt t w =
-    let count = t.spelled.0 in
-    let within : turn < length vs = omega (arith, lt, count) in
-    let x = next_value (NameStands b) n left (get_or vs turn Null) (drop (suc turn) vs) rest (subst (λ (ws : List Value). Takes (Each (SpellsValue (NameStands b))) left ws rest) (drop-cons vs turn Null within) w.due) in
-    record {
-      mid = x.0;
-      one = x.1;
-      more = (let e : suc turn ≡ turn + 1 = omega arith in subst (λ (k : ℕ). Takes (Each (SpellsValue (NameStands b))) x.0 (drop k vs) rest) e x.2);
-    }
+pub next_due : (b : List ℕ) (n : ℕ) (bytes left : List ℕ) (turn : ℕ) (vs : List Value) (rest : List ℕ) (old new : Marked) (sum : ℕ) → turn < n → Takes (Many (SpellsValue (NameStands b)) n) bytes vs rest → Walked b old new sum left turn vs rest → NextDue (SpellsValue (NameStands b)) left turn vs Null rest
+next_due b n bytes left turn vs rest old new sum lt t w = let count = t.spelled.0 in due_next (SpellsValue (NameStands b)) left turn vs Null rest (omega (arith, lt, count)) w.due
 
 -- one value more
-pub walked_next : (b : List ℕ) (n : ℕ) (bytes left after : List ℕ) (turn : ℕ) (vs : List Value) (rest : List ℕ) (old mid new : Marked) (sum wide : ℕ) → turn < n → Takes (Many (SpellsValue (NameStands b)) n) bytes vs rest → Walked b old mid sum left turn vs rest → (d : NextDue b left turn vs rest) → MarksValue b mid new (get_or vs turn Null) d.mid wide after → Walked b old new (sum + wide) after (turn + 1) vs rest
+pub walked_next : (b : List ℕ) (n : ℕ) (bytes left after : List ℕ) (turn : ℕ) (vs : List Value) (rest : List ℕ) (old mid new : Marked) (sum wide : ℕ) → turn < n → Takes (Many (SpellsValue (NameStands b)) n) bytes vs rest → Walked b old mid sum left turn vs rest → (d : NextDue (SpellsValue (NameStands b)) left turn vs Null rest) → MarksValue b mid new (get_or vs turn Null) d.mid wide after → Walked b old new (sum + wide) after (turn + 1) vs rest
 walked_next b n bytes left after turn vs rest old mid new sum wide lt t w d m =
     let count = t.spelled.0 in
     let more : take (turn + 1) vs ≡ take turn vs ++ get_or vs turn Null ∷ [] = take_more vs turn Null (omega (arith, lt, count)) in
@@ -76,9 +59,7 @@ walked_next b n bytes left after turn vs rest old mid new sum wide lt t w d m =
     record {
       wide = (let e = w.wide in let f = m.wide in let g = wide_append (take turn vs) (one ∷ []) in let h : sum + wide ≡ wide_values (values (take turn vs ++ one ∷ [])) = omega (arith, e, f, g) in h)
           ∙ ap (λ (ws : List Value). wide_values (values ws)) (sym more);
-      marked = subst (λ (ns : List Name). AddsNames b old new ns)
-          (ap (λ l. flat_map names_of_value (take turn vs) ++ l) (sym (append-nil (names_of_value one))) ∙ sym (names_append (take turn vs) (one ∷ [])) ∙ ap (flat_map names_of_value) (sym more))
-          (adds_more b old mid new (flat_map names_of_value (take turn vs)) (names_of_value one) w.marked m.marked);
+      marked = adds_next names_of_value b old mid new vs turn Null (omega (arith, lt, count)) w.marked m.marked;
       due = subst (λ (l : List ℕ). Takes (Each (SpellsValue (NameStands b))) l (drop (turn + 1) vs) rest) (sym m.follows) d.more;
     }
 
@@ -92,17 +73,13 @@ walked_few b n bytes left turn vs rest old new sum t w =
     let g : wide_values (values (take turn vs ++ drop turn vs)) ≡ wide_values (values vs) = ap (λ (ws : List Value). wide_values (values ws)) (take-append-drop turn vs) in
     omega (arith, all, size, e, f, g)
 
-pub none_left : (N : ℕ → Name → Type 0) (left rest : List ℕ) (vs : List Value) → vs ≡ [] → Takes (Each (SpellsValue N)) left vs rest → left ≡ rest
-none_left N left rest [] e t = t.whole ∙ ap (λ l. l ++ rest) t.spelled
-none_left N left rest (v ∷ vs) e t = absurd cc
-
 pub walked_end : (b : List ℕ) (n : ℕ) (bytes left : List ℕ) (turn : ℕ) (vs : List Value) (rest : List ℕ) (old new : Marked) (sum : ℕ) → n ≤ turn → Takes (Many (SpellsValue (NameStands b)) n) bytes vs rest → Walked b old new sum left turn vs rest → MarksValues b old new vs rest sum left
 walked_end b n bytes left turn vs rest old new sum le t w =
     let count = t.spelled.0 in
     let all : length vs ≤ turn = omega (arith, le, count) in
     let whole : take turn vs ≡ vs = take_all turn vs all in
     record {
-      follows = none_left (NameStands b) left rest (drop turn vs) (drop_all turn vs all) w.due;
+      follows = due_end (SpellsValue (NameStands b)) left turn vs rest all w.due;
       wide = w.wide ∙ ap (λ (ws : List Value). wide_values (values ws)) whole;
       marked = subst (λ (ws : List Value). AddsNames b old new (flat_map names_of_value ws)) whole w.marked;
     }

@@ -1,17 +1,17 @@
 -- Instructions one after the other.
-use Rattle.std.proofs.Common.{◌≡◌, ℕ, ℤ, ◌+◌, ◌/◌, ◌<◌, List, [], ◌∷◌, ◌++◌, length, take, refl, sym, ap, subst, ◌∙◌, arith, append_assoc, length-append}
+use Rattle.std.proofs.Common.{◌≡◌, ℕ, ℤ, ◌+◌, ◌/◌, ◌<◌, List, [], ◌∷◌, ◌++◌, length, take, refl, sym, ap, subst, arith, length-append}
 use Rattle.std.specs.List.{flat_map}
-use Rattle.std.proofs.lemmas.List.{take_more, take_all, append-nil}
+use Rattle.std.proofs.lemmas.List.{take_all}
 use Rattle.dex_insn.specs.Raw.{Raw, units}
 use Rattle.dex_insn.specs.RawInsns.{InsnStands}
 use Rattle.dex_insn.proofs.StandingLaws.{one-stands}
-use Rattle.program_types.specs.Content.{Name, Insn}
+use Rattle.program_types.specs.Content.{Insn}
 use Rattle.program_types.specs.Content as made
 use Rattle.program_types.specs.Formed.{insn_at}
 use Rattle.program_types.specs.Mentions.{names_of_insn}
 use Rattle.tables_rows.specs.Stands.{NameStands}
 use Rattle.file_renumber.specs.Marked.{Marked, AddsNames}
-use Rattle.file_renumber.proofs.MarkLemmas.{adds_none, adds_more}
+use Rattle.file_renumber.proofs.MarkLemmas.{adds_none, adds_next}
 use Rattle.code_read.specs.Linked.{lead}
 use Rattle.code_read.specs.Symbols.{Says}
 use Rattle.code_read.specs.Walk.{address, Run, Walks, starts, raw_at}
@@ -67,23 +67,14 @@ says_next b us before rs is at r p s l st =
       inside = omega (arith, inside, count);
     }
 
-names_append : (xs ys : List Insn) → flat_map names_of_insn (xs ++ ys) ≡ flat_map names_of_insn xs ++ flat_map names_of_insn ys
-names_append [] ys = refl
-names_append (x ∷ xs) ys = ap (λ l. names_of_insn x ++ l) (names_append xs ys) ∙ sym (append_assoc (names_of_insn x) (flat_map names_of_insn xs) (flat_map names_of_insn ys))
-
 pub marked_more : (b : List ℕ) (old mid new : Marked) (us : List ℕ) (at : ℕ) (r : Raw) (is : List Insn) (m : MarkedTo b old mid us at is) → length m.before < length is → InsnStands us at r
     → AddsNames b mid new (names_of_insn (insn_at is (length m.before))) → MarkedTo b old new us (at + units r) is
 marked_more b old mid new us at r is m lt s f =
-    let one = insn_at is (length m.before) in
     let count : length (m.before ++ r ∷ []) ≡ length m.before + 1 = length-append m.before (r ∷ []) in
-    let more : take (length m.before + 1) is ≡ take (length m.before) is ++ one ∷ [] = take_more is (length m.before) (made.I10x 0) lt in
-    let names : flat_map names_of_insn (take (length m.before) is) ++ names_of_insn one ≡ flat_map names_of_insn (take (length (m.before ++ r ∷ [])) is) =
-    ap (λ l. flat_map names_of_insn (take (length m.before) is) ++ l) (sym (append-nil (names_of_insn one))) ∙ sym (names_append (take (length m.before) is) (one ∷ []))
-    ∙ ap (flat_map names_of_insn) (sym more) ∙ ap (λ (k : ℕ). flat_map names_of_insn (take k is)) (sym count) in
     record {
       before = m.before ++ r ∷ [];
       run = run-more us 0 m.before at r m.run s;
-      marked = subst (λ (ns : List Name). AddsNames b old new ns) names (adds_more b old mid new (flat_map names_of_insn (take (length m.before) is)) (names_of_insn one) m.marked f);
+      marked = subst (λ (k : ℕ). AddsNames b old new (flat_map names_of_insn (take k is))) (sym count) (adds_next names_of_insn b old mid new is (length m.before) (made.I10x 0) lt m.marked f);
     }
 
 pub marked_end : (b : List ℕ) (old new : Marked) (us : List ℕ) (at : ℕ) (rs : List Raw) (is : List Insn) → at ≡ length us / 2 → SpellsInsns (NameStands b) us rs is → MarkedTo b old new us at is → AddsNames b old new (flat_map names_of_insn is)

@@ -13,7 +13,7 @@ use Rattle.code_read.specs.Item.{try_start, try_count}
 use Rattle.code_read.specs.ItemReading.{ReadTries}
 use Rattle.code_read.specs.declared.item.Item.{Item}
 use Rattle.code_put.specs.Packs.{PacksHandler}
-use Rattle.code_put.specs.Writing.{IsNumbered}
+use Rattle.code_put.specs.Writing.{IsHeldAs}
 use Rattle.file_renumber.specs.Fronts.{AreListed, types_of}
 use Rattle.file_renumber.specs.declared.handlers.Handlers.{Handlers}
 use Rattle.file_renumber.specs.CarriedCodes.{CarriedHandler, CarriedTries}
@@ -50,7 +50,7 @@ pub record IsWrittenOf (numbers : Columns) (bytes key : List ℕ) : Type 0 where
 -- call.
 pub record GetsNumber (numbers : Columns) (bytes : List ℕ) (old new : List (List ℕ)) (n : ℕ) : Type 0 where
   pub key : List ℕ
-  pub numbered : IsNumbered old new key n
+  pub numbered : IsHeldAs old new key n
   pub written : IsWrittenOf numbers bytes key
 
 -- Where the entry of a handler isn't 0, what is written of it is held, with the number before. The handlers of the list

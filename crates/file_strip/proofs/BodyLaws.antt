@@ -1,5 +1,5 @@
 -- Bodies that are written by the numbers of kept rows.
-use Rattle.std.proofs.Common.{◌≡◌, ℕ, zero, suc, ◌+◌, ◌<◌, Bool, true, false, List, [], ◌∷◌, ◌++◌, length, take, get_or, refl, sym, subst, ◌∙◌, arith, Some, None, Option, inl, inr}
+use Rattle.std.proofs.Common.{◌≡◌, ℕ, zero, suc, ◌+◌, ◌<◌, Bool, true, false, List, [], ◌∷◌, length, take, get_or, refl, sym, subst, ◌∙◌, arith, Some, None, Option, inl, inr}
 use Rattle.std.specs.Prelude.{MatchBool, ◌==◌}
 use Rattle.std.specs.List.{AllByRecursion}
 use Rattle.std.proofs.lemmas.List.{take_more, length-map}
@@ -23,23 +23,20 @@ use Rattle.file_renumber.specs.Marked.{Columns}
 use Rattle.file_strip.specs.Bodies.{AreNear, AreOwned, IsCarriedBody, IsCarriedSome, IsFar, IsFirstFar, IsOwned, bodies_alone}
 use Rattle.file_strip.specs.declared.codes.PlacedBody.{PlacedBody}
 use Rattle.file_strip.specs.Moved.{IsItem}
-use Rattle.dex_base.proofs.ListFacts.{zip_length, some_inj}
+use Rattle.code_put.proofs.ListLaws.{all-at}
+use Rattle.file_renumber.proofs.MarkLemmas.{zip_at}
+use Rattle.dex_base.proofs.ListFacts.{zip_length, some_inj, all_append}
 
 -- ---- what is written is near, so it fits
 
 no_code : (c : Code) (o : Option Code) → o ≡ None → o ≡ Some c → ⊥
 no_code c o e f = absurd cc
 
-below_at : (offs : List ℕ) (i : ℕ) → i < length offs → AllByRecursion (λ off. off < 65536) offs → get_or offs i 0 < 65536
-below_at [] i lt all = absurd (omega (arith, lt))
-below_at (o ∷ offs) zero lt all = all.0
-below_at (o ∷ offs) (suc i) lt all = below_at offs i (omega (arith, lt)) all.1
-
 -- handlers are laid in one way, in which those of a code that is written are near
 near_of : (s : Five) (c : Code) (bytes : List ℕ) → AreRising s → PacksCode (NameRanks s) bytes c → HandlersAreNear (NameRanks s) (addresses_of c.insns) c.tries
 near_of s c bytes rise packs = λ list offs laid i lt.
     let once = layout-once (NameRanks s) (addresses_of c.insns) (ranks-injective s rise) c.tries list offs packs.list packs.offsets laid packs.handlers in
-    below_at offs i lt (subst (λ (os : List ℕ). AllByRecursion (λ off. off < 65536) os) (sym once.1) packs.near)
+    all-at (λ off. off < 65536) offs i 0 (subst (λ (os : List ℕ). AllByRecursion (λ off. off < 65536) os) (sym once.1) packs.near) lt
 
 not_far : (N : ℕ → _ → Type 0) (c : Code) → HandlersAreNear N (addresses_of c.insns) c.tries → ¬ CodeBreaksLimit N c 89
 not_far N c near (HandlerTooFar short some) = let n = near some.list some.offs some.laid some.index some.inside in let f = some.far in omega (arith, n, f)
@@ -96,23 +93,17 @@ near_body b numbers s off v align kept more old new place x u =
 
 -- ---- bodies one by one
 
--- each of them stands where the entry of its method says
-pub owned_at : (b : List ℕ) (numbers : Columns) (s : Five) (es : List PlacedBody) (xs : List (ℕ × Option Code)) (i : ℕ) (d : PlacedBody) (x : ℕ × Option Code) → i < length es → AreOwned b numbers s es xs → IsOwned b numbers s (get_or es i d) (get_or xs i x)
-owned_at b numbers s [] xs i d x lt z = absurd (omega (arith, lt))
-owned_at b numbers s (e ∷ es) [] i d x lt z = absurd z
-owned_at b numbers s (e ∷ es) (y ∷ xs) zero d x lt z = z.0
-owned_at b numbers s (e ∷ es) (y ∷ xs) (suc i) d x lt z = owned_at b numbers s es xs i d x (omega (arith, lt)) z.1
-
 -- the body alone of turn i
 pub turn_of : (xs : List (ℕ × Option Code)) (i : ℕ) → get_or (bodies_alone xs) i None ≡ (get_or xs i (0, None)).1
 turn_of [] i = refl
 turn_of (y ∷ xs) zero = refl
 turn_of (y ∷ xs) (suc i) = turn_of xs i
 
+-- each of them stands where the entry of its method says
 pub carried_at : (b : List ℕ) (numbers : Columns) (s : Five) (es : List PlacedBody) (xs : List (ℕ × Option Code)) (i : ℕ) → i < length es → AreOwned b numbers s es xs
     → ((get_or es i (record { class = 0; code = 0 })).class ≡ (get_or xs i (0, None)).0) × IsCarriedBody b numbers s (get_or es i (record { class = 0; code = 0 })).code (get_or (bodies_alone xs) i None)
 carried_at b numbers s es xs i lt z =
-    let o = owned_at b numbers s es xs i (record { class = 0; code = 0 }) (0, None) lt z in
+    let o = zip_at (IsOwned b numbers s) es xs i (record { class = 0; code = 0 }) (0, None) lt z in
     (o.class, subst (IsCarriedBody b numbers s (get_or es i (record { class = 0; code = 0 })).code) (sym (turn_of xs i)) o.body)
 
 pub owned_long : (b : List ℕ) (numbers : Columns) (s : Five) (es : List PlacedBody) (xs : List (ℕ × Option Code)) → AreOwned b numbers s es xs → (length es ≡ length xs) × (length es ≡ length (bodies_alone xs))
@@ -120,13 +111,9 @@ owned_long b numbers s es xs z =
     let n = zip_length (IsOwned b numbers s) es xs z in
     (n, n ∙ sym (length-map xs (λ (x : ℕ × Option Code). x.1)))
 
-near_append : (s : Five) (xs ys : List (ℕ × Option Code)) → AreNear s xs → AreNear s ys → AreNear s (xs ++ ys)
-near_append s [] ys a c = c
-near_append s (x ∷ xs) ys a c = (a.0, near_append s xs ys a.1 c)
-
 pub near_more : (s : Five) (xs : List (ℕ × Option Code)) (i : ℕ) (x : ℕ × Option Code) → i < length xs → AreNear s (take i xs) → (¬ IsFar s (get_or xs i x).1) → AreNear s (take (i + 1) xs)
 near_more s xs i x lt near one =
-    subst (λ (ys : List (ℕ × Option Code)). AreNear s ys) (sym (take_more xs i x lt)) (near_append s (take i xs) (get_or xs i x ∷ []) near (one, tt))
+    subst (λ (ys : List (ℕ × Option Code)). AreNear s ys) (sym (take_more xs i x lt)) (all_append (λ y. ¬ IsFar s y.1) (take i xs) (get_or xs i x ∷ []) near (one, tt))
 
 -- the first that is far
 pub first_far : (s : Five) (xs : List (ℕ × Option Code)) (i : ℕ) (x : ℕ × Option Code) (class : ℕ) → i < length xs → AreNear s (take i xs) → (get_or xs i x).0 ≡ class → IsFar s (get_or xs i x).1 → IsFirstFar s xs class

@@ -1,16 +1,16 @@
 -- The rows of class_defs by the numbers of kept rows.
-use Rattle.std.proofs.Common.{◌≡◌, ◌≢◌, ℕ, zero, suc, ◌+◌, ◌^◌, ◌<◌, ◌≤◌, List, [], ◌∷◌, ◌++◌, length, take, get_or, refl, sym, ap, subst, ◌∙◌, arith, slice_get, Some, None, Option}
+use Rattle.std.proofs.Common.{◌≡◌, ◌≢◌, ℕ, ◌+◌, ◌^◌, ◌<◌, List, [], ◌∷◌, ◌++◌, length, take, get_or, refl, sym, ap, subst, ◌∙◌, arith, slice_get, Some, None, Option}
 use Rattle.std.specs.Option.{ForSome}
 use Rattle.std.specs.List.{AllByRecursion}
-use Rattle.std.proofs.lemmas.List.{take_more, take_all}
 use Rattle.std.proofs.lemmas.Option.{slice_get_within}
 use Rattle.dex_base.specs.Grammar.{Appends, Each}
 use Rattle.dex_base.specs.Words.{words_bytes}
-use Rattle.dex_base.proofs.GrammarLaws.{Each-appends_more, Each-appends_none}
+use Rattle.dex_base.proofs.GrammarLaws.{Each-appends_none}
 use Rattle.file_classes.specs.ClassRows.{IndexOrNone, no_index, class_word}
 use Rattle.file_needed.proofs.ClassNames.{type_named, source_named}
-use Rattle.file_assemble.specs.ClassDefs.{ClassWithPlaces, SpellsClassRow, StringRanks, TypeRanks, all_but_first, with_places}
-use Rattle.file_assemble.proofs.PlacedClasses.{length-seated, first_of, others_of, rank_or_none}
+use Rattle.file_assemble.specs.ClassDefs.{SpellsClassRow, StringRanks, TypeRanks, with_places}
+use Rattle.file_assemble.proofs.ClassRowLaws.{seated_more}
+use Rattle.file_assemble.proofs.PlacedClasses.{rank_or_none}
 use Rattle.program_types.specs.Content.{Class, Program, Units, Name, OfDesc, OfText}
 use Rattle.program_types.specs.Key.{text_key}
 use Rattle.program_types.specs.Mentions.{names_of_class, if_any}
@@ -125,28 +125,9 @@ module _ (b : List ℕ) (numbers : Columns) (p : Program) (k : Keeps b numbers p
 
 -- ---- the rows of all classes
 
-seated_at : (p : Program) (lists datas arrays : List ℕ) (i : ℕ) (c : Class) (n : ClassWithPlaces) → slice_get p i ≡ Some c → get_or (with_places p lists datas arrays) i n ≡ record { class = c; list = get_or lists i 0; class_data = get_or datas i 0; array = get_or arrays i 0 }
-seated_at [] lists datas arrays i c n at = absurd cc
-seated_at (d ∷ p) lists datas arrays zero c n at = let e : d ≡ c = cc in rw (first_of lists, first_of datas, first_of arrays) (ap (λ (x : Class). record { class = x; list = get_or lists 0 0; class_data = get_or datas 0 0; array = get_or arrays 0 0 }) e)
-seated_at (d ∷ p) lists datas arrays (suc i) c n at =
-    seated_at p (all_but_first lists) (all_but_first datas) (all_but_first arrays) i c n at
-    ∙ rw (others_of lists i, others_of datas i, others_of arrays i) refl
-
 pub seated_next : (p : Program) (old mid new : List ℕ) (lists datas arrays : List ℕ) (i : ℕ) → i < length p → Appends (Each (SpellsClassRow (needed p))) old mid (take i (with_places p lists datas arrays))
     → IsRowWithPlaces p i (get_or lists i 0) (get_or datas i 0) (get_or arrays i 0) mid new → Appends (Each (SpellsClassRow (needed p))) old new (take (i + 1) (with_places p lists datas arrays))
-seated_next p old mid new lists datas arrays i lt rows row =
-    let c = entry_at p i lt in
-    let all : List ClassWithPlaces = with_places p lists datas arrays in
-    let n : ClassWithPlaces = record { class = c.0; list = 0; class_data = 0; array = 0 } in
-    let many = length-seated p lists datas arrays in
-    subst (λ (vs : List ClassWithPlaces). Appends (Each (SpellsClassRow (needed p))) old new vs) (sym (take_more all i n (omega (arith, lt, many))))
-    (Each-appends_more (SpellsClassRow (needed p)) old mid new (take i all) (get_or all i n) rows
-    (subst (λ (v : ClassWithPlaces). Appends (SpellsClassRow (needed p)) mid new v) (sym (seated_at p lists datas arrays i c.0 n c.1)) (row c.0 c.1)))
-
-pub seated_end : (p : Program) (old new : List ℕ) (lists datas arrays : List ℕ) (i : ℕ) → length p ≤ i → Appends (Each (SpellsClassRow (needed p))) old new (take i (with_places p lists datas arrays)) → Appends (Each (SpellsClassRow (needed p))) old new (with_places p lists datas arrays)
-seated_end p old new lists datas arrays i all a =
-    let many = length-seated p lists datas arrays in
-    subst (λ (vs : List ClassWithPlaces). Appends (Each (SpellsClassRow (needed p))) old new vs) (take_all i (with_places p lists datas arrays) (omega (arith, all, many))) a
+seated_next p old mid new lists datas arrays i lt rows row = let c = entry_at p i lt in seated_more (needed p) old mid new p lists datas arrays i c.0 c.1 rows (row c.0 c.1)
 
 pub seated_start : (p : Program) (old : List ℕ) → Appends (Each (SpellsClassRow (needed p))) old old []
 seated_start p old = Each-appends_none (SpellsClassRow (needed p)) old

@@ -24,19 +24,19 @@ use Rattle.file_limits.proofs.SumLaws.{wide_all_append}
 use Rattle.file_needed.proofs.ClassNames.{directs_kept, virtuals_kept}
 use Rattle.program_types.specs.Content.{Class, Code, Descriptor, Method, Name, OfDesc, OfField, OfMethod, OfText, Program}
 use Rattle.program_types.specs.Mentions.{if_any, names_of_code, names_of_method}
-use Rattle.tables_names.specs.Closure.{Five, Holds, NameRanks}
+use Rattle.tables_names.specs.Closure.{Holds, NameRanks}
 use Rattle.tables_names.specs.Needed.{needed}
 use Rattle.file_renumber.specs.Marked.{Columns, IsColumn, kind_of}
 use Rattle.file_renumber.specs.Numbers.{Carries, Counts, column_of}
 use Rattle.tables_rows.specs.Stands.{NameStands}
-use Rattle.file_strip.specs.Bodies.{AreFirstBodies, AreOwned, IsCarriedBody, IsCarriedSome, body_of, numbered}
+use Rattle.file_strip.specs.Bodies.{AreFirstBodies, AreOwned, IsCarriedBody, IsCarriedSome, IsOwned, body_of, numbered}
 use Rattle.file_strip.specs.declared.codes.PlacedBody.{PlacedBody}
 use Rattle.file_strip.specs.Keeping.{Keeps}
 use Rattle.file_strip.proofs.KeepLaws.{carried, class_holds, number_is}
 use Rattle.file_strip.proofs.FarLaws.{pairs}
 use Rattle.file_strip.proofs.RowsFrom.{ranked_holds}
 use Rattle.file_renumber.proofs.ColumnLemmas.{before_few}
-use Rattle.dex_base.proofs.ListFacts.{some_inj, all_front, all_back}
+use Rattle.dex_base.proofs.ListFacts.{some_inj, all_front, all_back, all_weaker, zip_append}
 use Rattle.file_classes.proofs.EntryLaws.{entry_at, list_same}
 
 -- ---- no number is above its row
@@ -66,10 +66,6 @@ module _ (b : List ℕ) (numbers : Columns) (p : Program) (k : Keeps b numbers p
 
   -- ---- one body
 
-  names_carried : (xs : List Name) → AllByRecursion (Holds (needed p)) xs → AllByRecursion (Carries (NameStands b) (NameRanks (needed p)) numbers) xs
-  names_carried [] all = tt
-  names_carried (x ∷ xs) all = (carried b numbers p k x all.0, names_carried xs all.1)
-
   some_body : (off : ℕ) (v : Option Code) → AreBytes b → AllByRecursion (Holds (needed p)) (if_any names_of_code v) → wide_body v < 2 ^ 32 → SomeCodeStands b off v → IsCarriedSome b numbers (needed p) off v
   some_body off v are held short x =
       let F = codes-fit b (needed p) off x.some are k.marked.framed x.stands no_further in
@@ -80,7 +76,7 @@ module _ (b : List ℕ) (numbers : Columns) (p : Program) (k : Keeps b numbers p
         carried = record {
           stands = x.stands;
           rise = k.marked.rise;
-          carried = names_carried (names_of_code x.some) (subst (λ (o : Option Code). AllByRecursion (Holds (needed p)) (if_any names_of_code o)) x.is held);
+          carried = all_weaker (Holds (needed p)) (Carries (NameStands b) (NameRanks (needed p)) numbers) (carried b numbers p k) (names_of_code x.some) (subst (λ (o : Option Code). AllByRecursion (Holds (needed p)) (if_any names_of_code o)) x.is held);
           fits = F.names;
           short = omega (arith, w);
         };
@@ -106,12 +102,6 @@ module _ (b : List ℕ) (numbers : Columns) (p : Program) (k : Keeps b numbers p
     record { class = refl; body = body_carried e.code m.code are (all_front (Holds (needed p)) (if_any names_of_code m.code) (flat_map (names_of_method class) ms) held.1) (omega (arith, short)) (codes 0 (method_entry e) m refl refl) },
     methods_owned n class es ms are (omega (arith, count)) (λ j x y at_x at_y. codes (suc j) x y at_x at_y) (all_back (Holds (needed p)) (if_any names_of_code m.code) (flat_map (names_of_method class) ms) held.1) (omega (arith, short)),
   )
-
-owned_append : (b : List ℕ) (numbers : Columns) (s : Five) (es fs : List PlacedBody) (xs ys : List (ℕ × Option Code)) → AreOwned b numbers s es xs → AreOwned b numbers s fs ys → AreOwned b numbers s (es ++ fs) (xs ++ ys)
-owned_append b numbers s [] fs [] ys z w = w
-owned_append b numbers s [] fs (x ∷ xs) ys z w = absurd z
-owned_append b numbers s (e ∷ es) fs [] ys z w = absurd z
-owned_append b numbers s (e ∷ es) fs (x ∷ xs) ys z w = (z.0, owned_append b numbers s es fs xs ys z.1 w)
 
 -- ---- one more class
 
@@ -160,25 +150,20 @@ module _ (b : List ℕ) (numbers : Columns) (p : Program) (k : Keeps b numbers p
       let held = class_holds p i c at in
       let w = class_wide p i c at in
       let a = wide_all_append wide_body (bodies_in c.directs) (bodies_in c.virtuals) in
-      owned_append b numbers (needed p) (map (body_of i) all.directs.items) (map (body_of i) all.virtuals.items) (map (λ v. (i, v)) (bodies_in c.directs)) (map (λ v. (i, v)) (bodies_in c.virtuals))
+      zip_append (IsOwned b numbers (needed p)) (map (body_of i) all.directs.items) (map (body_of i) all.virtuals.items) (map (λ v. (i, v)) (bodies_in c.directs)) (map (λ v. (i, v)) (bodies_in c.virtuals))
       (methods_owned b numbers p k i c.ty all.directs.items c.directs are (st.head.members.directs.count ∙ ap (λ (y : Entries). length y.directs) same) (subst (λ (y : Entries). CodesAre b y.directs c.directs) same st.directs) (directs_kept (Holds (needed p)) c held) (omega (arith, short, w, a)))
       (methods_owned b numbers p k i c.ty all.virtuals.items c.virtuals are (st.head.members.virtuals.count ∙ ap (λ (y : Entries). length y.virtuals) same) (subst (λ (y : Entries). CodesAre b y.virtuals c.virtuals) same st.virtuals) (virtuals_kept (Holds (needed p)) c held) (omega (arith, short, w, a)))
-
-  class_next : (i : ℕ) (c : Class) (all : held.Entries) (old new : List PlacedBody) → slice_get p i ≡ Some c → AreBytes b → EntriesAt b (class_word b i 6) (entries all) → wide_all wide_body (body_values p) < 2 ^ 32
-      → new ≡ old ++ (map (body_of i) all.directs.items ++ map (body_of i) all.virtuals.items) → AreFirstBodies b numbers p i old → AreFirstBodies b numbers p (i + 1) new
-  class_next i c all old new at are stands short bodies z =
-      let es = map (body_of i) all.directs.items ++ map (body_of i) all.virtuals.items in
-      let xs : List (ℕ × Option Code) = map (λ v. (i, v)) (bodies_in c.directs) ++ map (λ v. (i, v)) (bodies_in c.virtuals) in
-      let more = owned_append b numbers (needed p) old es (numbered 0 (take i p)) xs z (class_owned i c all at are stands short) in
-      subst (λ (l : List PlacedBody). AreOwned b numbers (needed p) l (numbered 0 (take (i + 1) p))) (sym bodies)
-      (subst (λ (l : List (ℕ × Option Code)). AreOwned b numbers (needed p) (old ++ es) l) (sym (numbered_next p i c at)) more)
 
   pub class_pushed : (i : ℕ) (all : held.Entries) (old mid new : List PlacedBody) (directs virtuals : List held_method.MethodEntry) → AreBytes b → i < size_of b 5 → EntriesAt b (class_word b i 6) (entries all) → wide_all wide_body (body_values p) < 2 ^ 32
       → directs ≡ all.directs.items → virtuals ≡ all.virtuals.items → mid ≡ old ++ map (body_of i) directs → new ≡ mid ++ map (body_of i) virtuals → AreFirstBodies b numbers p i old → AreFirstBodies b numbers p (i + 1) new
   class_pushed i all old mid new directs virtuals are lt stands short e1 e2 m n z =
       let count = k.classes.count in
-      let x = entry_at p i (omega (arith, count, lt)) in
-      class_next i x.0 all old new x.1 are stands short (pushed_twice i old mid new all.directs.items all.virtuals.items directs virtuals e1 e2 m n) z
+      let c = entry_at p i (omega (arith, count, lt)) in
+      let es = map (body_of i) all.directs.items ++ map (body_of i) all.virtuals.items in
+      let xs : List (ℕ × Option Code) = map (λ v. (i, v)) (bodies_in c.0.directs) ++ map (λ v. (i, v)) (bodies_in c.0.virtuals) in
+      let more = zip_append (IsOwned b numbers (needed p)) old es (numbered 0 (take i p)) xs z (class_owned i c.0 all c.1 are stands short) in
+      subst (λ (l : List PlacedBody). AreOwned b numbers (needed p) l (numbered 0 (take (i + 1) p))) (sym (pushed_twice i old mid new all.directs.items all.virtuals.items directs virtuals e1 e2 m n))
+      (subst (λ (l : List (ℕ × Option Code)). AreOwned b numbers (needed p) (old ++ es) l) (sym (numbered_next p i c.0 c.1)) more)
 
   pub all_pushed : (i : ℕ) (es : List PlacedBody) → i ≡ size_of b 5 → AreFirstBodies b numbers p i es → AreOwned b numbers (needed p) es (numbered 0 p)
   all_pushed i es e z =

@@ -1,8 +1,8 @@
 -- The numbers of the rows that are kept.
-use Rattle.std.proofs.Common.{◌≡◌, ℕ, zero, suc, ◌+◌, ◌<◌, ◌≤◌, List, [], ◌∷◌, length, get_or, sym, ap, subst, ◌∙◌, arith, slice_get, Some, inl, inr}
+use Rattle.std.proofs.Common.{◌≡◌, ℕ, zero, suc, ◌+◌, ◌<◌, ◌≤◌, List, length, get_or, sym, ap, subst, ◌∙◌, arith, slice_get, Some, inl, inr}
 use Rattle.std.proofs.lemmas.Bool.{cases_lt}
-use Rattle.std.proofs.lemmas.Option.{slice_get_within, slice_get-get_or}
-use Rattle.std.specs.List.{AllByRecursion, flat_map}
+use Rattle.std.proofs.lemmas.Option.{slice_get_within, slice_get-get_or, get_or_from_slice_get}
+use Rattle.std.specs.List.{AllByRecursion}
 use Rattle.dex_container.specs.Layout.{size_of}
 use Rattle.program_types.specs.Content.{Units, Class, Program, Name, OfDesc}
 use Rattle.program_types.specs.Mentions.{names_of_class}
@@ -15,7 +15,8 @@ use Rattle.file_renumber.proofs.ColumnLemmas.{before_next, before_few}
 use Rattle.file_renumber.proofs.RankLemmas.{kept_rows_are_ranks, totals_are_lengths}
 use Rattle.tables_rows.specs.Stands.{NameStands}
 use Rattle.file_strip.specs.Keeping.{Keeps}
-use Rattle.dex_base.proofs.ListFacts.{some_inj, all_front, all_back}
+use Rattle.file_renumber.proofs.ListLemmas.{all-part}
+use Rattle.dex_base.proofs.ListFacts.{some_inj, all_weaker}
 
 -- ---- one column
 
@@ -87,8 +88,7 @@ module _ (b : List ℕ) (numbers : Columns) (p : Program) (k : Keeps b numbers p
   carried which h = kept_rows_are_ranks b k.marks (needed p) numbers k.tables k.marked k.numbered which h
 
   pub all_carried : (ts : List Units) → AllByRecursion (λ t. Holds (needed p) (OfDesc t)) ts → AllByRecursion (λ t. Carries (NameStands b) (NameRanks (needed p)) numbers (OfDesc t)) ts
-  all_carried [] all = tt
-  all_carried (t ∷ ts) all = (carried (OfDesc t) all.0, all_carried ts all.1)
+  all_carried ts all = all_weaker (λ t. Holds (needed p) (OfDesc t)) (λ t. Carries (NameStands b) (NameRanks (needed p)) numbers (OfDesc t)) (λ t h. carried (OfDesc t) h) ts all
 
 -- two programs that it keeps need as many strings and prototypes
 pub same_lengths : (b : List ℕ) (numbers : Columns) (p q : Program) → Keeps b numbers p → Keeps b numbers q → (length (needed p).strings ≡ length (needed q).strings) × (length (needed p).protos ≡ length (needed q).protos)
@@ -99,12 +99,5 @@ same_lengths b numbers p q k l =
 
 -- ---- what a class mentions is held
 
-class_in : (P : Name → Type 0) (p : Program) (i : ℕ) (c : Class) → slice_get p i ≡ Some c → AllByRecursion P (flat_map names_of_class p) → AllByRecursion P (names_of_class c)
-class_in P [] i c at all = absurd cc
-class_in P (d ∷ p) zero c at all =
-    let e : d ≡ c = cc in
-    subst (λ (x : Class). AllByRecursion P (names_of_class x)) e (all_front P (names_of_class d) (flat_map names_of_class p) all)
-class_in P (d ∷ p) (suc i) c at all = class_in P p i c at (all_back P (names_of_class d) (flat_map names_of_class p) all)
-
 pub class_holds : (p : Program) (i : ℕ) (c : Class) → slice_get p i ≡ Some c → AllByRecursion (Holds (needed p)) (names_of_class c)
-class_holds p i c at = class_in (Holds (needed p)) p i c at (needed_is_least p).1.holds
+class_holds p i c at = subst (λ (x : Class). AllByRecursion (Holds (needed p)) (names_of_class x)) (get_or_from_slice_get p i c c at) (all-part (Holds (needed p)) names_of_class p i c (needed_is_least p).1.holds (slice_get_within p i c at))

@@ -3,7 +3,7 @@ use Rattle.std.proofs.Common.{◌≡◌, ℕ, zero, suc, ◌+◌, ◌^◌, ◌<�
 use Rattle.std.specs.Prelude.{MatchBool, ◌==◌}
 use Rattle.std.specs.List.{AllByRecursion, AllZip}
 use Rattle.std.proofs.lemmas.List.{take_more, take_all, length-map}
-use Rattle.std.proofs.lemmas.Option.{slice_get_within, slice_get-get_or, slice_get-map}
+use Rattle.std.proofs.lemmas.Option.{slice_get_within, get_or_from_slice_get, slice_get-map}
 use Rattle.dex_base.specs.Fields.{u16_bytes, u32_bytes}
 use Rattle.dex_base.specs.Words.{halves_bytes, words_bytes}
 use Rattle.dex_container.specs.Frame.{IsFramed}
@@ -22,8 +22,6 @@ use Rattle.file_renumber.specs.Numbers.{IsKept, Carries}
 use Rattle.file_renumber.proofs.RankLemmas.{kept_protos_are_ranks, kept_rows_are_held, totals_are_lengths}
 use Rattle.tables_rows.specs.RowFields.{proto_parameters}
 use Rattle.tables_rows.specs.Stands.{NameStands, TypeStands, TypesAt, SpellsIndexes}
-use Rattle.tables_rows.proofs.HalvesLaws.{list_or_none_one}
-use Rattle.tables_rows.proofs.TypeLists.{indexes_of}
 use Rattle.file_layout.proofs.SectionLaws.{not_none}
 use Rattle.file_layout.specs.Sections.{is_empty_list}
 use Rattle.file_limits.specs.Wide.{list_values, params_of, wide_list}
@@ -35,25 +33,23 @@ use Rattle.file_strip.specs.Lists.{AreCarriedLists, AreFirstLists, AreRanked, Is
 use Rattle.file_strip.specs.Moved.{IsItem}
 use Rattle.file_strip.specs.Words.{AreClassWords}
 use Rattle.file_strip.proofs.KeepLaws.{number_is, numbers_long, next_kept, next_not_kept, first_number, few_types, all_carried, class_holds}
-use Rattle.file_renumber.proofs.MarkLemmas.{all_held}
-use Rattle.dex_base.proofs.ListFacts.{zip_length, zip_more, zip_append, all_append}
+use Rattle.file_classes.proofs.EntryLaws.{entry_at}
+use Rattle.file_renumber.proofs.MarkLemmas.{all_held, types_stand, zip_at}
+use Rattle.dex_base.proofs.ListFacts.{zip_length, zip_more, zip_append, all_append, some_one}
 
 -- ---- the numbers of types
 
-pub ranked_at : (numbers : Columns) (s : Five) (indexes : List ℕ) (ts : List Units) (j : ℕ) → j < length indexes → AreRanked numbers s indexes ts
-    → (number : ℕ) × (slice_get numbers.types (get_or indexes j 0) ≡ Some number) × IsAt s.types number (text_key (get_or ts j [])) × (number < 2 ^ 16) × (j < length ts)
-ranked_at numbers s indexes ts j lt r = by indexes ts j lt r.each
-  where
-    by : (xs : List ℕ) (ys : List Units) (k : ℕ) → k < length xs → AllZip (λ i t. (number : ℕ) × (slice_get numbers.types i ≡ Some number) × IsAt s.types number (text_key t)) xs ys
-        → (number : ℕ) × (slice_get numbers.types (get_or xs k 0) ≡ Some number) × IsAt s.types number (text_key (get_or ys k [])) × (number < 2 ^ 16) × (k < length ys)
-    by [] ys k lt z = absurd (omega (arith, lt))
-    by (x ∷ xs) [] k lt z = absurd z
-    by (x ∷ xs) (y ∷ ys) zero lt z =
-        let h = z.0 in let w = slice_get_within s.types h.0 _ h.2 in let f = r.few in (h.0, h.1, h.2, omega (arith, w, f), omega arith)
-    by (x ∷ xs) (y ∷ ys) (suc k) lt z = let h = by xs ys k (omega (arith, lt)) z.1 in (h.0, h.1, h.2, h.3, (let l = h.4 in omega (arith, l)))
-
 pub ranked_long : (numbers : Columns) (s : Five) (indexes : List ℕ) (ts : List Units) → AreRanked numbers s indexes ts → length indexes ≡ length ts
 ranked_long numbers s indexes ts r = zip_length (λ i t. (number : ℕ) × (slice_get numbers.types i ≡ Some number) × IsAt s.types number (text_key t)) indexes ts r.each
+
+pub ranked_at : (numbers : Columns) (s : Five) (indexes : List ℕ) (ts : List Units) (j : ℕ) → j < length indexes → AreRanked numbers s indexes ts
+    → (number : ℕ) × (slice_get numbers.types (get_or indexes j 0) ≡ Some number) × IsAt s.types number (text_key (get_or ts j [])) × (number < 2 ^ 16) × (j < length ts)
+ranked_at numbers s indexes ts j lt r =
+    let h = zip_at (λ i t. (number : ℕ) × (slice_get numbers.types i ≡ Some number) × IsAt s.types number (text_key t)) indexes ts j 0 [] lt r.each in
+    let w = slice_get_within s.types h.0 _ h.2 in
+    let f = r.few in
+    let n = ranked_long numbers s indexes ts r in
+    (h.0, h.1, h.2, omega (arith, w, f), omega (arith, n, lt))
 
 -- one type more
 pub indices_next : (s : Five) (old mid new bytes : List ℕ) (k : ℕ) (ts : List Units) (j : ℕ) → j < length ts → AddsIndices s old mid (take j ts) → new ≡ mid ++ bytes → bytes ≡ u16_bytes k → k < 2 ^ 16 → IsAt s.types k (text_key (get_or ts j [])) → AddsIndices s old new (take (j + 1) ts)
@@ -77,9 +73,7 @@ indexes_few b off indexes at = by (off == 0) at
 
 pub ranked_of : (b : List ℕ) (numbers : Columns) (s : Five) (off : ℕ) (indexes : List ℕ) (ts : List Units) → IsFramed b → AtOrNone SpellsIndexes b 0x1001 4 off indexes → IsCarriedList b numbers s off ts → AreRanked numbers s indexes ts
 ranked_of b numbers s off indexes ts framed at c =
-    let x = indexes_of b off ts c.stands in
-    let same : x.indexes ≡ indexes = list_or_none_one b framed 0x1001 4 off x.indexes indexes x.spelled at in
-    record { few = c.few; each = by indexes ts (subst (λ (xs : List ℕ). AllZip (TypeStands b) xs ts) same x.named) c.carried }
+    record { few = c.few; each = by indexes ts (types_stand b off indexes ts framed at c.stands) c.carried }
   where
     by : (xs : List ℕ) (ys : List Units) → AllZip (TypeStands b) xs ys → AllByRecursion (λ t. Carries (NameStands b) (NameRanks s) numbers (OfDesc t)) ys
         → AllZip (λ i t. (number : ℕ) × (slice_get numbers.types i ≡ Some number) × IsAt s.types number (text_key t)) xs ys
@@ -114,12 +108,6 @@ room_of_bytes s bytes [] w some = let n = ap length w in absurd (omega (arith, n
 room_of_bytes s bytes (t ∷ ts) w some = omega arith
 
 -- ---- the lists of a file
-
-pub zip_at : {B : Type 0} (R : ℕ → B → Type 0) (xs : List ℕ) (ys : List B) (i : ℕ) (d : B) → i < length xs → AllZip R xs ys → R (get_or xs i 0) (get_or ys i d)
-zip_at R [] ys i d lt z = absurd (omega (arith, lt))
-zip_at R (x ∷ xs) [] i d lt z = absurd z
-zip_at R (x ∷ xs) (y ∷ ys) zero d lt z = z.0
-zip_at R (x ∷ xs) (y ∷ ys) (suc i) d lt z = zip_at R xs ys i d (omega (arith, lt)) z.1
 
 pub zip_of : {B : Type 0} (R : ℕ → B → Type 0) (xs : List ℕ) (ys : List B) → length xs ≡ length ys → ((i : ℕ) (y : B) → slice_get ys i ≡ Some y → R (get_or xs i 0) y) → AllZip R xs ys
 zip_of R [] [] n each = tt
@@ -160,7 +148,7 @@ module _ (b : List ℕ) (numbers : Columns) (p : Program) (k : Keeps b numbers p
       let vs = map params_of s.protos in
       let there : slice_get vs rank.0 ≡ Some q.params = slice_get-map params_of s.protos rank.0 ∙ ap (option_map params_of) rank.2 in
       let within = slice_get_within vs rank.0 q.params there in
-      let own : get_or vs rank.0 [] ≡ q.params = number_of vs rank.0 q.params there in
+      let own : get_or vs rank.0 [] ≡ q.params = get_or_from_slice_get vs rank.0 q.params [] there in
       let indices = (closed_have_rows s k.marked.closed).protos rank.0 q rank.2 in
       let at : IsCarriedList b numbers s (proto_parameters b i) q.params = record { few = few_types b numbers p k; stands = row.stands.params; carried = all_carried b numbers p k q.params (hold_all s (proto_key q) indices.0 indices.1).1 } in
       let before : AreCarriedLists b numbers s offs (take rank.0 vs) = subst (λ (n : ℕ). AreCarriedLists b numbers s offs (take n vs)) is z in
@@ -168,9 +156,6 @@ module _ (b : List ℕ) (numbers : Columns) (p : Program) (k : Keeps b numbers p
       subst (AreCarriedLists b numbers s (offs ++ proto_parameters b i ∷ [])) (ap (λ (l : List Units). take rank.0 vs ++ l ∷ []) (sym own) ∙ sym (take_more vs rank.0 [] within))
       (zip_more (IsCarriedList b numbers s) offs (take rank.0 vs) (proto_parameters b i) q.params before at) in
       subst (λ (n : ℕ). AreCarriedLists b numbers s (offs ++ proto_parameters b i ∷ []) (take n vs)) (ap (λ (n : ℕ). n + 1) (sym is) ∙ sym e) more
-    where
-      number_of : (vs : List (List Units)) (i : ℕ) (v : List Units) → slice_get vs i ≡ Some v → get_or vs i [] ≡ v
-      number_of vs i v at = let e : Some (get_or vs i []) ≡ Some v = sym (slice_get-get_or vs i [] (slice_get_within vs i v at)) ∙ at in cc e
 
   -- after the last row there are all
   pub parameter_lists : (i : ℕ) (offs : List ℕ) → i ≡ size_of b 2 → AreFirstLists b numbers p i offs → AreCarriedLists b numbers (needed p) offs (map params_of (needed p).protos)
@@ -189,21 +174,17 @@ module _ (b : List ℕ) (numbers : Columns) (p : Program) (k : Keeps b numbers p
       let m = w.count in
       zip_of (IsCarriedList b numbers (needed p)) words (map (λ (c : Class). c.interfaces) p) (omega (arith, count, n, m))
       (λ i ts at.
-      let c = mapped p i ts at in
-      let lt = slice_get_within p i c.0 c.1 in
+      let lt : i < length p = (let w = slice_get_within (map (λ (c : Class). c.interfaces) p) i ts at in omega (arith, w, n)) in
+      let c = entry_at p i lt in
+      let same : c.0.interfaces ≡ ts = some_one _ _ _ (slice_get-map (λ (x : Class). x.interfaces) p i ∙ ap (option_map (λ (x : Class). x.interfaces)) c.1) at in
       let st = k.classes.each i c.0 c.1 in
       let all = interfaces_named (Holds (needed p)) c.0 (class_holds p i c.0 c.1) in
-      subst (λ (xs : List Units). IsCarriedList b numbers (needed p) (get_or words i 0) xs) c.2
+      subst (λ (xs : List Units). IsCarriedList b numbers (needed p) (get_or words i 0) xs) same
       (record {
         few = few_types b numbers p k;
         stands = subst (λ (o : ℕ). TypesAt b o c.0.interfaces) (sym (w.each i (omega (arith, lt, count)))) st.head.interfaces.types;
         carried = all_carried b numbers p k c.0.interfaces (all_held (needed p) c.0.interfaces all);
       }))
-    where
-      mapped : (q : Program) (i : ℕ) (ts : List Units) → slice_get (map (λ (c : Class). c.interfaces) q) i ≡ Some ts → (c : Class) × (slice_get q i ≡ Some c) × (c.interfaces ≡ ts)
-      mapped [] i ts at = absurd cc
-      mapped (c ∷ q) zero ts at = let e : c.interfaces ≡ ts = cc in (c, refl, e)
-      mapped (c ∷ q) (suc i) ts at = mapped q i ts at
 
   pub all_lists : (offs words all : List ℕ) → all ≡ offs ++ words → AreCarriedLists b numbers (needed p) offs (map params_of (needed p).protos) → AreClassWords b 3 words → AreCarriedLists b numbers (needed p) all (list_values (needed p) p)
   all_lists offs words all e z w =

@@ -18,14 +18,16 @@ use Rattle.program_types.specs.Content.{Class, Descriptor, Member, Method, Name,
 use Rattle.program_types.specs.Mentions.{field_of_class, names_of_method}
 use Rattle.tables_names.specs.Closure.{Five, Holds, NameRanks, method_of_class}
 use Rattle.tables_names.specs.Needed.{needed}
-use Rattle.file_renumber.specs.Marked.{Columns}
+use Rattle.file_renumber.specs.Marked.{Columns, IsColumn}
 use Rattle.file_renumber.proofs.ColumnLemmas.{before_next}
 use Rattle.file_renumber.proofs.RankLemmas.{kept_rows_are_held}
 use Rattle.file_strip.specs.Keeping.{Keeps}
 use Rattle.file_strip.specs.Members.{AreCarriedMembers, IsCarriedRun}
 use Rattle.file_strip.proofs.KeepLaws.{number_is, numbers_long, numbers_rise, carried, class_holds}
 use Rattle.file_classes.proofs.EntryLaws.{entry_at}
-use Rattle.dex_base.proofs.ListFacts.{all_back}
+use Rattle.dex_base.proofs.ListFacts.{all_get, some_one}
+use Rattle.file_renumber.proofs.ListLemmas.{all-part}
+use Rattle.file_renumber.specs.Numbers.{Counts, IsKept}
 
 -- ---- lists by index
 
@@ -45,219 +47,129 @@ no_total (x ∷ xs) h = absurd (omega (arith, h))
 
 -- ---- a run while it is written
 
-module _ {R V : Type 0} (column : List ℕ) (M : ℕ → ℕ × R → V → Type 0) (es : List (ℕ × R)) (vs : List V) where
+module _ {R V : Type 0} (column : List ℕ) (M : ℕ → ℕ × R → V → Type 0) (G : List ℕ → ℕ × R → Type 0) (es : List (ℕ × R)) (vs : List V) where
   -- Of the first i entries these are written; the last of them has this index, and its row this number, 0 for none.
-  pub record StepsTo (outs : List (ℕ × R)) (i index last : ℕ) : Type 0 where
+  pub record RunTo (old out : List ℕ) (i index last : ℕ) : Type 0 where
+    pub outs : List (ℕ × R)
+    pub bytes : List ℕ
+    pub whole : out ≡ old ++ bytes
+    pub spelled : Each G bytes outs
     pub index_is : index ≡ sum (take i (steps es))
     pub run : EntriesAre M outs (take i vs)
     pub sum_is : last ≡ total outs
     pub after : (k : ℕ) → i ≡ k + 1 → last ≡ get_or column (index_of (steps es) k) 0
 
-  pub steps_start : StepsTo [] 0 0 0
-  steps_start = record { index_is = refl; run = no_run M; sum_is = refl; after = λ k e. absurd (omega (arith, e)) }
+  abbrev pub run_start : (old : List ℕ) → RunTo old old 0 0 0
+  run_start old = record { outs = []; bytes = []; whole = sym (append-nil old); spelled = refl; index_is = refl; run = no_run M; sum_is = refl; after = λ k e. absurd (omega (arith, e)) }
 
-  -- the next entry, its row's number and its value
-  pub record NextStep (i index : ℕ) : Type 0 where
-    pub entry : ℕ × R
-    pub entry_at : slice_get es i ≡ Some entry
-    pub value : V
-    pub value_is : slice_get vs i ≡ Some value
-    pub number : ℕ
-    pub number_at : slice_get column (index + entry.0) ≡ Some number
-    pub stands : M number entry value
-
-  pub next_step : (outs : List (ℕ × R)) (i index last : ℕ) → IsCarriedRun column M es vs → StepsTo outs i index last → i < length es → NextStep i index
-  next_step outs i index last c s lt =
-      let e = entry_at es i lt in
-      let n = c.count in
-      let v = entry_at vs i (omega (arith, n, lt)) in
-      let r = c.each i e.0 v.0 e.1 v.1 in
-      record {
-        entry = e.0;
-        entry_at = e.1;
-        value = v.0;
-        value_is = v.1;
-        number = r.0;
-        number_at = subst (λ (k : ℕ). slice_get column k ≡ Some r.0) (index_next es i e.0 e.1 ∙ ap (λ (k : ℕ). k + e.0.0) (sym s.index_is)) r.1;
-        stands = r.2;
-      }
-
-  last_low : (outs : List (ℕ × R)) (i index last number : ℕ) → IsCarriedRun column M es vs → StepsTo outs i index last → i < length es → number ≡ get_or column (index_of (steps es) i) 0 → (0 < length (take i vs) → last < number) × (last ≤ number)
-  last_low outs zero index last number c s lt n =
+  pub number_above : (old out : List ℕ) (i index last number : ℕ) → IsCarriedRun column M es vs → RunTo old out i index last → i < length es → number ≡ get_or column (index_of (steps es) i) 0 → (0 < length (take i vs) → last < number) × (last ≤ number)
+  number_above old out zero index last number c s lt n =
       let e = s.run.count in
-      let z = no_total outs (omega (arith, e)) in
+      let z = no_total s.outs (omega (arith, e)) in
       let t = s.sum_is in
       (λ h. absurd (omega (arith, h)), omega (arith, t, z))
-  last_low outs (suc i) index last number c s lt n =
+  number_above old out (suc i) index last number c s lt n =
       let one : suc i ≡ i + 1 = omega arith in
       let b = s.after i one in
       let r = c.rises i (omega (arith, lt)) in
       let m : number ≡ get_or column (index_of (steps es) (i + 1)) 0 = n ∙ ap (λ (k : ℕ). get_or column (index_of (steps es) k) 0) one in
       (λ h. omega (arith, b, r, m), omega (arith, b, r, m))
 
-  pub record Stepped (outs : List (ℕ × R)) (i index last : ℕ) (entry : ℕ × R) (number : ℕ) (rest : R) : Type 0 where
-    pub low : last ≤ number
-    pub next : StepsTo (outs ++ (number - last, rest) ∷ []) (i + 1) (index + entry.0) number
+module _ {R V : Type 0} {column : List ℕ} {M : ℕ → ℕ × R → V → Type 0} {G : List ℕ → ℕ × R → Type 0} {es : List (ℕ × R)} {vs : List V} {old out : List ℕ} {i index last : ℕ} (c : IsCarriedRun column M es vs) (s : RunTo column M G es vs old out i index last) where
+  pub run_end : length es ≤ i → EntriesAre M s.outs vs
+  run_end le =
+      let n = c.count in
+      subst (λ (us : List V). EntriesAre M s.outs us) (take_all i vs (omega (arith, n, le))) s.run
 
-  -- one more, whose number is this, and which is written with this rest
-  pub steps_more : (outs : List (ℕ × R)) (i index last : ℕ) (c : IsCarriedRun column M es vs) (s : StepsTo outs i index last) (lt : i < length es) (x : NextStep i index) (rest : R)
-      → ((step : ℕ) → M x.number x.entry x.value → M x.number (step, rest) x.value) → Stepped outs i index last x.entry x.number rest
-  steps_more outs i index last c s lt x rest moves =
-      let here : index_of (steps es) i ≡ index + x.entry.0 = index_next es i x.entry x.entry_at ∙ ap (λ (k : ℕ). k + x.entry.0) (sym s.index_is) in
-      let n : x.number ≡ get_or column (index_of (steps es) i) 0 = sym (number_is column (index + x.entry.0) x.number x.number_at) ∙ ap (λ (k : ℕ). get_or column k 0) (sym here) in
-      let l = last_low outs i index last x.number c s lt n in
-      let low = l.1 in
-      let t = s.sum_is in
-      let p = total_push outs (x.number - last, rest) in
-      let w = slice_get_within vs i x.value x.value_is in
-      let done : take i vs ++ x.value ∷ [] ≡ take (i + 1) vs = ap (λ (v : V). take i vs ++ v ∷ []) (sym (get_or_from_slice_get vs i x.value x.value x.value_is)) ∙ sym (take_more vs i x.value w) in
-      record {
-        low = low;
-        next = record {
-          index_is = sym here;
-          run = subst (λ (us : List V). EntriesAre M (outs ++ (x.number - last, rest) ∷ []) us) done
-              (run_push M outs (take i vs) (x.number - last, rest) x.value x.number s.run (omega (arith, t, low)) (moves (x.number - last) x.stands) (λ h. let q = l.0 h in omega (arith, q)));
-          sum_is = omega (arith, p, t, low);
-          after = λ k e. let same : i ≡ k = omega (arith, e) in subst (λ (j : ℕ). x.number ≡ get_or column (index_of (steps es) j) 0) same n;
-        };
-      }
+  -- the next entry
+  module _ (lt : i < length es) (e : ℕ × R) (at : slice_get es i ≡ Some e) where
+    pub here : index_of (steps es) i ≡ index + e.0
+    here = index_next es i e at ∙ ap (λ (k : ℕ). k + e.0) (sym s.index_is)
 
-  pub steps_index : (outs : List (ℕ × R)) (i index last : ℕ) → length column ≤ 2 ^ 32 → IsCarriedRun column M es vs → StepsTo outs i index last → (lt : i < length es) → (e : ℕ × R) → slice_get es i ≡ Some e → (index + e.0 < length column) × (index + e.0 < 2 ^ 32)
-  steps_index outs i index last few c s lt e at =
-      let x = next_step outs i index last c s lt in
-      let w = slice_get_within column (index + x.entry.0) x.number x.number_at in
-      let f : Some x.entry ≡ Some e = sym x.entry_at ∙ at in
-      let same : x.entry ≡ e = cc f in
-      let inside : index + e.0 < length column = subst (λ (y : ℕ × R). index + y.0 < length column) same w in
-      (inside, omega (arith, inside, few))
+    -- its value, and the number of its row
+    pub next_row : (v : V) × (number : ℕ) × (slice_get vs i ≡ Some v) × (slice_get column (index + e.0) ≡ Some number) × M number e v
+    next_row =
+        let n = c.count in
+        let v = entry_at vs i (omega (arith, n, lt)) in
+        let r = c.each i e v.0 at v.1 in
+        (v.0, r.0, v.1, subst (λ (k : ℕ). slice_get column k ≡ Some r.0) here r.1, r.2)
+
+    pub run_index : length column ≤ 2 ^ 32 → (index + e.0 < length column) × (index + e.0 < 2 ^ 32)
+    run_index few = let w = slice_get_within column (index + e.0) next_row.1 next_row.3 in (w, omega (arith, w, few))
+
+    module _ (number : ℕ) (is : slice_get column (index + e.0) ≡ Some number) where
+      pub own : number ≡ get_or column (index_of (steps es) i) 0
+      own = sym (number_is column (index + e.0) number is) ∙ ap (λ (k : ℕ). get_or column k 0) (sym here)
+
+      pub run_low : last ≤ number
+      run_low = (number_above column M G es vs old out i index last number c s lt own).1
+
+      -- it is written with this rest
+      abbrev pub run_more : (new : List ℕ) (rest : R) → ((step : ℕ) (v : V) → M number e v → M number (step, rest) v) → Appends G out new (number - last, rest) → RunTo column M G es vs old new (i + 1) (index + e.0) number
+      run_more new rest moves a =
+          let x = next_row in
+          let l = number_above column M G es vs old out i index last number c s lt own in
+          let low = l.1 in
+          let t = s.sum_is in
+          let p = total_push s.outs (number - last, rest) in
+          let w = slice_get_within vs i x.0 x.2 in
+          let m = subst (λ (k : ℕ). M k e x.0) (some_one (slice_get column (index + e.0)) x.1 number x.3 is) x.4 in
+          let done : take i vs ++ x.0 ∷ [] ≡ take (i + 1) vs = ap (λ (v : V). take i vs ++ v ∷ []) (sym (get_or_from_slice_get vs i x.0 x.0 x.2)) ∙ sym (take_more vs i x.0 w) in
+          record {
+            outs = s.outs ++ (number - last, rest) ∷ [];
+            bytes = s.bytes ++ a.bytes;
+            whole = a.joined ∙ ap (λ (l : List ℕ). l ++ a.bytes) s.whole ∙ append_assoc old s.bytes a.bytes;
+            spelled = Each-push G s.bytes a.bytes s.outs (number - last, rest) s.spelled a.spelled;
+            index_is = sym here;
+            run = subst (λ (us : List V). EntriesAre M (s.outs ++ (number - last, rest) ∷ []) us) done
+                (run_push M s.outs (take i vs) (number - last, rest) x.0 number s.run (omega (arith, t, low)) (moves (number - last) x.0 m) (λ h. let q = l.0 h in omega (arith, q)));
+            sum_is = omega (arith, p, t, low);
+            after = λ k f. let same : i ≡ k = omega (arith, f) in subst (λ (j : ℕ). number ≡ get_or column (index_of (steps es) j) 0) same own;
+          }
 
 -- ---- fields
 
-pub record FieldsTo (column : List ℕ) (s : Five) (class : Descriptor) (es : List FieldEntry) (ms : List Member) (old out : List ℕ) (i index last : ℕ) : Type 0 where
-  pub outs : List FieldEntry
-  pub bytes : List ℕ
-  pub whole : out ≡ old ++ bytes
-  pub spelled : Each (SpellsFieldEntry (Shortest Spells)) bytes outs
-  pub done : StepsTo column (FieldRanks (NameRanks s) class) es ms outs i index last
+abbrev pub FieldsTo : List ℕ → Five → Descriptor → List FieldEntry → List Member → List ℕ → List ℕ → ℕ → ℕ → ℕ → Type 0
+FieldsTo column s class es ms old out i index last = RunTo column (FieldRanks (NameRanks s) class) (SpellsFieldEntry (Shortest Spells)) es ms old out i index last
 
-module _ (column : List ℕ) (s : Five) (class : Descriptor) (es : List FieldEntry) (ms : List Member) (c : IsCarriedRun column (FieldRanks (NameRanks s) class) es ms) where
-  pub fields_start : (old : List ℕ) → FieldsTo column s class es ms old old 0 0 0
-  fields_start old = record { outs = []; bytes = []; whole = sym (append-nil old); spelled = refl; done = steps_start column (FieldRanks (NameRanks s) class) es ms }
-
-  pub fields_index : (old out : List ℕ) (i index last : ℕ) (e : FieldEntry) → length column ≤ 2 ^ 32 → FieldsTo column s class es ms old out i index last → i < length es → slice_get es i ≡ Some e → (index + e.0 < length column) × (index + e.0 < 2 ^ 32)
-  fields_index old out i index last e few f lt at = steps_index column (FieldRanks (NameRanks s) class) es ms f.outs i index last few c f.done lt e at
-
-  field_number : (old out : List ℕ) (i index last : ℕ) (e : FieldEntry) (number : ℕ) (f : FieldsTo column s class es ms old out i index last) → i < length es → slice_get es i ≡ Some e → slice_get column (index + e.0) ≡ Some number
-      → (x : NextStep column (FieldRanks (NameRanks s) class) es ms i index) × (x.entry ≡ e) × (x.number ≡ number)
-  field_number old out i index last e number f lt at n =
-      let x = next_step column (FieldRanks (NameRanks s) class) es ms f.outs i index last c f.done lt in
-      let p : Some x.entry ≡ Some e = sym x.entry_at ∙ at in
-      let same : x.entry ≡ e = cc p in
-      let q : Some x.number ≡ Some number = sym (subst (λ (y : FieldEntry). slice_get column (index + y.0) ≡ Some x.number) same x.number_at) ∙ n in
-      (x, same, cc q)
-
-  pub field_low : (old out : List ℕ) (i index last : ℕ) (e : FieldEntry) (number : ℕ) → FieldsTo column s class es ms old out i index last → i < length es → slice_get es i ≡ Some e → slice_get column (index + e.0) ≡ Some number → last ≤ number
-  field_low old out i index last e number f lt at n =
-      let x = field_number old out i index last e number f lt at n in
-      let g = steps_more column (FieldRanks (NameRanks s) class) es ms f.outs i index last c f.done lt x.0 x.0.entry.1 (λ step m. record { field = m.field; flags = m.flags }) in
-      subst (λ (k : ℕ). last ≤ k) x.2 g.low
-
-  pub field_more : (old mid new : List ℕ) (i index last : ℕ) (e : FieldEntry) (number : ℕ) → FieldsTo column s class es ms old mid i index last → i < length es → slice_get es i ≡ Some e → slice_get column (index + e.0) ≡ Some number
-      → Appends (SpellsFieldEntry (Shortest Spells)) mid new (number - last, e.1) → FieldsTo column s class es ms old new (i + 1) (index + e.0) number
-  field_more old mid new i index last e number f lt at n a =
-      let x = field_number old mid i index last e number f lt at n in
-      let M = FieldRanks (NameRanks s) class in
-      let g = steps_more column M es ms f.outs i index last c f.done lt x.0 x.0.entry.1 (λ step m. record { field = m.field; flags = m.flags }) in
-      let one : StepsTo column M es ms (f.outs ++ (x.0.number - last, e.1) ∷ []) (i + 1) (index + e.0) x.0.number =
-      subst (λ (y : FieldEntry). StepsTo column M es ms (f.outs ++ (x.0.number - last, y.1) ∷ []) (i + 1) (index + y.0) x.0.number) x.1 g.next in
-      record {
-        outs = f.outs ++ (number - last, e.1) ∷ [];
-        bytes = f.bytes ++ a.bytes;
-        whole = a.joined ∙ ap (λ (l : List ℕ). l ++ a.bytes) f.whole ∙ append_assoc old f.bytes a.bytes;
-        spelled = Each-push (SpellsFieldEntry (Shortest Spells)) f.bytes a.bytes f.outs (number - last, e.1) f.spelled a.spelled;
-        done = subst (λ (k : ℕ). StepsTo column M es ms (f.outs ++ (k - last, e.1) ∷ []) (i + 1) (index + e.0) k) x.2 one;
-      }
-
-  pub fields_end : (old new : List ℕ) (i index last : ℕ) → length es ≤ i → FieldsTo column s class es ms old new i index last → AddsFields (NameRanks s) class old new ms
-  fields_end old new i index last le f =
-      let n = c.count in
-      record { bytes = f.bytes; entries = f.outs; whole = f.whole; spelled = f.spelled; run = subst (λ (us : List Member). EntriesAre (FieldRanks (NameRanks s) class) f.outs us) (take_all i ms (omega (arith, n, le))) f.done.run }
+pub fields_end : (column : List ℕ) (s : Five) (class : Descriptor) (es : List FieldEntry) (ms : List Member) → IsCarriedRun column (FieldRanks (NameRanks s) class) es ms → (old new : List ℕ) (i index last : ℕ) → length es ≤ i → FieldsTo column s class es ms old new i index last → AddsFields (NameRanks s) class old new ms
+fields_end column s class es ms c old new i index last le f = record { bytes = f.bytes; entries = f.outs; whole = f.whole; spelled = f.spelled; run = run_end c f le }
 
 -- ---- methods
 
-pub record MethodsTo (column : List ℕ) (s : Five) (class : Descriptor) (es : List MethodEntry) (ms : List Method) (codes : List ℕ) (old out : List ℕ) (i index last : ℕ) : Type 0 where
-  pub outs : List MethodEntry
-  pub bytes : List ℕ
-  pub whole : out ≡ old ++ bytes
-  pub spelled : Each (SpellsMethodEntry (Shortest Spells)) bytes outs
-  pub places : code_offs outs ≡ take i codes
-  pub done : StepsTo column (MethodRanks (NameRanks s) class) es ms outs i index last
+module _ (column : List ℕ) (s : Five) (class : Descriptor) (es : List MethodEntry) (ms : List Method) (codes : List ℕ) where
+  pub record MethodsTo (old out : List ℕ) (i index last : ℕ) : Type 0 where
+    pub to : RunTo column (MethodRanks (NameRanks s) class) (SpellsMethodEntry (Shortest Spells)) es ms old out i index last
+    pub places : code_offs to.outs ≡ take i codes
 
-module _ (column : List ℕ) (s : Five) (class : Descriptor) (es : List MethodEntry) (ms : List Method) (codes : List ℕ) (c : IsCarriedRun column (MethodRanks (NameRanks s) class) es ms) where
-  pub methods_start : (old : List ℕ) → MethodsTo column s class es ms codes old old 0 0 0
-  methods_start old = record { outs = []; bytes = []; whole = sym (append-nil old); spelled = refl; places = refl; done = steps_start column (MethodRanks (NameRanks s) class) es ms }
+  pub methods_start : (old : List ℕ) → MethodsTo old old 0 0 0
+  methods_start old = record { to = run_start column (MethodRanks (NameRanks s) class) (SpellsMethodEntry (Shortest Spells)) es ms old; places = refl }
 
-  pub methods_index : (old out : List ℕ) (i index last : ℕ) (e : MethodEntry) → length column ≤ 2 ^ 32 → MethodsTo column s class es ms codes old out i index last → i < length es → slice_get es i ≡ Some e → (index + e.0 < length column) × (index + e.0 < 2 ^ 32)
-  methods_index old out i index last e few f lt at = steps_index column (MethodRanks (NameRanks s) class) es ms f.outs i index last few c f.done lt e at
+  module _ (c : IsCarriedRun column (MethodRanks (NameRanks s) class) es ms) where
+    pub method_more : (old mid new : List ℕ) (i index last : ℕ) (e : MethodEntry) (number code : ℕ) → MethodsTo old mid i index last → i < length es → i < length codes → slice_get es i ≡ Some e → slice_get column (index + e.0) ≡ Some number → code ≡ get_or codes i 0
+        → Appends (SpellsMethodEntry (Shortest Spells)) mid new (number - last, (e.1.0, code)) → MethodsTo old new (i + 1) (index + e.0) number
+    method_more old mid new i index last e number code f lt few at n own a = record {
+      to = run_more c f.to lt e at number n new (e.1.0, code) (λ step v m. record { method = m.method; flags = m.flags }) a;
+      places = map-append (λ (y : MethodEntry). y.1.1) f.to.outs ((number - last, (e.1.0, code)) ∷ []) ∙ ap (λ (l : List ℕ). l ++ code ∷ []) f.places ∙ ap (λ (k : ℕ). take i codes ++ k ∷ []) own ∙ sym (take_more codes i 0 few);
+    }
 
-  method_number : (old out : List ℕ) (i index last : ℕ) (e : MethodEntry) (number : ℕ) (f : MethodsTo column s class es ms codes old out i index last) → i < length es → slice_get es i ≡ Some e → slice_get column (index + e.0) ≡ Some number
-      → (x : NextStep column (MethodRanks (NameRanks s) class) es ms i index) × (x.entry ≡ e) × (x.number ≡ number)
-  method_number old out i index last e number f lt at n =
-      let x = next_step column (MethodRanks (NameRanks s) class) es ms f.outs i index last c f.done lt in
-      let p : Some x.entry ≡ Some e = sym x.entry_at ∙ at in
-      let same : x.entry ≡ e = cc p in
-      let q : Some x.number ≡ Some number = sym (subst (λ (y : MethodEntry). slice_get column (index + y.0) ≡ Some x.number) same x.number_at) ∙ n in
-      (x, same, cc q)
-
-  pub method_low : (old out : List ℕ) (i index last : ℕ) (e : MethodEntry) (number : ℕ) → MethodsTo column s class es ms codes old out i index last → i < length es → slice_get es i ≡ Some e → slice_get column (index + e.0) ≡ Some number → last ≤ number
-  method_low old out i index last e number f lt at n =
-      let x = method_number old out i index last e number f lt at n in
-      let g = steps_more column (MethodRanks (NameRanks s) class) es ms f.outs i index last c f.done lt x.0 x.0.entry.1 (λ step m. record { method = m.method; flags = m.flags }) in
-      subst (λ (k : ℕ). last ≤ k) x.2 g.low
-
-  pub method_more : (old mid new : List ℕ) (i index last : ℕ) (e : MethodEntry) (number code : ℕ) → MethodsTo column s class es ms codes old mid i index last → i < length es → i < length codes → slice_get es i ≡ Some e → slice_get column (index + e.0) ≡ Some number → code ≡ get_or codes i 0
-      → Appends (SpellsMethodEntry (Shortest Spells)) mid new (number - last, (e.1.0, code)) → MethodsTo column s class es ms codes old new (i + 1) (index + e.0) number
-  method_more old mid new i index last e number code f lt few at n own a =
-      let x = method_number old mid i index last e number f lt at n in
-      let M = MethodRanks (NameRanks s) class in
-      let g = steps_more column M es ms f.outs i index last c f.done lt x.0 (x.0.entry.1.0, code) (λ step m. record { method = m.method; flags = m.flags }) in
-      let one : StepsTo column M es ms (f.outs ++ (x.0.number - last, (e.1.0, code)) ∷ []) (i + 1) (index + e.0) x.0.number =
-      subst (λ (y : MethodEntry). StepsTo column M es ms (f.outs ++ (x.0.number - last, (y.1.0, code)) ∷ []) (i + 1) (index + y.0) x.0.number) x.1 g.next in
-      record {
-        outs = f.outs ++ (number - last, (e.1.0, code)) ∷ [];
-        bytes = f.bytes ++ a.bytes;
-        whole = a.joined ∙ ap (λ (l : List ℕ). l ++ a.bytes) f.whole ∙ append_assoc old f.bytes a.bytes;
-        spelled = Each-push (SpellsMethodEntry (Shortest Spells)) f.bytes a.bytes f.outs (number - last, (e.1.0, code)) f.spelled a.spelled;
-        places = map-append (λ (y : MethodEntry). y.1.1) f.outs ((number - last, (e.1.0, code)) ∷ []) ∙ ap (λ (l : List ℕ). l ++ code ∷ []) f.places ∙ ap (λ (k : ℕ). take i codes ++ k ∷ []) own ∙ sym (take_more codes i 0 few);
-        done = subst (λ (k : ℕ). StepsTo column M es ms (f.outs ++ (k - last, (e.1.0, code)) ∷ []) (i + 1) (index + e.0) k) x.2 one;
-      }
-
-  pub methods_end : (old new : List ℕ) (i index last : ℕ) → length es ≤ i → length codes ≡ length es → MethodsTo column s class es ms codes old new i index last → AddsMethods (NameRanks s) class codes old new ms
-  methods_end old new i index last le m f =
-      let n = c.count in
-      record {
-        bytes = f.bytes;
-        entries = f.outs;
-        whole = f.whole;
-        spelled = f.spelled;
-        run = subst (λ (us : List Method). EntriesAre (MethodRanks (NameRanks s) class) f.outs us) (take_all i ms (omega (arith, n, le))) f.done.run;
-        places = f.places ∙ take_all i codes (omega (arith, m, le));
-      }
+    pub methods_end : (old new : List ℕ) (i index last : ℕ) → length es ≤ i → length codes ≡ length es → MethodsTo old new i index last → AddsMethods (NameRanks s) class codes old new ms
+    methods_end old new i index last le m f = record {
+      bytes = f.to.bytes;
+      entries = f.to.outs;
+      whole = f.to.whole;
+      spelled = f.to.spelled;
+      run = run_end c f.to le;
+      places = f.places ∙ take_all i codes (omega (arith, m, le));
+    }
 
 -- ---- the members of a class of the file
 
-moved : {A : Type 0} (P : Name → Type 0) (f : A → Name) (y x : A) → y ≡ x → P (f y) → P (f x)
-moved {A} P f y x e h = subst (λ (z : A). P (f z)) e h
-
-all_at : {A : Type 0} (P : Name → Type 0) (f : A → Name) (xs : List A) (i : ℕ) (x : A) → slice_get xs i ≡ Some x → AllByRecursion P (map f xs) → P (f x)
-all_at P f [] i x at all = absurd cc
-all_at P f (y ∷ xs) zero x at all = let e : y ≡ x = cc in moved P f y x e all.0
-all_at P f (y ∷ xs) (suc i) x at all = all_at P f xs i x at all.1
+all_of : {A : Type 0} (P : Name → Type 0) (f : A → Name) (xs : List A) (i : ℕ) (x : A) → slice_get xs i ≡ Some x → AllByRecursion P (map f xs) → P (f x)
+all_of P f xs i x at all = all_get P (map f xs) i (f x) all (slice_get-map f xs i ∙ ap (option_map f) at)
 
 flat_at : (P : Name → Type 0) (class : Descriptor) (ms : List Method) (i : ℕ) (m : Method) → slice_get ms i ≡ Some m → AllByRecursion P (flat_map (names_of_method class) ms) → P (method_of_class class m)
-flat_at P class [] i m at all = absurd cc
-flat_at P class (n ∷ ms) zero m at all = let e : n ≡ m = cc in subst (λ (x : Method). P (method_of_class class x)) e all.0
-flat_at P class (n ∷ ms) (suc i) m at all = flat_at P class ms i m at (all_back P (names_of_method class n) (flat_map (names_of_method class) ms) all)
+flat_at P class ms i m at all = subst (λ (x : Method). P (method_of_class class x)) (get_or_from_slice_get ms i m m at) (all-part P (names_of_method class) ms i m all (slice_get_within ms i m at)).0
 
 index_less : {R : Type 0} (es : List (ℕ × R)) (i : ℕ) → i + 1 < length es → 0 < get_or (steps es) (i + 1) 0 → index_of (steps es) i < index_of (steps es) (i + 1)
 index_less {R} es i lt some =
@@ -265,48 +177,39 @@ index_less {R} es i lt some =
     let b = before_next (steps es) (i + 1) (omega (arith, n, lt)) in
     omega (arith, b, some)
 
+-- a run of entries whose rows are kept
+carried_run : {R V : Type 0} (E M : ℕ → ℕ × R → V → Type 0) (n : ℕ) (column numbers : List ℕ) → IsColumn n column → Counts column numbers → (es : List (ℕ × R)) (vs : List V) → EntriesAre E es vs
+    → ((j row : ℕ) (e : ℕ × R) (v : V) → slice_get vs j ≡ Some v → E row e v → (row < n) × IsKept numbers row × ((number : ℕ) × (slice_get numbers row ≡ Some number) × M number e v)) → IsCarriedRun numbers M es vs
+carried_run E M n column numbers shape counts es vs run rows = record {
+  count = run.count;
+  each = λ j e v at_e at_v. (rows j (index_of (steps es) j) e v at_v (run.each j e v at_e at_v)).2;
+  rises = λ j lt.
+      let count = run.count in
+      let e = entry_at es j (omega (arith, lt)) in
+      let v = entry_at vs j (omega (arith, lt, count)) in
+      let f = entry_at es (j + 1) lt in
+      let w = entry_at vs (j + 1) (omega (arith, lt, count)) in
+      let inside = (rows (j + 1) (index_of (steps es) (j + 1)) f.0 w.0 w.1 (run.each (j + 1) f.0 w.0 f.1 w.1)).0 in
+      numbers_rise n column numbers shape counts (index_of (steps es) j) (index_of (steps es) (j + 1))
+      (index_less es j lt (run.rises (j + 1) (omega arith) lt)) (omega (arith, inside)) (rows j (index_of (steps es) j) e.0 v.0 v.1 (run.each j e.0 v.0 e.1 v.1)).1;
+}
+
 module _ (b : List ℕ) (numbers : Columns) (p : Program) (k : Keeps b numbers p) where
   fields_carried : (class : Descriptor) (es : List FieldEntry) (ms : List Member) → EntriesAre (IsField b class) es ms → AllByRecursion (Holds (needed p)) (map (field_of_class class) ms) → IsCarriedRun numbers.fields (FieldRanks (NameRanks (needed p)) class) es ms
-  fields_carried class es ms run all = record {
-    count = run.count;
-    each = λ j e m at_e at_m.
-        let r = carried b numbers p k (field_of_class class m) (all_at (Holds (needed p)) (field_of_class class) ms j m at_m all) (index_of (steps es) j) (run.each j e m at_e at_m).field in
-        (r.0, r.1, record { field = r.2; flags = (run.each j e m at_e at_m).flags });
-    rises = λ j lt.
-        let n = run.count in
-        let e = entry_at es j (omega (arith, lt)) in
-        let m = entry_at ms j (omega (arith, lt, n)) in
-        let e2 = entry_at es (j + 1) lt in
-        let m2 = entry_at ms (j + 1) (omega (arith, lt, n)) in
-        let st = (run.each j e.0 m.0 e.1 m.1).field in
-        let st2 = (run.each (j + 1) e2.0 m2.0 e2.1 m2.1).field in
-        let held = all_at (Holds (needed p)) (field_of_class class) ms j m.0 m.1 all in
-        let kept = ((kept_rows_are_held b k.marks (needed p) numbers k.tables k.marked k.numbered).0 (field_of_class class m.0) (index_of (steps es) j) st).1 held in
-        let row = st2.row in
-        numbers_rise (size_of b 3) k.marks.columns.fields numbers.fields k.marked.fields.shape k.numbered.fields (index_of (steps es) j) (index_of (steps es) (j + 1))
-        (index_less es j lt (run.rises (j + 1) (omega arith) lt)) (omega (arith, row)) kept;
-  }
+  fields_carried class es ms run all =
+      carried_run (IsField b class) (FieldRanks (NameRanks (needed p)) class) (size_of b 3) k.marks.columns.fields numbers.fields k.marked.fields.shape k.numbered.fields es ms run (λ j row e m at st.
+      let held = all_of (Holds (needed p)) (field_of_class class) ms j m at all in
+      let kept = ((kept_rows_are_held b k.marks (needed p) numbers k.tables k.marked k.numbered).0 (field_of_class class m) row st.field).1 held in
+      let r = carried b numbers p k (field_of_class class m) held row st.field in
+      (st.field.row, kept, (r.0, r.1, record { field = r.2; flags = st.flags })))
 
   methods_carried : (class : Descriptor) (es : List MethodEntry) (ms : List Method) → EntriesAre (IsMethod b class) es ms → AllByRecursion (Holds (needed p)) (flat_map (names_of_method class) ms) → IsCarriedRun numbers.methods (MethodRanks (NameRanks (needed p)) class) es ms
-  methods_carried class es ms run all = record {
-    count = run.count;
-    each = λ j e m at_e at_m.
-        let r = carried b numbers p k (method_of_class class m) (flat_at (Holds (needed p)) class ms j m at_m all) (index_of (steps es) j) (run.each j e m at_e at_m).method in
-        (r.0, r.1, record { method = r.2; flags = (run.each j e m at_e at_m).flags });
-    rises = λ j lt.
-        let n = run.count in
-        let e = entry_at es j (omega (arith, lt)) in
-        let m = entry_at ms j (omega (arith, lt, n)) in
-        let e2 = entry_at es (j + 1) lt in
-        let m2 = entry_at ms (j + 1) (omega (arith, lt, n)) in
-        let st = (run.each j e.0 m.0 e.1 m.1).method in
-        let st2 = (run.each (j + 1) e2.0 m2.0 e2.1 m2.1).method in
-        let held = flat_at (Holds (needed p)) class ms j m.0 m.1 all in
-        let kept = ((kept_rows_are_held b k.marks (needed p) numbers k.tables k.marked k.numbered).0 (method_of_class class m.0) (index_of (steps es) j) st).1 held in
-        let row = st2.row in
-        numbers_rise (size_of b 4) k.marks.columns.methods numbers.methods k.marked.methods.shape k.numbered.methods (index_of (steps es) j) (index_of (steps es) (j + 1))
-        (index_less es j lt (run.rises (j + 1) (omega arith) lt)) (omega (arith, row)) kept;
-  }
+  methods_carried class es ms run all =
+      carried_run (IsMethod b class) (MethodRanks (NameRanks (needed p)) class) (size_of b 4) k.marks.columns.methods numbers.methods k.marked.methods.shape k.numbered.methods es ms run (λ j row e m at st.
+      let held = flat_at (Holds (needed p)) class ms j m at all in
+      let kept = ((kept_rows_are_held b k.marks (needed p) numbers k.tables k.marked k.numbered).0 (method_of_class class m) row st.method).1 held in
+      let r = carried b numbers p k (method_of_class class m) held row st.method in
+      (st.method.row, kept, (r.0, r.1, record { method = r.2; flags = st.flags })))
 
   pub members_carried : (i : ℕ) (c : Class) (e : Entries) → slice_get p i ≡ Some c → MembersAre b e c → AreCarriedMembers numbers (needed p) e c
   members_carried i c e at m =

@@ -1,24 +1,21 @@
 -- The class data of classes, one by one.
-use Rattle.std.proofs.Common.{◌≡◌, ℕ, zero, suc, ◌+◌, ◌^◌, ◌<◌, ◌≤◌, Bool, true, false, List, [], ◌∷◌, ◌++◌, length, take, drop, get_or, refl, sym, ap, subst, ◌∙◌, arith, slice_get, Some, append_assoc, length-append, length-drop}
+use Rattle.std.proofs.Common.{◌≡◌, ℕ, suc, ◌+◌, ◌^◌, ◌<◌, ◌≤◌, Bool, true, false, List, [], ◌∷◌, ◌++◌, length, take, drop, get_or, refl, sym, ap, subst, ◌∙◌, arith, slice_get, Some, length-append}
 use Rattle.std.specs.Prelude.{MatchBool}
-use Rattle.std.specs.List.{flat_map}
 use Rattle.std.proofs.lemmas.List.{take_more, take_all, drop_more, drop_all}
-use Rattle.dex_base.specs.Grammar.{Appends}
-use Rattle.dex_base.specs.Leb128.{Spells, Shortest}
-use Rattle.file_classes.specs.ClassData.{Entries, EntriesAt, SpellsCounts}
+use Rattle.file_classes.specs.ClassData.{Entries, EntriesAt}
 use Rattle.file_classes.specs.Classes.{MembersAre}
 use Rattle.file_classes.specs.ClassRows.{class_word}
 use Rattle.file_classes.proofs.EntryLaws.{entries_one}
 use Rattle.file_layout.specs.Sections.{Adds, AddsSome, Laid, Laying, wide_all}
-use Rattle.file_layout.proofs.SectionLaws.{adds_some, gap_one, unpadded, length-padded, Laying-start}
+use Rattle.file_layout.proofs.SectionLaws.{gap_one, length-padded, Laying-start}
 use Rattle.file_layout.specs.Tiles.{gap, zeros}
-use Rattle.file_limits.specs.Wide.{bodies_of, body_values, wide_data}
-use Rattle.file_assemble.specs.Data.{PacksData, ClassWithCodes, code_offs, has_no_members, method_count, with_code_places, wide_with_codes}
-use Rattle.file_assemble.specs.Growing.{AddsFields, AddsMethods}
+use Rattle.file_limits.specs.Wide.{body_values, wide_data}
+use Rattle.file_assemble.specs.Data.{PacksData, ClassWithCodes, has_no_members, method_count, with_code_places, wide_with_codes}
 use Rattle.file_assemble.specs.Placing.{items_with}
-use Rattle.file_assemble.proofs.DataLengths.{data_length, some_members}
+use Rattle.file_assemble.proofs.DataLengths.{data_length}
 use Rattle.file_assemble.proofs.LayingLaws.{one_more}
-use Rattle.file_assemble.proofs.SitedLaws.{length-sited, room_of_sited, count_of_bodies, rest_after}
+use Rattle.file_assemble.proofs.SitedLaws.{length-sited, room_of_sited, rest_after}
+use Rattle.file_assemble.proofs.SitedSteps.{sited_at, rest_next, rest_enough}
 use Rattle.program_types.specs.Content.{Class, Program}
 use Rattle.tables_names.specs.Closure.{Five, NameRanks}
 use Rattle.tables_names.specs.Needed.{needed}
@@ -35,89 +32,7 @@ ClassDataIsLaid p codes old out n rest places items =
     Laying has_no_members (PacksData (NameRanks (needed p))) 1 wide_with_codes old out (take n (with_code_places p codes)) (drop n (with_code_places p codes)) (with_code_places p codes) places items
     × (rest ≡ rest_after p codes n)
 
--- ---- one class
-
--- four counts, then the four lists
-pub members_append : (s : Five) (c : Class) (a b d v : ℕ) (codes first last old m0 m1 m2 m3 new : List ℕ) → a ≡ length c.statics → b ≡ length c.instances → d ≡ length c.directs → v ≡ length c.virtuals → codes ≡ first ++ last
-    → Appends (SpellsCounts (Shortest Spells)) old m0 (a, (b, (d, v)))
-    → AddsFields (NameRanks s) c.ty m0 m1 c.statics → AddsFields (NameRanks s) c.ty m1 m2 c.instances → AddsMethods (NameRanks s) c.ty first m2 m3 c.directs → AddsMethods (NameRanks s) c.ty last m3 new c.virtuals
-    → Appends (PacksData (NameRanks s)) old new (record { class = c; codes = codes })
-members_append s c n1 n2 n3 n4 codes first last old m0 m1 m2 m3 new f1 f2 f3 f4 whole n a b d v =
-    let e1 : length a.entries ≡ n1 = sym (f1 ∙ a.run.count) in
-    let e2 : length b.entries ≡ n2 = sym (f2 ∙ b.run.count) in
-    let e3 : length d.entries ≡ n3 = sym (f3 ∙ d.run.count) in
-    let e4 : length v.entries ≡ n4 = sym (f4 ∙ v.run.count) in
-    let counted : SpellsCounts (Shortest Spells) n.bytes (length a.entries, (length b.entries, (length d.entries, length v.entries))) = rw (e1, e2, e3, e4) n.spelled in
-    record {
-      bytes = n.bytes ++ (a.bytes ++ (b.bytes ++ (d.bytes ++ v.bytes)));
-      joined = rw (v.whole, d.whole, b.whole, a.whole, n.joined) (simp append_assoc);
-      spelled = record {
-        entries = record { statics = a.entries; instances = b.entries; directs = d.entries; virtuals = v.entries };
-        spelled = record {
-          front = n.bytes;
-          back = a.bytes ++ (b.bytes ++ (d.bytes ++ v.bytes));
-          joined = refl;
-          first = counted;
-          second = record {
-            front = a.bytes;
-            back = b.bytes ++ (d.bytes ++ v.bytes);
-            joined = refl;
-            first = (refl, a.spelled);
-            second = record {
-              front = b.bytes;
-              back = d.bytes ++ v.bytes;
-              joined = refl;
-              first = (refl, b.spelled);
-              second = record { front = d.bytes; back = v.bytes; joined = refl; first = (refl, d.spelled); second = (refl, v.spelled) };
-            };
-          };
-        };
-        members = record { statics = a.run; instances = b.run; directs = d.run; virtuals = v.run };
-        codes = ap (λ (l : List ℕ). l ++ code_offs v.entries) d.places ∙ ap (λ (l : List ℕ). first ++ l) v.places ∙ sym whole;
-      };
-    }
-
-pub data_adds : (s : Five) (old new : List ℕ) (c : Class) (codes : List ℕ) (place : ℕ) → 0 < length c.statics + length c.instances + (length c.directs + length c.virtuals) → place ≡ length old
-    → Appends (PacksData (NameRanks s)) old new (record { class = c; codes = codes }) → AddsSome has_no_members (PacksData (NameRanks s)) 1 old new (record { class = c; codes = codes }) place
-data_adds s old new c codes place some p a =
-    let g = gap_one (length old) in
-    adds_some has_no_members (PacksData (NameRanks s)) 1 old new (record { class = c; codes = codes }) place (some_members c.statics c.instances c.directs c.virtuals some)
-    (record { there = omega (arith, p, g); bytes = a.bytes; whole = a.joined ∙ ap (λ (l : List ℕ). l ++ a.bytes) (sym (unpadded old)); some = (data_length s a.bytes (record { class = c; codes = codes }) a.spelled).0; spelled = a.spelled })
-
--- the counts of the lists are those of the members
-pub record Counted (e : Entries) (c : Class) : Type 0 where
-  pub statics : length e.statics ≡ length c.statics
-  pub instances : length e.instances ≡ length c.instances
-  pub directs : length e.directs ≡ length c.directs
-  pub virtuals : length e.virtuals ≡ length c.virtuals
-
-pub counted : (numbers : Columns) (s : Five) (e : Entries) (c : Class) → AreCarriedMembers numbers s e c → Counted e c
-counted numbers s e c m = record { statics = sym m.statics.count; instances = sym m.instances.count; directs = sym m.directs.count; virtuals = sym m.virtuals.count }
-
 -- ---- class by class
-
-sited_at : (p : Program) (codes : List ℕ) (i : ℕ) (c : Class) (n : ClassWithCodes) → slice_get p i ≡ Some c → get_or (with_code_places p codes) i n ≡ record { class = c; codes = take (method_count c) (rest_after p codes i) }
-sited_at [] codes i c n at = absurd cc
-sited_at (d ∷ p) codes zero c n at = let e : d ≡ c = cc in ap (λ (x : Class). record { class = x; codes = take (method_count x) codes }) e
-sited_at (d ∷ p) codes (suc i) c n at = sited_at p (drop (method_count d) codes) i c n at
-
-rest_next : (p : Program) (codes : List ℕ) (i : ℕ) (c : Class) → slice_get p i ≡ Some c → rest_after p codes (suc i) ≡ drop (method_count c) (rest_after p codes i)
-rest_next [] codes i c at = absurd cc
-rest_next (d ∷ p) codes zero c at = let e : d ≡ c = cc in ap (λ (x : Class). drop (method_count x) codes) e
-rest_next (d ∷ p) codes (suc i) c at = rest_next p (drop (method_count d) codes) i c at
-
-rest_enough : (p : Program) (codes : List ℕ) (i : ℕ) (c : Class) → slice_get p i ≡ Some c → length codes ≡ length (body_values p) → method_count c ≤ length (rest_after p codes i)
-rest_enough [] codes i c at e = absurd cc
-rest_enough (d ∷ p) codes zero c at e =
-    let same : d ≡ c = cc in
-    let a = length-append (bodies_of d) (flat_map bodies_of p) in
-    let b = count_of_bodies d in
-    subst (λ (x : Class). method_count x ≤ length codes) same (omega (arith, e, a, b))
-rest_enough (d ∷ p) codes (suc i) c at e =
-    let a = length-append (bodies_of d) (flat_map bodies_of p) in
-    let b = count_of_bodies d in
-    let n = length-drop (method_count d) codes in
-    rest_enough p (drop (method_count d) codes) i c at (omega (arith, e, a, b, n))
 
 pub sited_start : (p : Program) (old codes : List ℕ) → ClassDataIsLaid p codes old old 0 codes [] 0
 sited_start p old codes = (Laying-start has_no_members (PacksData (NameRanks (needed p))) 1 wide_with_codes old (with_code_places p codes), refl)

@@ -2,7 +2,7 @@
 use Rattle.std.proofs.Common.{◌≡◌, ℕ, ◌+◌, ◌-◌, ◌*◌, ◌<◌, List, [], ◌∷◌, ◌++◌, length, take, get_or, refl, sym, ap, subst, ◌∙◌, arith, slice_get, Some, inl, length-append}
 use Rattle.std.proofs.lemmas.List.{take_more, take_all}
 use Rattle.std.proofs.lemmas.List.Sums.{sum_by-cons}
-use Rattle.std.proofs.lemmas.Option.{slice_get_within, slice_get-get_or}
+use Rattle.std.proofs.lemmas.Option.{slice_get_within, get_or_from_slice_get}
 use Rattle.dex_base.specs.Grammar.{Each, Ended, Many}
 use Rattle.dex_base.specs.Mutf8.{SpellsUnit, mutf8_length, unit_bytes}
 use Rattle.dex_container.specs.Layout.{size_of}
@@ -64,15 +64,12 @@ module _ (W : Key → ℕ) (n : ℕ) (column numbers : List ℕ) (shape : IsColu
   sum_kept i sum more new k lt kept at add m s =
       let j = get_or numbers i 0 in
       let within = slice_get_within table j k at in
-      let own : get_or table j [] ≡ k = key_at table j k at in
+      let own : get_or table j [] ≡ k = get_or_from_slice_get table j k [] at in
       let one : take (j + 1) table ≡ take j table ++ k ∷ [] = take_more table j [] within ∙ ap (λ (x : Key). take j table ++ x ∷ []) own in
       let a = wide_all_append W (take j table) (k ∷ []) in
       let both : wide_all W (take j table) + W k ≡ wide_all W (take (j + 1) table) = sym (ap (wide_all W) one ∙ omega (arith, a)) in
       subst (λ (x : ℕ). IsSum new (wide_all W (take x table))) (sym (next_kept n column numbers shape counts i lt kept))
       (subst (IsSum new) both (add _ _ s m))
-    where
-      key_at : (ks : List Key) (x : ℕ) (q : Key) → slice_get ks x ≡ Some q → get_or ks x [] ≡ q
-      key_at ks x q there = let e : Some (get_or ks x []) ≡ Some q = sym (slice_get-get_or ks x [] (slice_get_within ks x q there)) ∙ there in cc e
 
   pub sum_end : (i sum : ℕ) → i ≡ n → get_or numbers n 0 ≡ length table → IsFirstSum W numbers table i sum → IsSum sum (wide_all W table)
   sum_end i sum is total s =
@@ -82,11 +79,8 @@ module _ (W : Key → ℕ) (n : ℕ) (column numbers : List ℕ) (shape : IsColu
 -- ---- strings and prototypes
 
 module _ (b : List ℕ) (numbers : Columns) (p : Program) (k : Keeps b numbers p) where
-  pub strings_start : IsFirstSum wide_string numbers.strings (needed p).strings 0 0
-  strings_start = sum_start wide_string (size_of b 0) k.marks.columns.strings numbers.strings k.marked.strings.shape k.numbered.strings (needed p).strings
-
-  pub string_not_kept : (i sum : ℕ) → i < size_of b 0 → ¬ IsKept numbers.strings i → IsFirstSum wide_string numbers.strings (needed p).strings i sum → IsFirstSum wide_string numbers.strings (needed p).strings (i + 1) sum
-  string_not_kept i sum lt not s = sum_not_kept wide_string (size_of b 0) k.marks.columns.strings numbers.strings k.marked.strings.shape k.numbered.strings (needed p).strings i sum lt not s
+  pub totals : HaveLengths b numbers (needed p)
+  totals = totals_are_lengths b k.marks (needed p) numbers k.tables k.marked k.numbered
 
   pub string_kept : (i sum size more new : ℕ) → i < size_of b 0 → IsKept numbers.strings i → ((t : Units) → StringStands b i t → IsSum size (wide_text t)) → Adds 4 size more → Adds sum more new
       → IsFirstSum wide_string numbers.strings (needed p).strings i sum → IsFirstSum wide_string numbers.strings (needed p).strings (i + 1) new
@@ -99,17 +93,6 @@ module _ (b : List ℕ) (numbers : Columns) (p : Program) (k : Keeps b numbers p
       let one : IsSum more (wide_string (text_key t)) = subst (IsSum more) (omega arith) (row 4 _ (inl refl) (wide t st.stands)) in
       sum_kept wide_string (size_of b 0) k.marks.columns.strings numbers.strings k.marked.strings.shape k.numbered.strings (needed p).strings i sum more new (text_key t) lt kept at add one s
 
-  pub strings_end : (i sum : ℕ) → i ≡ size_of b 0 → IsFirstSum wide_string numbers.strings (needed p).strings i sum → IsSum sum (wide_all wide_string (needed p).strings)
-  strings_end i sum is s =
-      let total = (totals_are_lengths b k.marks (needed p) numbers k.tables k.marked k.numbered).strings in
-      sum_end wide_string (size_of b 0) k.marks.columns.strings numbers.strings k.marked.strings.shape k.numbered.strings (needed p).strings i sum is total s
-
-  pub protos_start : IsFirstSum wide_proto numbers.protos (needed p).protos 0 0
-  protos_start = sum_start wide_proto (size_of b 2) k.marks.columns.protos numbers.protos k.marked.protos.shape k.numbered.protos (needed p).protos
-
-  pub proto_not_kept : (i sum : ℕ) → i < size_of b 2 → ¬ IsKept numbers.protos i → IsFirstSum wide_proto numbers.protos (needed p).protos i sum → IsFirstSum wide_proto numbers.protos (needed p).protos (i + 1) sum
-  proto_not_kept i sum lt not s = sum_not_kept wide_proto (size_of b 2) k.marks.columns.protos numbers.protos k.marked.protos.shape k.numbered.protos (needed p).protos i sum lt not s
-
   pub proto_kept : (i sum size more new : ℕ) → i < size_of b 2 → IsKept numbers.protos i → ((ts : List Units) → TypesAt b (proto_parameters b i) ts → IsSum size (wide_list ts)) → Adds 12 size more → Adds sum more new
       → IsFirstSum wide_proto numbers.protos (needed p).protos i sum → IsFirstSum wide_proto numbers.protos (needed p).protos (i + 1) new
   proto_kept i sum size more new lt kept wide row add s =
@@ -121,33 +104,10 @@ module _ (b : List ℕ) (numbers : Columns) (p : Program) (k : Keeps b numbers p
       let one : IsSum more (wide_proto (proto_key q)) = row 12 _ (inl refl) (wide q.params st.stands.params) in
       sum_kept wide_proto (size_of b 2) k.marks.columns.protos numbers.protos k.marked.protos.shape k.numbered.protos (needed p).protos i sum more new (proto_key q) lt kept at add one s
 
-  pub protos_end : (i sum : ℕ) → i ≡ size_of b 2 → IsFirstSum wide_proto numbers.protos (needed p).protos i sum → IsSum sum (wide_all wide_proto (needed p).protos)
-  protos_end i sum is s =
-      let total = (totals_are_lengths b k.marks (needed p) numbers k.tables k.marked k.numbered).protos in
-      sum_end wide_proto (size_of b 2) k.marks.columns.protos numbers.protos k.marked.protos.shape k.numbered.protos (needed p).protos i sum is total s
-
 -- ---- how many rows of a table are kept
 
-count_is : (n : ℕ) (numbers : List ℕ) (count total : ℕ) → length numbers ≡ n + 1 → get_or numbers n 0 ≡ total → slice_get numbers (length numbers - 1) ≡ Some count → count ≡ total
-count_is n numbers count total long is at =
+pub count_is : {n : ℕ} {column numbers : List ℕ} {count total : ℕ} → IsColumn n column → Counts column numbers → get_or numbers n 0 ≡ total → slice_get numbers (length numbers - 1) ≡ Some count → count ≡ total
+count_is {n} {column} {numbers} {count} {total} shape counts is at =
+    let long = numbers_long n column numbers shape counts in
     let last : length numbers - 1 ≡ n = omega (arith, long) in
     sym (number_is numbers (length numbers - 1) count at) ∙ ap (λ (i : ℕ). get_or numbers i 0) last ∙ is
-
-module _ (b : List ℕ) (numbers : Columns) (p : Program) (k : Keeps b numbers p) where
-  totals : HaveLengths b numbers (needed p)
-  totals = totals_are_lengths b k.marks (needed p) numbers k.tables k.marked k.numbered
-
-  pub strings_count : (count : ℕ) → slice_get numbers.strings (length numbers.strings - 1) ≡ Some count → count ≡ length (needed p).strings
-  strings_count count at = count_is (size_of b 0) numbers.strings count (length (needed p).strings) (numbers_long (size_of b 0) k.marks.columns.strings numbers.strings k.marked.strings.shape k.numbered.strings) totals.strings at
-
-  pub protos_count : (count : ℕ) → slice_get numbers.protos (length numbers.protos - 1) ≡ Some count → count ≡ length (needed p).protos
-  protos_count count at = count_is (size_of b 2) numbers.protos count (length (needed p).protos) (numbers_long (size_of b 2) k.marks.columns.protos numbers.protos k.marked.protos.shape k.numbered.protos) totals.protos at
-
-  pub types_count : (count : ℕ) → slice_get numbers.types (length numbers.types - 1) ≡ Some count → count ≡ length (needed p).types
-  types_count count at = count_is (size_of b 1) numbers.types count (length (needed p).types) (numbers_long (size_of b 1) k.marks.columns.types numbers.types k.marked.types.shape k.numbered.types) totals.types at
-
-  pub fields_count : (count : ℕ) → slice_get numbers.fields (length numbers.fields - 1) ≡ Some count → count ≡ length (needed p).fields
-  fields_count count at = count_is (size_of b 3) numbers.fields count (length (needed p).fields) (numbers_long (size_of b 3) k.marks.columns.fields numbers.fields k.marked.fields.shape k.numbered.fields) totals.fields at
-
-  pub methods_count : (count : ℕ) → slice_get numbers.methods (length numbers.methods - 1) ≡ Some count → count ≡ length (needed p).methods
-  methods_count count at = count_is (size_of b 4) numbers.methods count (length (needed p).methods) (numbers_long (size_of b 4) k.marks.columns.methods numbers.methods k.marked.methods.shape k.numbered.methods) totals.methods at

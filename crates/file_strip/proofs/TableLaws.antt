@@ -1,7 +1,7 @@
 -- The rows of the tables of names, row by row.
 use Rattle.std.proofs.Common.{◌≡◌, ℕ, ◌+◌, ◌^◌, ◌<◌, ◌≤◌, List, [], ◌∷◌, ◌++◌, length, take, get_or, refl, sym, ap, subst, ◌∙◌, arith, slice_get, Some, append_assoc, append-nil}
 use Rattle.std.proofs.lemmas.List.{take_more, take_all, map-append}
-use Rattle.std.proofs.lemmas.Option.{slice_get_within, slice_get-get_or}
+use Rattle.std.proofs.lemmas.Option.{slice_get_within, get_or_from_slice_get}
 use Rattle.dex_base.specs.Fields.{u16_bytes, u32_bytes}
 use Rattle.dex_base.specs.Grammar.{Appends}
 use Rattle.dex_base.specs.Words.{words_bytes}
@@ -24,6 +24,7 @@ use Rattle.tables_rows.specs.Stands.{StringStands, TypeStands, ProtoStands}
 use Rattle.tables_rows.specs.RowFields.{type_string, proto_shorty, proto_return, member_class, member_kind, member_name}
 use Rattle.file_strip.specs.Keeping.{Keeps}
 use Rattle.file_strip.specs.Tables.{AreFirstProtos, AreFirstRows}
+use Rattle.dex_base.proofs.ListFacts.{some_one}
 use Rattle.file_strip.proofs.KeepLaws.{number_is, next_kept, next_not_kept, first_number, carried}
 
 -- ---- one table
@@ -54,13 +55,10 @@ module _ {V : Type 0} (key : V → Key) (G : List ℕ → V → Type 0) where
     row_kept old mid new bytes i v lt kept at whole g a =
         let m = get_or numbers i 0 in
         let within = slice_get_within table m (key v) at in
-        let own : get_or table m [] ≡ key v = key_at table m (key v) at in
+        let own : get_or table m [] ≡ key v = get_or_from_slice_get table m (key v) [] at in
         let more : take m table ++ key v ∷ [] ≡ take (m + 1) table = ap (λ (k : Key). take m table ++ k ∷ []) (sym own) ∙ sym (take_more table m [] within) in
         subst (λ (j : ℕ). Appends (SpellsTable key G) old new (take j table)) (sym (next_kept n column numbers shape counts i lt kept))
         (subst (λ (ks : List Key). Appends (SpellsTable key G) old new ks) more (row_more old mid new bytes v (take m table) a whole g))
-      where
-        key_at : (ks : List Key) (j : ℕ) (k : Key) → slice_get ks j ≡ Some k → get_or ks j [] ≡ k
-        key_at ks j k at = let e : Some (get_or ks j []) ≡ Some k = sym (slice_get-get_or ks j [] (slice_get_within ks j k at)) ∙ at in cc e
 
     pub rows_end : (old new : List ℕ) (i : ℕ) → i ≡ n → get_or numbers n 0 ≡ length table → AreFirstRows key G numbers table old i new → Appends (SpellsTable key G) old new table
     rows_end old new i is total a =
@@ -83,7 +81,7 @@ module _ (s : Five) (places : List ℕ) (n : ℕ) (column numbers : List ℕ) (s
   proto_kept old mid new bytes i q lt kept at whole g a =
       let m = get_or numbers i 0 in
       let within = slice_get_within s.protos m (proto_key q) at in
-      let own : get_or s.protos m [] ≡ proto_key q = key_at s.protos m (proto_key q) at in
+      let own : get_or s.protos m [] ≡ proto_key q = get_or_from_slice_get s.protos m (proto_key q) [] at in
       let place = get_or places m 0 in
       let keys_more : take m s.protos ++ proto_key q ∷ [] ≡ take (m + 1) s.protos = ap (λ (k : Key). take m s.protos ++ k ∷ []) (sym own) ∙ sym (take_more s.protos m [] within) in
       let places_more : take m places ++ place ∷ [] ≡ take (m + 1) places = sym (take_more places m 0 (omega (arith, long, within))) in
@@ -99,9 +97,6 @@ module _ (s : Five) (places : List ℕ) (n : ℕ) (column numbers : List ℕ) (s
         };
       } in
       subst (λ (j : ℕ). Appends (SpellsProtos s (take j places)) old new (take j s.protos)) (sym (next_kept n column numbers shape counts i lt kept)) one
-    where
-      key_at : (ks : List Key) (j : ℕ) (k : Key) → slice_get ks j ≡ Some k → get_or ks j [] ≡ k
-      key_at ks j k at = let e : Some (get_or ks j []) ≡ Some k = sym (slice_get-get_or ks j [] (slice_get_within ks j k at)) ∙ at in cc e
 
   pub protos_end : (old new : List ℕ) (i : ℕ) → i ≡ n → get_or numbers n 0 ≡ length s.protos → AreFirstProtos s numbers places old i new → Appends (SpellsProtos s places) old new s.protos
   protos_end old new i is total a =
@@ -148,9 +143,7 @@ ranked_within numbers table index k r = slice_get_within numbers index r.number 
 
 pub ranked_is : (numbers : List ℕ) (table : List Key) (index found : ℕ) (k : Key) → Ranked numbers table index k → slice_get numbers index ≡ Some found → IsAt table found k
 ranked_is numbers table index found k r there =
-    let e : Some r.number ≡ Some found = sym r.there ∙ there in
-    let same : r.number ≡ found = cc e in
-    subst (λ (n : ℕ). IsAt table n k) same r.at
+    subst (λ (n : ℕ). IsAt table n k) (some_one (slice_get numbers index) r.number found r.there there) r.at
 
 first_place : (table : List Key) (row : List ℕ) (t : Units) (ts : List Units) → AreIndices table row (t ∷ ts) → HasRank table (text_key t)
 first_place table [] t ts a = absurd a

@@ -3,8 +3,8 @@ use Rattle.std.proofs.Common.{◌≡◌, ℕ, zero, suc, ◌+◌, ◌-◌, ◌<�
 use Rattle.std.specs.Prelude.{◌==◌}
 use Rattle.std.specs.List.{AllByRecursion}
 use Rattle.std.proofs.lemmas.Bool.{cases_lt, eqb-true}
-use Rattle.std.proofs.lemmas.List.{take_more, take_all, drop_more, drop_all, take_at, length-map, take-take, take-append-drop}
-use Rattle.std.proofs.lemmas.Option.{slice_get_within, slice_get-get_or, slice_get-map}
+use Rattle.std.proofs.lemmas.List.{take_more, take_all, drop_more, drop_all, take_at, length-map, take-take, take-append-drop, get_or_append_left}
+use Rattle.std.proofs.lemmas.Option.{slice_get_within, get_or_from_slice_get, slice_get-map}
 use Rattle.memchr.specs.Find.{IsFirstByte, is_byte}
 use Rattle.dex_base.specs.Grammar.{Appends, Takes, Each, Ended, Many, Counted, Begins, NoneBegins}
 use Rattle.dex_base.specs.Leb128.{Spells, Shortest}
@@ -32,6 +32,7 @@ use Rattle.tables_rows.specs.Stands.{StringStands}
 use Rattle.file_strip.specs.Keeping.{Keeps}
 use Rattle.file_strip.specs.Texts.{AreFirstTexts}
 use Rattle.file_strip.proofs.KeepLaws.{number_is, numbers_long, next_kept, next_not_kept, first_number, carried}
+use Rattle.code_put.proofs.ListLaws.{all-at}
 use Rattle.dex_base.proofs.ListFacts.{all_append}
 
 -- ---- no unit has a zero byte
@@ -55,9 +56,7 @@ all_positive bytes (t ∷ ts) e =
     (all_append (λ x. 0 < x) e.0 e.1 (subst (AllByRecursion (λ x. 0 < x)) (sym e.3.1) (positive t)) (all_positive e.1 ts e.4))
 
 positive_at : (xs ys : List ℕ) (i : ℕ) → AllByRecursion (λ x. 0 < x) xs → i < length xs → 0 < get_or (xs ++ ys) i 0
-positive_at [] ys i all lt = absurd (omega (arith, lt))
-positive_at (x ∷ xs) ys zero all lt = all.0
-positive_at (x ∷ xs) ys (suc i) all lt = positive_at xs ys i all.1 (omega (arith, lt))
+positive_at xs ys i all lt = subst (λ (n : ℕ). 0 < n) (sym (get_or_append_left xs ys 0 i lt)) (all-at (λ x. 0 < x) xs i 0 all lt)
 
 at_end : (xs ys : List ℕ) → get_or (xs ++ 0 ∷ ys) (length xs) 0 ≡ 0
 at_end [] ys = refl
@@ -166,7 +165,7 @@ module _ (b : List ℕ) (numbers : Columns) (p : Program) (k : Keeps b numbers p
       let is : get_or numbers.strings i 0 ≡ rank.0 = number_is numbers.strings i rank.0 rank.1 in
       let at : slice_get vs rank.0 ≡ Some t = slice_get-map first_of s.strings rank.0 ∙ ap (option_map first_of) rank.2 in
       let within = slice_get_within vs rank.0 t at in
-      let own : get_or vs rank.0 [] ≡ t = value_at vs rank.0 t at in
+      let own : get_or vs rank.0 [] ≡ t = get_or_from_slice_get vs rank.0 t [] at in
       let before : Laying never PacksText 1 wide_text old out (take rank.0 vs) (drop rank.0 vs) vs places rank.0 = subst (λ (n : ℕ). Laying never PacksText 1 wide_text old out (take n vs) (drop n vs) vs places n) is l in
       let due : drop rank.0 vs ≡ t ∷ drop (rank.0 + 1) vs = drop_more vs rank.0 [] within ∙ ap (λ (v : Units). v ∷ drop (rank.0 + 1) vs) own in
       let g = gap_one (length out) in
@@ -187,9 +186,6 @@ module _ (b : List ℕ) (numbers : Columns) (p : Program) (k : Keeps b numbers p
       subst (λ (ps : List ℕ). AreFirstTexts numbers p old new (i + 1) ps) (sym m)
       (subst (λ (n : ℕ). Laying never PacksText 1 wide_text old new (take n vs) (drop n vs) vs (places ++ place ∷ []) n) next
       (subst (λ (xs : List Units). Laying never PacksText 1 wide_text old new xs (drop (rank.0 + 1) vs) vs (places ++ place ∷ []) (rank.0 + 1)) done after))
-    where
-      value_at : (vs : List Units) (i : ℕ) (v : Units) → slice_get vs i ≡ Some v → get_or vs i [] ≡ v
-      value_at vs i v at = let e : Some (get_or vs i []) ≡ Some v = sym (slice_get-get_or vs i [] (slice_get_within vs i v at)) ∙ at in cc e
 
   pub texts_count : get_or numbers.strings (size_of b 0) 0 ≡ length (text_values (needed p))
   texts_count = (totals_are_lengths b k.marks (needed p) numbers k.tables k.marked k.numbered).strings ∙ sym (length-map (needed p).strings first_of)

@@ -21,8 +21,8 @@ use Rattle.program_types.specs.KeyLaws.{ordering_then-equal}
 use Rattle.program_rules.specs.WellFormed.{WellFormed}
 use Rattle.file_assemble.specs.Lists.{SpellsRanks}
 use Rattle.tables_rows.specs.RowFields.{member_class, member_indices, member_kind, member_name, proto_parameters, proto_return, type_string}
-use Rattle.tables_rows.specs.Sorted.{ProtoIsBelow, StringIsBelow, TablesHold, TypeIsBelow}
-use Rattle.tables_rows.specs.Stands.{NameStands, ProtoStands, SpellsIndexes}
+use Rattle.tables_rows.specs.Sorted.{MemberIsBelow, ProtoIsBelow, RowHolds, RowsHold, StringIsBelow, TablesHold, TypeIsBelow}
+use Rattle.tables_rows.specs.Stands.{FieldStands, MethodStands, NameStands, ProtoStands, SpellsIndexes, StringStands, TypeStands}
 use Rattle.tables_rows.proofs.NameLaws.{field_one, method_one, proto_one}
 use Rattle.tables_rows.proofs.RowReading.{string_one}
 use Rattle.tables_rows.proofs.TypeLists.{protos_below, type_one}
@@ -113,35 +113,22 @@ module _ (b : List ℕ) (s : Five) (p : Program) (a : Assembled b s p) (valid : 
       let y = proto_indices i r er in
       protos_below b is_framed_here j i x.0 y.0 x.1 y.1 (rise.protos j i q r (proto_return b j ∷ x.0) (proto_return b i ∷ y.0) lt eq er x.2 y.2)
 
+  -- a table whose rows denote names in this order
+  rows_hold : {V : Type 0} (key : V → Key) (keys : List Key) (Stands : List ℕ → ℕ → V → Type 0) (Below : List ℕ → ℕ → ℕ → Type 0) (n : ℕ) → ((i : ℕ) → i < n → (v : V) × IsAt keys i (key v))
+      → ((i : ℕ) (v : V) → IsAt keys i (key v) → Stands b i v) → ((j i : ℕ) (u v : V) → j < i → IsAt keys j (key u) → IsAt keys i (key v) → Below b j i) → RowsHold (RowHolds Stands Below) b n
+  rows_hold key keys Stands Below n name stands below i h =
+      let x = name i h in
+      record { name = x.0; stands = stands i x.0 x.1; rises = λ j e. let y = name j (omega (arith, e, h)) in below j i y.0 x.0 (omega (arith, e)) y.1 x.1 }
+
   pub hold : TablesHold b
   hold = record {
-    strings = λ i h. let x = string_at i h in record {
-      name = x.0;
-      stands = string_stands b s p a valid i x.0 x.1;
-      rises = λ j e. let y = string_at j (omega (arith, e, h)) in strings_below j i y.0 x.0 (omega (arith, e)) y.1 x.1;
-    };
-    types = λ i h. let x = type_at i h in record {
-      name = x.0;
-      stands = type_stands b s p a valid i x.0 x.1;
-      rises = λ j e. let y = type_at j (omega (arith, e, h)) in types_below j i y.0 x.0 (omega (arith, e)) y.1 x.1;
-    };
-    protos = λ i h. let x = proto_at i h in record {
-      name = x.0;
-      stands = proto_stands b s p a valid i x.0 x.1;
-      rises = λ j e. let y = proto_at j (omega (arith, e, h)) in protos_are_below j i y.0 x.0 (omega (arith, e)) y.1 x.1;
-    };
-    fields = λ i h. let x = field_at i h in record {
-      name = x.0;
-      stands = field_stands b s p a valid i x.0 x.1;
-      rises = λ j e. let y = field_at j (omega (arith, e, h)) in
-          rise.fields j i y.0 x.0 (member_indices b 3 j) (member_indices b 3 i) (omega (arith, e)) y.1 x.1 (field_indices j y.0 y.1) (field_indices i x.0 x.1);
-    };
-    methods = λ i h. let x = method_at i h in record {
-      name = x.0;
-      stands = method_stands b s p a valid i x.0 x.1;
-      rises = λ j e. let y = method_at j (omega (arith, e, h)) in
-          rise.methods j i y.0 x.0 (member_indices b 4 j) (member_indices b 4 i) (omega (arith, e)) y.1 x.1 (method_indices j y.0 y.1) (method_indices i x.0 x.1);
-    };
+    strings = rows_hold text_key s.strings StringStands StringIsBelow (size_of b 0) string_at (string_stands b s p a valid) strings_below;
+    types = rows_hold text_key s.types TypeStands TypeIsBelow (size_of b 1) type_at (type_stands b s p a valid) types_below;
+    protos = rows_hold proto_key s.protos ProtoStands ProtoIsBelow (size_of b 2) proto_at (proto_stands b s p a valid) protos_are_below;
+    fields = rows_hold field_ref_key s.fields FieldStands (MemberIsBelow 3) (size_of b 3) field_at (field_stands b s p a valid)
+        (λ j i f g lt ef eg. rise.fields j i f g (member_indices b 3 j) (member_indices b 3 i) lt ef eg (field_indices j f ef) (field_indices i g eg));
+    methods = rows_hold method_ref_key s.methods MethodStands (MemberIsBelow 4) (size_of b 4) method_at (method_stands b s p a valid)
+        (λ j i m n lt em en. rise.methods j i m n (member_indices b 4 j) (member_indices b 4 i) lt em en (method_indices j m em) (method_indices i n en));
   }
 
   -- ---- and they are these names

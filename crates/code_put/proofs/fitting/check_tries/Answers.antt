@@ -1,13 +1,12 @@
-use Rattle.std.proofs.Common.{◌<◌, ◌≤◌, ◌∙◌, ℕ, List, map, length, get_or, arith, sym, subst, rules}
+use Rattle.std.proofs.Common.{◌≡◌, ◌<◌, ◌≤◌, ◌∙◌, true, ℕ, List, map, length, get_or, arith, sym, subst, rules}
 use Rattle.std.proofs.lemmas.List.{length-map}
 use Rattle.program_types.specs.View as view
 use Rattle.program_types.specs.View.{insn, try}
-use Rattle.program_types.specs.Sizes.{addresses_of}
 use Rattle.tables_names.specs.Closure.{NameRanks}
-use Rattle.code_put.specs.Fits.{TryFits, HandlersAreNear, SomeHandlerIsFar}
+use Rattle.code_put.specs.Fits.{HandlersAreNear, SomeHandlerIsFar}
 use Rattle.code_put.proofs.FormLaws.{good}
 use Rattle.code_put.proofs.BreakLaws.{unfit87, unfit88, unfit89}
-use Rattle.code_put.proofs.FitLaws.{by-count, tries-there, addresses-small}
+use Rattle.code_put.proofs.FitLaws.{held, told, tries-there, addresses-small}
 use Rattle.code_put.proofs.fitting.check_tries.Goals as goal
 
 pub tries_fit-requires-clause-low : goal.tries_fit-requires-clause-low
@@ -32,26 +31,20 @@ handlers_fit-requires-clause-ranked c = c.requires.caught
 
 pub returns-then-not-tries_fit-clause-err : goal.returns-then-not-tries_fit-clause-err
 returns-then-not-tries_fit-clause-err c = λ ne.
-    let m = length-map c.args.code.now.tries.now try in
-    let starts = c.deref.ensures.value ∙ c.requires.starts in
-    rw c.at.ensures (unfit87 (NameRanks c.args.ranks.now) (view.code c.args.code.now) c.requires.strings c.requires.fields c.requires.methods c.requires.offsets c.requires.even (λ h.
-    let t = c.tries_fit.ensures.1 (subst (λ (ss : List ℕ). (i : ℕ) → i < length c.args.code.now.tries.now → TryFits ss (map try c.args.code.now.tries.now) i) (sym starts)
-    (by-count (length (map try c.args.code.now.tries.now)) (length c.args.code.now.tries.now) (λ i. TryFits (addresses_of (map insn c.args.code.now.insns.now)) (map try c.args.code.now.tries.now) i) m h)) in
-    search rules))
+    rw c.at.ensures (unfit87 (NameRanks c.args.ranks.now) (view.code c.args.code.now) c.requires.strings c.requires.fields c.requires.methods c.requires.offsets c.requires.even
+    (λ h. let t : c.tries_fit.result ≡ true = told try c.args.code.now.tries.now _ _ (rw (c.deref.ensures.value ∙ c.requires.starts) at c.tries_fit.ensures) h in search rules))
 
 pub returns-then-code-gt65535-clause-err : goal.returns-then-code-gt65535-clause-err
 returns-then-code-gt65535-clause-err c = λ ne.
-    let m = sym (length-map c.args.code.now.tries.now try) in
-    let tries = by-count (length c.args.code.now.tries.now) (length (map try c.args.code.now.tries.now)) (λ i. TryFits (addresses_of (map insn c.args.code.now.insns.now)) (map try c.args.code.now.tries.now) i) m
-    (subst (λ (ss : List ℕ). (i : ℕ) → i < length c.args.code.now.tries.now → TryFits ss (map try c.args.code.now.tries.now) i) (c.deref.ensures.value ∙ c.requires.starts) (c.tries_fit.ensures.0 (search rules))) in
+    let m = length-map c.args.code.now.tries.now try in
+    let tries = held try c.args.code.now.tries.now _ _ (rw (c.deref.ensures.value ∙ c.requires.starts) at c.tries_fit.ensures) (search rules) in
     let many : 65535 < length c.args.code.now.tries.now = search rules in
     rw c.at-then-code-gt65535.ensures (unfit88 (NameRanks c.args.ranks.now) (view.code c.args.code.now) c.requires.strings c.requires.fields c.requires.methods c.requires.offsets c.requires.even tries (omega (arith, many, m)))
 
 pub returns-then-not-branch-clause-err : goal.returns-then-not-branch-clause-err
 returns-then-not-branch-clause-err c = λ ne.
-    let m = sym (length-map c.args.code.now.tries.now try) in
-    let tries = by-count (length c.args.code.now.tries.now) (length (map try c.args.code.now.tries.now)) (λ i. TryFits (addresses_of (map insn c.args.code.now.insns.now)) (map try c.args.code.now.tries.now) i) m
-    (subst (λ (ss : List ℕ). (i : ℕ) → i < length c.args.code.now.tries.now → TryFits ss (map try c.args.code.now.tries.now) i) (c.deref.ensures.value ∙ c.requires.starts) (c.tries_fit.ensures.0 (search rules))) in
+    let m = length-map c.args.code.now.tries.now try in
+    let tries = held try c.args.code.now.tries.now _ _ (rw (c.deref.ensures.value ∙ c.requires.starts) at c.tries_fit.ensures) (search rules) in
     let few : length c.args.code.now.tries.now ≤ 65535 = search rules in
     let e = c.requires.end in
     let w = c.is_short.ensures.0 (search rules) in
@@ -61,7 +54,7 @@ returns-then-not-branch-clause-err c = λ ne.
 
 pub returns-clause-ok : goal.returns-clause-ok
 returns-clause-ok c =
-    let m = sym (length-map c.args.code.now.tries.now try) in
+    let m = length-map c.args.code.now.tries.now try in
     let few : length c.args.code.now.tries.now ≤ 65535 = search rules in
     let same = c.deref-2.ensures.value ∙ c.requires.starts in
     record {
@@ -70,8 +63,7 @@ returns-clause-ok c =
       methods = c.requires.methods;
       offsets = c.requires.offsets;
       even = c.requires.even;
-      tries = by-count (length c.args.code.now.tries.now) (length (map try c.args.code.now.tries.now)) (λ i. TryFits (addresses_of (map insn c.args.code.now.insns.now)) (map try c.args.code.now.tries.now) i) m
-          (subst (λ (ss : List ℕ). (i : ℕ) → i < length c.args.code.now.tries.now → TryFits ss (map try c.args.code.now.tries.now) i) (c.deref.ensures.value ∙ c.requires.starts) (c.tries_fit.ensures.0 (search rules)));
+      tries = held try c.args.code.now.tries.now _ _ (rw (c.deref.ensures.value ∙ c.requires.starts) at c.tries_fit.ensures) (search rules);
       few = omega (arith, few, m);
       handlers = λ short. subst (λ (ss : List ℕ). HandlersAreNear (NameRanks c.args.ranks.now) ss (map try c.args.code.now.tries.now)) same (c.in_ok-handlers_fit.ensures.ok.0 (search rules));
     }

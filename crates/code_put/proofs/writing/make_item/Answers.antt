@@ -1,12 +1,12 @@
 use Rattle.std.proofs.Common.{◌≡◌, ◌<◌, ℕ, List, map, length, get_or, arith, ap, sym, ◌∙◌, ◌++◌, subst}
 use Rattle.std.proofs.lemmas.List.{length-map}
 use Rattle.program_types.specs.View as view
-use Rattle.program_types.specs.Formed.{TryFormed}
 use Rattle.program_types.specs.Sizes.{addresses_of, length_of}
 use Rattle.tables_names.specs.Closure.{NameRanks}
 use Rattle.code_put.specs.Fits.{OffsetsFit, IsEven}
 use Rattle.code_put.specs.Packs.{PacksHandlersOf, PutInsns}
 use Rattle.program_code_rules.specs.Branches.{AreOrigins}
+use Rattle.code_put.proofs.FitLaws.{count-of, tries-there}
 use Rattle.code_put.proofs.FormLaws.{good, names-fit, caught-ranked}
 use Rattle.code_put.proofs.ListLaws.{all-from}
 use Rattle.code_put.proofs.PackLaws.{packed}
@@ -17,12 +17,7 @@ invariant_of-starts c =
     let g = good c.args.code.now.insns.now c.deref.result.now (c.deref.ensures.value ∙ c.in_ok-all.ensures.ok) (let w = c.requires.ranked.short in omega arith) in (g.rises, g.low)
 
 pub lay_handlers-requires-clause-formed : goal.lay_handlers-requires-clause-formed
-lay_handlers-requires-clause-formed c =
-    let g = good c.args.code.now.insns.now c.deref.result.now (c.deref.ensures.value ∙ c.in_ok-all.ensures.ok) (let w = c.requires.ranked.short in omega arith) in
-    let m = length-map c.args.code.now.insns.now view.insn in
-    let n = length-map c.args.code.now.tries.now view.try in
-    let e : length (map view.insn c.args.code.now.insns.now) ≡ length c.deref.result.now = m ∙ sym g.count in
-    λ i l. subst (λ (k : ℕ). TryFormed k (map view.try c.args.code.now.tries.now) i) e (c.requires.formed.tries i (omega arith))
+lay_handlers-requires-clause-formed c = tries-there c.args.code.now.insns.now c.args.code.now.tries.now c.deref.result.now (c.deref.ensures.value ∙ c.in_ok-all.ensures.ok) c.requires.formed.tries
 
 pub lay_handlers-requires-clause-ranked : goal.lay_handlers-requires-clause-ranked
 lay_handlers-requires-clause-ranked c =
@@ -33,8 +28,7 @@ lay_handlers-requires-clause-short c =
     let n = length-map c.args.code.now.tries.now view.try in let w = c.requires.ranked.short in omega arith
 
 pub put_insns-requires-clause-count : goal.put_insns-requires-clause-count
-put_insns-requires-clause-count c =
-    let g = good c.args.code.now.insns.now c.deref.result.now (c.deref.ensures.value ∙ c.in_ok-all.ensures.ok) (let w = c.requires.ranked.short in omega arith) in g.count
+put_insns-requires-clause-count c = count-of c.args.code.now.insns.now c.deref.result.now (c.deref.ensures.value ∙ c.in_ok-all.ensures.ok)
 
 pub put_insns-requires-clause-names : goal.put_insns-requires-clause-names
 put_insns-requires-clause-names c =
@@ -55,12 +49,7 @@ put_insns-requires-clause-origins c =
     subst (λ (js : List ℕ). AreOrigins (map view.insn c.args.code.now.insns.now) js) (sym c.deref-2.ensures.value) c.in_ok-origins.ensures
 
 pub put_items-requires-clause-formed : goal.put_items-requires-clause-formed
-put_items-requires-clause-formed c =
-    let g = good c.args.code.now.insns.now c.deref.result.now (c.deref.ensures.value ∙ c.in_ok-all.ensures.ok) (let w = c.requires.ranked.short in omega arith) in
-    let m = length-map c.args.code.now.insns.now view.insn in
-    let n = length-map c.args.code.now.tries.now view.try in
-    let e : length (map view.insn c.args.code.now.insns.now) ≡ length c.deref.result.now = m ∙ sym g.count in
-    λ i l. subst (λ (k : ℕ). TryFormed k (map view.try c.args.code.now.tries.now) i) e (c.requires.formed.tries i (omega arith))
+put_items-requires-clause-formed c = tries-there c.args.code.now.insns.now c.args.code.now.tries.now c.deref.result.now (c.deref.ensures.value ∙ c.in_ok-all.ensures.ok) c.requires.formed.tries
 
 pub put_items-requires-clause-count : goal.put_items-requires-clause-count
 put_items-requires-clause-count c =
@@ -72,8 +61,7 @@ pub put_items-requires-clause-offsets : goal.put_items-requires-clause-offsets
 put_items-requires-clause-offsets c =
     let h : PacksHandlersOf (NameRanks c.args.ranks.now) (addresses_of (map view.insn c.args.code.now.insns.now)) (map view.try c.args.code.now.tries.now) c.in_ok-laid.laid.bytes.items c.in_ok-laid.laid.offsets.items =
     subst (λ (z : List ℕ). PacksHandlersOf (NameRanks c.args.ranks.now) z (map view.try c.args.code.now.tries.now) c.in_ok-laid.laid.bytes.items c.in_ok-laid.laid.offsets.items) (c.deref.ensures.value ∙ c.in_ok-all.ensures.ok) c.in_ok-laid.ensures.ok in
-    let near = c.requires.fits.handlers c.requires.ranked.short _ _ h in
-    subst (λ (z : List ℕ). (i : ℕ) → i < length z → get_or z i 0 < 65536) (sym c.deref-3.ensures.value) near
+    subst (λ (z : List ℕ). (i : ℕ) → i < length z → get_or z i 0 < 65536) (sym c.deref-3.ensures.value) (c.requires.fits.handlers c.requires.ranked.short _ _ h)
 
 pub returns-clause-ok : goal.returns-clause-ok
 returns-clause-ok c =

@@ -40,7 +40,7 @@ split_at-requires-in-loop-class c =
 pub split_at-requires-in-loop-class-2 : goal.split_at-requires-in-loop-class-2
 split_at-requires-in-loop-class-2 c =
     let cs = c.args.program.now.classes.now in
-    let e = rest_enough cs c.args.codes.now c.loop-class.class-index no_class c.loop-class-test.true c.requires.codes in
+    let e = rest_enough (map view.class cs) c.args.codes.now c.loop-class.class-index _ (map_at view.class cs c.loop-class.class-index no_class c.loop-class-test.true) c.requires.codes in
     let n = count_in (get_or cs c.loop-class.class-index no_class) in
     let r = ap length c.loop-class.invariant.1 in
     omega (arith, e, n, r)
@@ -69,7 +69,7 @@ add_data-requires-clause-room c =
     let n = length-sited (map view.class cs) codes in
     let m = length-map cs view.class in
     let w = room_at wide_with_codes (with_code_places (map view.class cs) codes) i no_sited (omega (arith, n, m, c.loop-class-test.true)) in
-    let e = ap wide_with_codes (sited_at cs codes i no_class no_sited c.loop-class-test.true) in
+    let e = ap wide_with_codes (sited_at (map view.class cs) codes i _ no_sited (map_at view.class cs i no_class c.loop-class-test.true)) in
     let a = room_of_sited (map view.class cs) codes in
     let b = c.loop-class.invariant.0.bound in
     omega (arith, w, e, a, b, c.requires.room)
@@ -90,14 +90,15 @@ loop-class-preserved c =
     let n = length-sited (map view.class cs) codes in
     let m = length-map cs view.class in
     let count = count_in (get_or cs i no_class) in
-    let own = sited_at cs codes i no_class no_sited c.loop-class-test.true in
+    let at = map_at view.class cs i no_class c.loop-class-test.true in
+    let own = sited_at (map view.class cs) codes i _ no_sited at in
     let same : record { class = view.class (get_or cs i no_class); codes = c.split_at-in-loop-class-2.result.0.now } ≡ get_or (with_code_places (map view.class cs) codes) i no_sited =
     sym (own ∙ ap (λ l. record { class = view.class (get_or cs i no_class); codes = l }) (ap (λ k. take k (rest_after (map view.class cs) codes i)) count ∙ ap (take _) (sym c.loop-class.invariant.1) ∙ sym c.split_at-in-loop-class-2.ensures.front)) in
     let adds = subst (λ (v : ClassWithCodes). AddsSome has_no_members (PacksData (NameRanks c.args.ranks.now)) 1 c.loop-class.out.items c.add_data.new.out.items v c.in_ok-place.place) same c.in_ok-place.ensures.ok in
     let bound = subst (λ (v : ClassWithCodes). length c.add_data.new.out.items ≤ length c.loop-class.out.items + wide_with_codes v) same c.in_ok-place.ensures.bound in (
       placed_more has_no_members (PacksData (NameRanks c.args.ranks.now)) 1 wide_with_codes _ _ _ (with_code_places (map view.class cs) codes) i no_sited _ _ _ _ _ (omega (arith, n, m, c.loop-class-test.true)) c.loop-class.invariant.0 c.requires.front
           adds bound c.in_ok-add.ensures.places c.in_ok-add.ensures.items,
-      c.split_at-in-loop-class-2.ensures.back ∙ ap (drop _) c.loop-class.invariant.1 ∙ ap (λ k. drop k (rest_after (map view.class cs) codes i)) (sym count) ∙ sym (rest_next cs codes i no_class c.loop-class-test.true) ∙ ap (rest_after (map view.class cs) codes) (sym s),
+      c.split_at-in-loop-class-2.ensures.back ∙ ap (drop _) c.loop-class.invariant.1 ∙ ap (λ k. drop k (rest_after (map view.class cs) codes i)) (sym count) ∙ sym (rest_next (map view.class cs) codes i _ at) ∙ ap (rest_after (map view.class cs) codes) (sym s),
       (
           let k = get_or cs i no_class in
           let next = next_members c.args.ranks.now cs i no_class c.loop-class.members.now c.loop-class-test.true c.loop-class.invariant.2 in

@@ -3,8 +3,9 @@ use Rattle.std.proofs.lemmas.List.{take_all, take_more}
 use Rattle.std.proofs.lemmas.Option.{slice_get_within}
 use Rattle.tables_names.specs.Closure.{NameRanks, method_of_class}
 use Rattle.program_types.specs.View as view
+use Rattle.program_rules.specs.Rules.{method_key}
 use Rattle.program_types.specs.declared.class.Method.{Method}
-use Rattle.file_assemble.proofs.MemberRuns.{MethodsTo, methods_start, method_step, methods_more}
+use Rattle.file_assemble.proofs.MemberRuns.{MethodsTo, run_step, methods_start, methods_rise, methods_more, methods_added}
 use Rattle.file_assemble.proofs.MentionLaws.{member_ranked, no_method}
 use Rattle.file_assemble.specs.Growing.{AddsMethods}
 use Rattle.file_assemble.proofs.class_data.put_methods.Goals as goal
@@ -24,7 +25,7 @@ pub overflow_sub-index : goal.overflow_sub-index
 overflow_sub-index c =
     let owner = c.requires.own.0 in
     let at = (member_ranked c.args.ranks.now (method_of_class owner) view.method c.args.methods.now c.args.own.now c.loop-i.i no_method (omega arith) c.requires.own.1).1 in
-    (method_step c.args.ranks.now owner _ _ _ c.args.methods.now c.loop-i.i _ _ _ c.rise.ensures.methods (omega arith) c.requires.rise (c.loop-i.invariant owner c.requires.own.1) at).1
+    (run_step view.method method_key (methods_rise c.args.ranks.now owner c.rise.ensures.methods) c.args.methods.now c.loop-i.i _ _ (omega arith) c.requires.rise (c.loop-i.invariant owner c.requires.own.1).to at).1
 
 pub loop-i-preserved : goal.loop-i-preserved
 loop-i-preserved c owner own =
@@ -37,5 +38,5 @@ loop-i-preserved c owner own =
 
 pub returns-clause-ok : goal.returns-clause-ok
 returns-clause-ok c owner own =
-    let adds = subst (λ (xs : List Method). AddsMethods (NameRanks c.args.ranks.now) owner (take c.loop-i.i c.args.codes.now) c.args.out.now.items c.loop-i.out.items (map view.method xs)) (take_all c.loop-i.i c.args.methods.now (omega arith)) (c.loop-i.invariant owner own).adds in
+    let adds = subst (λ (xs : List Method). AddsMethods (NameRanks c.args.ranks.now) owner (take c.loop-i.i c.args.codes.now) c.args.out.now.items c.loop-i.out.items (map view.method xs)) (take_all c.loop-i.i c.args.methods.now (omega arith)) (methods_added (c.loop-i.invariant owner own)) in
     subst (λ (l : List ℕ). AddsMethods (NameRanks c.args.ranks.now) owner l c.args.out.now.items c.loop-i.out.items (map view.method c.args.methods.now)) (take_all c.loop-i.i c.args.codes.now (omega (arith, c.requires.codes))) adds

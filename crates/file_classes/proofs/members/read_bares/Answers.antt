@@ -8,7 +8,7 @@ use Rattle.file_classes.proofs.MemberLaws.{bare_stands, there, next_index, index
 use Rattle.file_classes.specs.ClassData.{steps, index_of}
 use Rattle.file_classes.specs.declared.class_data.MethodEntry.{MethodEntry}
 use Rattle.file_classes.proofs.EntryLaws.{runs_more}
-use Rattle.file_classes.proofs.EntryFaults.{bares_before}
+use Rattle.file_classes.proofs.EntryFaults.{bare_owned}
 use Rattle.file_classes.proofs.members.read_bares.Goals as goal
 use Rattle.file_classes.proofs.members.read_bares.Goals.{else-entry-eq0-via-then-entry-eq0+else-len-gt0, else-entry-eq0-via-else-entry-eq0}
 use Rattle.dex_base.proofs.ListFacts.{passed}
@@ -42,26 +42,13 @@ returns-clause-ok c =
 pub returns-then-len-gt0-clause-err : goal.returns-then-len-gt0-clause-err
 returns-then-len-gt0-clause-err c =
     let b = c.args.sections.now in
-    let es = c.args.entries.now in
-    let k = c.loop-entry.entry-index in
-    let d : MethodEntry = (record { step = 0; flags = 0; code = 0 }) in
-    let lt : k < length es = c.loop-entry-test.true in
-    let is : c.loop-entry.index + c.from-index.result ≡ index_of (steps (map method_entry es)) k = next_index method_entry es k d lt c.loop-entry.index c.from-index.result c.loop-entry.invariant.summed c.from-index.ensures in
-    let all = length-map es method_entry in
     let n = c.loop-entry.invariant.runs.count in
     let v = c.loop-entry.bares.ok.0 in
-    let before = bares_before b (desc c.args.owner.class) (map method_entry es) k c.loop-entry.bares.items (omega (arith, all, lt)) c.loop-entry.invariant.runs in
-    λ _. rw c.at.ensures (step_fails method_entry es k d lt (MethodOwner b) (size_of b 4) (desc c.args.owner.class) (c.loop-entry.index + c.from-index.result) c.args.owner.place is before
-    (method_ref c.in_ok-method.method.now, c.in_ok-method.ensures.stands, c.in_ok-method.ensures.class) (omega (arith, n, v, c.len.ensures, c.if-len-gt0.true)) c.if-entry-eq0.true)
+    λ _. rw c.at.ensures (step_fails method_entry c.args.entries.now c.loop-entry.entry-index (record { step = 0; flags = 0; code = 0 }) c.loop-entry-test.true (IsBare b (desc c.args.owner.class)) (MethodOwner b) (desc c.args.owner.class) (bare_owned b (desc c.args.owner.class)) _ c.loop-entry.invariant.runs (size_of b 4) c.loop-entry.index c.from-index.result
+    c.args.owner.place c.loop-entry.invariant.summed c.from-index.ensures (method_ref c.in_ok-method.method.now, c.in_ok-method.ensures.stands, c.in_ok-method.ensures.class) (omega (arith, n, v, c.len.ensures, c.if-len-gt0.true)) c.if-entry-eq0.true)
 
 pub returns-in_err-method-clause-err : goal.returns-in_err-method-clause-err
 returns-in_err-method-clause-err c =
     let b = c.args.sections.now in
-    let es = c.args.entries.now in
-    let k = c.loop-entry.entry-index in
-    let d : MethodEntry = (record { step = 0; flags = 0; code = 0 }) in
-    let lt : k < length es = c.loop-entry-test.true in
-    let is : c.loop-entry.index + c.from-index.result ≡ index_of (steps (map method_entry es)) k = next_index method_entry es k d lt c.loop-entry.index c.from-index.result c.loop-entry.invariant.summed c.from-index.ensures in
-    let all = length-map es method_entry in
-    let before = bares_before b (desc c.args.owner.class) (map method_entry es) k c.loop-entry.bares.items (omega (arith, all, lt)) c.loop-entry.invariant.runs in
-    passed _ _ _ c.from_residual-in_err-method.ensures.1 (λ _. index_fails method_entry es k d lt (MethodOwner b) (size_of b 4) (desc c.args.owner.class) (c.loop-entry.index + c.from-index.result) c.args.owner.place is before _ c.in_err-method.ensures.err)
+    passed _ _ _ c.from_residual-in_err-method.ensures.1 (λ _. index_fails method_entry c.args.entries.now c.loop-entry.entry-index (record { step = 0; flags = 0; code = 0 }) c.loop-entry-test.true (IsBare b (desc c.args.owner.class)) (MethodOwner b) (desc c.args.owner.class) (bare_owned b (desc c.args.owner.class)) _ c.loop-entry.invariant.runs (size_of b 4) c.loop-entry.index c.from-index.result
+    c.args.owner.place c.loop-entry.invariant.summed c.from-index.ensures _ c.in_err-method.ensures.err)

@@ -9,7 +9,7 @@ use Rattle.file_classes.specs.ClassData.{steps, index_of}
 use Rattle.file_classes.specs.Reading.{field_entry}
 use Rattle.file_classes.specs.declared.class_data.FieldEntry.{FieldEntry}
 use Rattle.file_classes.proofs.EntryLaws.{runs_more}
-use Rattle.file_classes.proofs.EntryFaults.{fields_before}
+use Rattle.file_classes.proofs.EntryFaults.{field_owned}
 use Rattle.file_classes.proofs.members.read_fields.Goals as goal
 use Rattle.file_classes.proofs.members.read_fields.Goals.{else-entry-eq0-via-then-entry-eq0+else-len-gt0, else-entry-eq0-via-else-entry-eq0}
 use Rattle.dex_base.proofs.ListFacts.{passed}
@@ -44,27 +44,14 @@ returns-clause-ok c =
 pub returns-then-len-gt0-clause-err : goal.returns-then-len-gt0-clause-err
 returns-then-len-gt0-clause-err c =
     let b = c.args.sections.now in
-    let es = c.args.entries.now in
-    let k = c.loop-entry.entry-index in
-    let d : FieldEntry = (record { step = 0; flags = 0 }) in
-    let lt : k < length es = c.loop-entry-test.true in
-    let is : c.loop-entry.index + c.from-index.result ≡ index_of (steps (map field_entry es)) k = next_index field_entry es k d lt c.loop-entry.index c.from-index.result c.loop-entry.invariant.summed c.from-index.ensures in
-    let all = length-map es field_entry in
     let n = c.loop-entry.invariant.runs.count in
     let v = c.loop-entry.fields.ok.0 in
     let l = length-map c.loop-entry.fields.items member in
-    let before = fields_before b (desc c.args.owner.class) (map field_entry es) k (map member c.loop-entry.fields.items) (omega (arith, all, lt)) c.loop-entry.invariant.runs in
-    λ _. rw c.at.ensures (step_fails field_entry es k d lt (FieldOwner b) (size_of b 3) (desc c.args.owner.class) (c.loop-entry.index + c.from-index.result) c.args.owner.place is before
-    (field_ref c.in_ok-field.field.now, c.in_ok-field.ensures.stands, c.in_ok-field.ensures.class) (omega (arith, n, v, l, c.len.ensures, c.if-len-gt0.true)) c.if-entry-eq0.true)
+    λ _. rw c.at.ensures (step_fails field_entry c.args.entries.now c.loop-entry.entry-index (record { step = 0; flags = 0 }) c.loop-entry-test.true (IsField b (desc c.args.owner.class)) (FieldOwner b) (desc c.args.owner.class) (field_owned b (desc c.args.owner.class)) _ c.loop-entry.invariant.runs (size_of b 3) c.loop-entry.index c.from-index.result
+    c.args.owner.place c.loop-entry.invariant.summed c.from-index.ensures (field_ref c.in_ok-field.field.now, c.in_ok-field.ensures.stands, c.in_ok-field.ensures.class) (omega (arith, n, v, l, c.len.ensures, c.if-len-gt0.true)) c.if-entry-eq0.true)
 
 pub returns-in_err-field-clause-err : goal.returns-in_err-field-clause-err
 returns-in_err-field-clause-err c =
     let b = c.args.sections.now in
-    let es = c.args.entries.now in
-    let k = c.loop-entry.entry-index in
-    let d : FieldEntry = (record { step = 0; flags = 0 }) in
-    let lt : k < length es = c.loop-entry-test.true in
-    let is : c.loop-entry.index + c.from-index.result ≡ index_of (steps (map field_entry es)) k = next_index field_entry es k d lt c.loop-entry.index c.from-index.result c.loop-entry.invariant.summed c.from-index.ensures in
-    let all = length-map es field_entry in
-    let before = fields_before b (desc c.args.owner.class) (map field_entry es) k (map member c.loop-entry.fields.items) (omega (arith, all, lt)) c.loop-entry.invariant.runs in
-    passed _ _ _ c.from_residual-in_err-field.ensures.1 (λ _. index_fails field_entry es k d lt (FieldOwner b) (size_of b 3) (desc c.args.owner.class) (c.loop-entry.index + c.from-index.result) c.args.owner.place is before _ c.in_err-field.ensures.err)
+    passed _ _ _ c.from_residual-in_err-field.ensures.1 (λ _. index_fails field_entry c.args.entries.now c.loop-entry.entry-index (record { step = 0; flags = 0 }) c.loop-entry-test.true (IsField b (desc c.args.owner.class)) (FieldOwner b) (desc c.args.owner.class) (field_owned b (desc c.args.owner.class)) _ c.loop-entry.invariant.runs (size_of b 3) c.loop-entry.index c.from-index.result
+    c.args.owner.place c.loop-entry.invariant.summed c.from-index.ensures _ c.in_err-field.ensures.err)

@@ -4,7 +4,8 @@ use Rattle.tables_rows.specs.Stands.{NameStands}
 use Rattle.file_renumber.proofs.MarkLemmas.{has_marks_after}
 use Rattle.code_read.specs.Handlers.{SpellsCatch}
 use Rattle.file_renumber.specs.Fronts.{types_of}
-use Rattle.file_renumber.proofs.HandlerLemmas.{counted, due_next, no_catch, catches_start, catches_more, catches_end, type_row_of}
+use Rattle.file_renumber.proofs.HandlerLemmas.{counted, no_catch, catches_start, catches_more, catches_end, type_row_of}
+use Rattle.file_renumber.proofs.FrontLemmas.{due_next}
 use Rattle.file_renumber.proofs.handlers.mark_catches.Goals as goal
 
 pub loop-turn-init : goal.loop-turn-init

@@ -62,21 +62,21 @@ renumber_values-renumber_value-requires t c =
     let d = next_due c.args.numbers.now c.args.count c.args.bytes.now x c.args.out.now.items c.loop-turn.out.items c.loop-turn.left.now c.loop-turn._turn r c.loop-turn-test.true in
     let short = c.loop-turn.invariant.short in
     let most = c.decreases in
-    (omega (arith, short, most), next_carried c.args.numbers.now c.args.count c.args.bytes.now x c.args.out.now.items c.loop-turn.out.items c.loop-turn.left.now c.loop-turn._turn r d)
+    (omega (arith, short, most), next_carried c.args.numbers.now c.args.count c.args.bytes.now x c.args.out.now.items c.loop-turn.out.items c.loop-turn.left.now c.loop-turn._turn r c.loop-turn-test.true d)
 
 pub renumber_values-loop-turn-preserved : goal.renumber_values-loop-turn-preserved
 renumber_values-loop-turn-preserved t c =
     let x = c.requires in
     let r = c.loop-turn.invariant.renumbered x in
     let first = next_due c.args.numbers.now c.args.count c.args.bytes.now x c.args.out.now.items c.loop-turn.out.items c.loop-turn.left.now c.loop-turn._turn r c.loop-turn-test.true in
-    let follows = ap length (c.in_ok-after.ensures.follows (next_carried c.args.numbers.now c.args.count c.args.bytes.now x c.args.out.now.items c.loop-turn.out.items c.loop-turn.left.now c.loop-turn._turn r first)) in
-    let shorter = taken_short (SpellsValue (NameStands x.file)) c.loop-turn.left.now (get_or x.all c.loop-turn._turn Null) first.mid first.taken in
+    let follows = ap length (c.in_ok-after.ensures.follows (next_carried c.args.numbers.now c.args.count c.args.bytes.now x c.args.out.now.items c.loop-turn.out.items c.loop-turn.left.now c.loop-turn._turn r c.loop-turn-test.true first)) in
+    let shorter = taken_short (SpellsValue (NameStands x.file)) c.loop-turn.left.now (get_or x.all c.loop-turn._turn Null) first.mid first.one in
     let short = c.loop-turn.invariant.short in
     record {
       renumbered = λ x.
           let r = c.loop-turn.invariant.renumbered x in
           let d = next_due c.args.numbers.now c.args.count c.args.bytes.now x c.args.out.now.items c.loop-turn.out.items c.loop-turn.left.now c.loop-turn._turn r c.loop-turn-test.true in
-          let one = next_carried c.args.numbers.now c.args.count c.args.bytes.now x c.args.out.now.items c.loop-turn.out.items c.loop-turn.left.now c.loop-turn._turn r d in
+          let one = next_carried c.args.numbers.now c.args.count c.args.bytes.now x c.args.out.now.items c.loop-turn.out.items c.loop-turn.left.now c.loop-turn._turn r c.loop-turn-test.true d in
           renumbered_next c.args.numbers.now c.args.count c.args.bytes.now x c.args.out.now.items c.loop-turn.out.items c.loop-turn.left.now c.loop-turn._turn r c.loop-turn-test.true d c.in_ok-after.after.now c.renumber_value.new.out.items (c.in_ok-after.ensures.follows one) (c.in_ok-after.ensures.ok one);
       short = omega (arith, follows, shorter, short);
     }

@@ -7,7 +7,9 @@ use Rattle.code_put.specs.Packs.{PacksHandler}
 use Rattle.file_renumber.specs.CarriedCodes.{CarriedHandler}
 use Rattle.file_renumber.proofs.TryLemmas.{handler_some}
 use Rattle.file_renumber.proofs.KnownLemmas.{known_more, all_bytes, number_low}
+use Rattle.file_renumber.specs.TryWalks.{IsWrittenOf}
 use Rattle.file_renumber.proofs.tries.number_of_handler.Goals as goal
+use Rattle.file_renumber.proofs.tries.number_of_handler.Goals.{In_ok-number}
 
 pub returns-then-known-k-ne0-clause-ok : goal.returns-then-known-k-ne0-clause-ok
 returns-then-known-k-ne0-clause-ok c =
@@ -31,20 +33,17 @@ overflow_add-known c =
     let low = number_low _ _ _ c.in_ok-number.number c.in_ok-number.ensures.ok in
     omega (arith, few, low, length-map c.args.handlers.now.keys (λ v. v.items))
 
-pub returns-clause-ok : goal.returns-clause-ok
-returns-clause-ok c = record {
-  key = c.in_ok-written.written.items;
-  numbered = c.in_ok-number.ensures.ok;
-  written = record {
-    small = all_bytes _ (subst AreBytes c.deref.ensures.value c.are_bytes.ensures.each);
-    packs = subst (λ (l : List ℕ). (x : CarriedHandler c.args.numbers.now l) → PacksHandler (NameRanks x.names) x.starts c.in_ok-written.written.items x.handler) c.split_at.ensures.back c.in_ok-written.ensures.ok;
-  };
+-- what is written of the handler
+written : (c : In_ok-number) → IsWrittenOf c.args.numbers.now (drop (get_or c.args.offsets.now c.args.k 0) c.args.list.now) c.in_ok-written.written.items
+written c = record {
+  small = all_bytes _ (subst AreBytes c.deref.ensures.value c.are_bytes.ensures.each);
+  packs = subst (λ (l : List ℕ). (x : CarriedHandler c.args.numbers.now l) → PacksHandler (NameRanks x.names) x.starts c.in_ok-written.written.items x.handler) c.split_at.ensures.back c.in_ok-written.ensures.ok;
 }
+
+pub returns-clause-ok : goal.returns-clause-ok
+returns-clause-ok c = record { key = c.in_ok-written.written.items; numbered = c.in_ok-number.ensures.ok; written = written (goal.at.returns-clause-ok c).In_ok-number }
 
 pub returns-clause-known : goal.returns-clause-known
 returns-clause-known c =
     known_more c.args.numbers.now c.args.list.now c.args.offsets.now c.args.known.now _ _ c.in_ok-written.written.items c.args.k c.in_ok-number.number (let n = c.requires.count in let i = c.requires.inside in omega (arith, n, i)) c.requires.known c.in_ok-number.ensures.ok
-    (record {
-      small = all_bytes _ (subst AreBytes c.deref.ensures.value c.are_bytes.ensures.each);
-      packs = subst (λ (l : List ℕ). (x : CarriedHandler c.args.numbers.now l) → PacksHandler (NameRanks x.names) x.starts c.in_ok-written.written.items x.handler) c.split_at.ensures.back c.in_ok-written.ensures.ok;
-    })
+    (written (goal.at.returns-clause-known c).In_ok-number)

@@ -12,7 +12,7 @@ use Rattle.file_assemble.proofs.LayingLaws.{items_few}
 use Rattle.file_assemble.proofs.RankedArrays.{array_packs, array_one, array_most, arrays_once}
 use Rattle.file_layout.proofs.SharingLaws.{sharing_start, sharing_next, sharing_end, sharing_shared}
 use Rattle.file_strip.specs.Statics.{IsCarriedStatics, WritesStatics}
-use Rattle.file_strip.proofs.ListLaws.{zip_at}
+use Rattle.file_renumber.proofs.MarkLemmas.{zip_at}
 use Rattle.file_strip.proofs.MovedLaws.{moved_none}
 use Rattle.file_strip.proofs.arrays.place_arrays.Goals as goal
 use Rattle.dex_base.proofs.ListFacts.{zip_length}
@@ -28,7 +28,7 @@ add_array-requires-clause-values c =
     let s = c.requires.arrays.0 in
     let arrays = c.requires.arrays.1 in
     let i = c.loop-off.off-index in
-    (s, get_or arrays i [], zip_at (IsCarriedStatics c.args.sections.now c.args.numbers.now s) c.args.offs.now arrays i [] c.loop-off-test.true c.requires.arrays.2)
+    (s, get_or arrays i [], zip_at (IsCarriedStatics c.args.sections.now c.args.numbers.now s) c.args.offs.now arrays i 0 [] c.loop-off-test.true c.requires.arrays.2)
 
 pub add_array-requires-clause-room : goal.add_array-requires-clause-room
 add_array-requires-clause-room c =
@@ -44,7 +44,7 @@ loop-off-preserved c = (
       let i = c.loop-off.off-index in
       let n = zip_length (IsCarriedStatics c.args.sections.now c.args.numbers.now s) c.args.offs.now arrays z in
       sharing_next is_empty_list (Shortest (SpellsArray (NameRanks s))) (WritesArray s) 1 wide_array _ _ _ arrays i [] _ _ _ _ _ (array_packs s) (array_one s) (array_most s _) (omega (arith, n, c.loop-off-test.true)) (c.loop-off.invariant.0 s arrays z) c.requires.front
-      (c.in_ok-place.ensures.ok s (get_or arrays i []) (zip_at (IsCarriedStatics c.args.sections.now c.args.numbers.now s) c.args.offs.now arrays i [] c.loop-off-test.true z)) c.in_ok-push.ensures.items,
+      (c.in_ok-place.ensures.ok s (get_or arrays i []) (zip_at (IsCarriedStatics c.args.sections.now c.args.numbers.now s) c.args.offs.now arrays i 0 [] c.loop-off-test.true z)) c.in_ok-push.ensures.items,
   c.in_ok-place.ensures.moved,
 )
 

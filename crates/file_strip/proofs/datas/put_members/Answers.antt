@@ -7,7 +7,7 @@ use Rattle.file_classes.specs.declared.class_data.MethodEntry.{MethodEntry}
 use Rattle.file_assemble.specs.Data.{FieldRanks, MethodRanks}
 use Rattle.tables_names.specs.Closure.{NameRanks}
 use Rattle.file_strip.specs.Members.{IsCarriedRun}
-use Rattle.file_strip.proofs.SiteLaws.{members_append}
+use Rattle.file_assemble.proofs.ClassDataLaws.{members_append}
 use Rattle.file_strip.proofs.datas.put_members.Goals as goal
 
 pub put_counts-requires-clause-statics : goal.put_counts-requires-clause-statics

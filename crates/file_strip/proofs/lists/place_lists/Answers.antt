@@ -9,7 +9,7 @@ use Rattle.file_assemble.proofs.LayingLaws.{items_few, room_at}
 use Rattle.file_assemble.proofs.RankedLists.{list_packs, list_one, list_most, lists_once}
 use Rattle.file_layout.proofs.SharingLaws.{sharing_start, sharing_next, sharing_end, sharing_shared}
 use Rattle.file_strip.specs.Lists.{IsCarriedList, WritesList}
-use Rattle.file_strip.proofs.ListLaws.{zip_at}
+use Rattle.file_renumber.proofs.MarkLemmas.{zip_at}
 use Rattle.file_strip.proofs.MovedLaws.{moved_none}
 use Rattle.file_strip.proofs.lists.place_lists.Goals as goal
 use Rattle.dex_base.proofs.ListFacts.{zip_length}
@@ -29,7 +29,7 @@ add_list-requires-clause-list c =
     let n = zip_length (IsCarriedList c.args.sections.now c.args.numbers.now s) c.args.offs.now lists z in
     let w = room_at wide_list lists i [] (omega (arith, n, c.loop-off-test.true)) in
     let b = (c.loop-off.invariant.0 s lists z).laying.bound in
-    (s, get_or lists i [], zip_at (IsCarriedList c.args.sections.now c.args.numbers.now s) c.args.offs.now lists i [] c.loop-off-test.true z, omega (arith, w, b, c.requires.lists.3))
+    (s, get_or lists i [], zip_at (IsCarriedList c.args.sections.now c.args.numbers.now s) c.args.offs.now lists i 0 [] c.loop-off-test.true z, omega (arith, w, b, c.requires.lists.3))
 
 pub add_list-requires-clause-moved : goal.add_list-requires-clause-moved
 add_list-requires-clause-moved c = c.loop-off.invariant.1
@@ -40,7 +40,7 @@ loop-off-preserved c = (
       let i = c.loop-off.off-index in
       let n = zip_length (IsCarriedList c.args.sections.now c.args.numbers.now s) c.args.offs.now lists z in
       sharing_next is_empty_list (SpellsRanks s) (SpellsRanks s) 4 wide_list _ _ _ lists i [] _ _ _ _ _ (list_packs s) (list_one s) (list_most s _) (omega (arith, n, c.loop-off-test.true)) (c.loop-off.invariant.0 s lists z) c.requires.front
-      (c.in_ok-place.ensures.ok s (get_or lists i []) (zip_at (IsCarriedList c.args.sections.now c.args.numbers.now s) c.args.offs.now lists i [] c.loop-off-test.true z)) c.in_ok-push.ensures.items,
+      (c.in_ok-place.ensures.ok s (get_or lists i []) (zip_at (IsCarriedList c.args.sections.now c.args.numbers.now s) c.args.offs.now lists i 0 [] c.loop-off-test.true z)) c.in_ok-push.ensures.items,
   c.in_ok-place.ensures.moved,
 )
 

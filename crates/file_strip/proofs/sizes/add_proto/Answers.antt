@@ -4,14 +4,14 @@ use Rattle.file_limits.specs.Wide.{wide_list}
 use Rattle.program_types.specs.Content.{Units}
 use Rattle.tables_rows.specs.Stands.{TypesAt}
 use Rattle.file_strip.proofs.ListLaws.{protos_long}
-use Rattle.file_strip.proofs.SizeLaws.{proto_kept, proto_not_kept}
+use Rattle.file_strip.proofs.SizeLaws.{proto_kept, sum_not_kept}
 use Rattle.file_strip.proofs.sizes.add_proto.Goals as goal
 
 pub keeps_proto-requires : goal.keeps_proto-requires
 keeps_proto-requires c = let n = protos_long c.args.sections.now c.args.numbers.now c.requires.kept.0 c.requires.kept.1 in omega (arith, n, c.requires.row)
 
 pub returns-then-not-keeps_proto : goal.returns-then-not-keeps_proto
-returns-then-not-keeps_proto c = λ p k s. proto_not_kept c.args.sections.now c.args.numbers.now p k c.args.i c.args.sum c.requires.row (λ is. true≢false (sym (c.if-not-keeps_proto.ensures.1 is))) s
+returns-then-not-keeps_proto c = λ p k s. sum_not_kept _ _ _ _ k.marked.protos.shape k.numbered.protos _ c.args.i c.args.sum c.requires.row (λ is. true≢false (sym (c.if-not-keeps_proto.ensures.1 is))) s
 
 pub list_size-list-requires : goal.list_size-list-requires
 list_size-list-requires c =

@@ -1,11 +1,11 @@
 use Rattle.std.proofs.Common.{◌≡◌, ap, ◌∙◌, arith}
 use Rattle.dex_container.specs.Layout.{size_of, offset_of}
 use Rattle.file_renumber.proofs.ColumnLemmas.{table_size}
-use Rattle.file_strip.proofs.SizeLaws.{strings_start, strings_end}
+use Rattle.file_strip.proofs.SizeLaws.{sum_start, sum_end, totals}
 use Rattle.file_strip.proofs.sizes.strings_size.Goals as goal
 
 pub loop-i-init : goal.loop-i-init
-loop-i-init c = λ p k. strings_start c.args.sections.now c.args.numbers.now p k
+loop-i-init c = λ p k. sum_start _ _ _ _ k.marked.strings.shape k.numbered.strings _
 
 pub loop-i-preserved : goal.loop-i-preserved
 loop-i-preserved c = λ p k. c.add_string-sum.ensures p k (c.loop-i.invariant p k)
@@ -14,4 +14,4 @@ pub returns : goal.returns
 returns c = λ p k.
     let b = c.args.sections.now in
     let e : c.table-i-end.result.0 ≡ size_of b 0 = ap (λ x. x.0) c.table-i-end.ensures ∙ table_size (size_of b 0) (offset_of b 0) in
-    strings_end b c.args.numbers.now p k c.loop-i.i c.loop-i.sum (omega (arith, e, c.loop-i-test.false, c.loop-i.auto.i-end)) (c.loop-i.invariant p k)
+    sum_end _ _ _ _ k.marked.strings.shape k.numbered.strings _ c.loop-i.i c.loop-i.sum (omega (arith, e, c.loop-i-test.false, c.loop-i.auto.i-end)) (totals b c.args.numbers.now p k).strings (c.loop-i.invariant p k)

@@ -1,17 +1,16 @@
 use Rattle.std.proofs.Common.{refl}
-use Rattle.file_strip.proofs.SizeLaws.{strings_count, types_count, protos_count, fields_count, methods_count}
+use Rattle.file_strip.proofs.SizeLaws.{totals, count_is}
 use Rattle.file_strip.proofs.stripping.counts_of.Goals as goal
 
 pub returns : goal.returns
 returns c = λ p k.
-    let b = c.args.sections.now in
-    let n = c.args.numbers.now in
+    let t = totals c.args.sections.now c.args.numbers.now p k in
     rw (
-      strings_count b n p k c.count.result c.count.ensures,
-      types_count b n p k c.count-2.result c.count-2.ensures,
-      protos_count b n p k c.count_protos.result c.count_protos.ensures,
-      fields_count b n p k c.count-3.result c.count-3.ensures,
-      methods_count b n p k c.count-4.result c.count-4.ensures,
+      count_is k.marked.strings.shape k.numbered.strings t.strings c.count.ensures,
+      count_is k.marked.types.shape k.numbered.types t.types c.count-2.ensures,
+      count_is k.marked.protos.shape k.numbered.protos t.protos c.count_protos.ensures,
+      count_is k.marked.fields.shape k.numbered.fields t.fields c.count-3.ensures,
+      count_is k.marked.methods.shape k.numbered.methods t.methods c.count-4.ensures,
       c.class_count.ensures,
       k.classes.count,
     )

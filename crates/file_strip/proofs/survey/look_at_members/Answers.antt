@@ -7,70 +7,66 @@ use Rattle.file_limits.specs.Sum.{IsSum}
 use Rattle.file_limits.specs.Wide.{bodies_in, wide_body}
 use Rattle.file_limits.proofs.SumLaws.{wide_all_append}
 use Rattle.dex_value.specs.Wide.{wide_values}
-use Rattle.program_types.specs.Content.{values}
-use Rattle.file_classes.specs.Reading.{field_entry, method_entry}
-use Rattle.file_strip.specs.declared.survey.Surveyed.{Surveyed}
+use Rattle.program_types.specs.Content.{Class, values}
+use Rattle.file_classes.specs.Reading.{entries, field_entry, method_entry}
+use Rattle.file_strip.specs.Survey.{FindsNames, SpellsMembers}
 use Rattle.file_strip.proofs.FoundLaws.{finds_marked, finds_more, has_found_after, has_marks}
 use Rattle.file_strip.proofs.survey.look_at_members.Goals as goal
+use Rattle.file_strip.proofs.survey.look_at_members.Goals.{In_ok-array, In_ok-mark_fields, In_ok-mark_fields-2}
+
+-- what is found with the fields of the class itself
+statics : (c : In_ok-mark_fields) (k : Class) → SpellsMembers c.args.sections.now (entries c.args.all.now) c.args.values k → FindsNames c.args.sections.now c.args.found.now (record c.args.found.now { marks = c.mark_fields.new.marks }) (map (field_of_class k.ty) k.statics)
+statics c k m = finds_marked c.args.sections.now c.args.found.now c.mark_fields.new.marks (map (field_of_class k.ty) k.statics) ((rw c.deref.ensures.value at c.in_ok-mark_fields.ensures.marked) (record { class = k.ty; fields = k.statics; spelled = m.members.statics }))
+
+-- .. with their values
+array : (c : In_ok-array) (k : Class) → SpellsMembers c.args.sections.now (entries c.args.all.now) c.args.values k → FindsNames c.args.sections.now c.args.found.now (record c.args.found.now { marks = c.mark_fields.new.marks }) (map (field_of_class k.ty) k.statics)
+    → FindsNames c.args.sections.now c.args.found.now c.look_at_values.new.found (map (field_of_class k.ty) k.statics ++ flat_map names_of_value k.values)
+array c k m f = finds_more c.args.sections.now c.args.found.now _ c.look_at_values.new.found (map (field_of_class k.ty) k.statics) (flat_map names_of_value k.values) f (c.in_ok-array.ensures.found m.most k.values m.values)
+
+-- .. with the fields of instances
+instances : (c : In_ok-mark_fields-2) (k : Class) → SpellsMembers c.args.sections.now (entries c.args.all.now) c.args.values k → FindsNames c.args.sections.now c.args.found.now c.look_at_values.new.found (map (field_of_class k.ty) k.statics ++ flat_map names_of_value k.values)
+    → FindsNames c.args.sections.now c.args.found.now (record c.look_at_values.new.found { marks = c.mark_fields-2.new.marks }) (map (field_of_class k.ty) k.statics ++ flat_map names_of_value k.values ++ map (field_of_class k.ty) k.instances)
+instances c k m f =
+    finds_more c.args.sections.now c.args.found.now c.look_at_values.new.found _ (map (field_of_class k.ty) k.statics ++ flat_map names_of_value k.values) (map (field_of_class k.ty) k.instances) f
+    (finds_marked c.args.sections.now c.look_at_values.new.found c.mark_fields-2.new.marks (map (field_of_class k.ty) k.instances) ((rw c.deref-2.ensures.value at c.in_ok-mark_fields-2.ensures.marked) (record { class = k.ty; fields = k.instances; spelled = m.members.instances })))
 
 pub look_at_values-requires-clause-found : goal.look_at_values-requires-clause-found
 look_at_values-requires-clause-found c =
-    let b = c.args.sections.now in
     let k = c.requires.members in
-    let mid : Surveyed = (record c.args.found.now { marks = c.mark_fields.new.marks }) in
-    let h1 = has_found_after b c.args.found.now mid (map (field_of_class k.0.ty) k.0.statics) c.requires.found (finds_marked b c.args.found.now c.mark_fields.new.marks (map (field_of_class k.0.ty) k.0.statics) ((rw c.deref.ensures.value at c.in_ok-mark_fields.ensures.marked) (record { class = k.0.ty; fields = k.0.statics; spelled = k.1.members.statics }))) in
-    h1
+    has_found_after c.args.sections.now c.args.found.now _ (map (field_of_class k.0.ty) k.0.statics) c.requires.found (statics (goal.at.look_at_values-requires-clause-found c).In_ok-mark_fields k.0 k.1)
 
 pub mark_fields-requires-2-clause-marks : goal.mark_fields-requires-2-clause-marks
 mark_fields-requires-2-clause-marks c =
-    let b = c.args.sections.now in
     let k = c.requires.members in
-    let mid : Surveyed = (record c.args.found.now { marks = c.mark_fields.new.marks }) in
-    let h1 = has_found_after b c.args.found.now mid (map (field_of_class k.0.ty) k.0.statics) c.requires.found (finds_marked b c.args.found.now c.mark_fields.new.marks (map (field_of_class k.0.ty) k.0.statics) ((rw c.deref.ensures.value at c.in_ok-mark_fields.ensures.marked) (record { class = k.0.ty; fields = k.0.statics; spelled = k.1.members.statics }))) in
-    let h2 = has_found_after b mid c.look_at_values.new.found (flat_map names_of_value k.0.values) h1 (c.in_ok-array.ensures.found k.1.most k.0.values k.1.values) in
-    has_marks b c.look_at_values.new.found h2
+    let at = goal.at.mark_fields-requires-2-clause-marks c in
+    has_marks c.args.sections.now c.look_at_values.new.found (has_found_after c.args.sections.now c.args.found.now _ (map (field_of_class k.0.ty) k.0.statics ++ flat_map names_of_value k.0.values) c.requires.found (array at.In_ok-array k.0 k.1 (statics at.In_ok-mark_fields k.0 k.1)))
 
 pub look_at_methods-requires-clause-found : goal.look_at_methods-requires-clause-found
 look_at_methods-requires-clause-found c =
-    let b = c.args.sections.now in
     let k = c.requires.members in
-    let mid : Surveyed = (record c.args.found.now { marks = c.mark_fields.new.marks }) in
-    let h1 = has_found_after b c.args.found.now mid (map (field_of_class k.0.ty) k.0.statics) c.requires.found (finds_marked b c.args.found.now c.mark_fields.new.marks (map (field_of_class k.0.ty) k.0.statics) ((rw c.deref.ensures.value at c.in_ok-mark_fields.ensures.marked) (record { class = k.0.ty; fields = k.0.statics; spelled = k.1.members.statics }))) in
-    let h2 = has_found_after b mid c.look_at_values.new.found (flat_map names_of_value k.0.values) h1 (c.in_ok-array.ensures.found k.1.most k.0.values k.1.values) in
-    let mid2 : Surveyed = (record c.look_at_values.new.found { marks = c.mark_fields-2.new.marks }) in
-    let h3 = has_found_after b c.look_at_values.new.found mid2 (map (field_of_class k.0.ty) k.0.instances) h2 (finds_marked b c.look_at_values.new.found c.mark_fields-2.new.marks (map (field_of_class k.0.ty) k.0.instances) ((rw c.deref-2.ensures.value at c.in_ok-mark_fields-2.ensures.marked) (record { class = k.0.ty; fields = k.0.instances; spelled = k.1.members.instances }))) in
-    h3
+    let at = goal.at.look_at_methods-requires-clause-found c in
+    has_found_after c.args.sections.now c.args.found.now _ (map (field_of_class k.0.ty) k.0.statics ++ flat_map names_of_value k.0.values ++ map (field_of_class k.0.ty) k.0.instances) c.requires.found
+    (instances at.In_ok-mark_fields-2 k.0 k.1 (array at.In_ok-array k.0 k.1 (statics at.In_ok-mark_fields k.0 k.1)))
 
 pub look_at_methods-requires-2-clause-found : goal.look_at_methods-requires-2-clause-found
 look_at_methods-requires-2-clause-found c =
     let b = c.args.sections.now in
     let k = c.requires.members in
-    let mid : Surveyed = (record c.args.found.now { marks = c.mark_fields.new.marks }) in
-    let h1 = has_found_after b c.args.found.now mid (map (field_of_class k.0.ty) k.0.statics) c.requires.found (finds_marked b c.args.found.now c.mark_fields.new.marks (map (field_of_class k.0.ty) k.0.statics) ((rw c.deref.ensures.value at c.in_ok-mark_fields.ensures.marked) (record { class = k.0.ty; fields = k.0.statics; spelled = k.1.members.statics }))) in
-    let h2 = has_found_after b mid c.look_at_values.new.found (flat_map names_of_value k.0.values) h1 (c.in_ok-array.ensures.found k.1.most k.0.values k.1.values) in
-    let mid2 : Surveyed = (record c.look_at_values.new.found { marks = c.mark_fields-2.new.marks }) in
-    let h3 = has_found_after b c.look_at_values.new.found mid2 (map (field_of_class k.0.ty) k.0.instances) h2 (finds_marked b c.look_at_values.new.found c.mark_fields-2.new.marks (map (field_of_class k.0.ty) k.0.instances) ((rw c.deref-2.ensures.value at c.in_ok-mark_fields-2.ensures.marked) (record { class = k.0.ty; fields = k.0.instances; spelled = k.1.members.instances }))) in
-    has_found_after b mid2 c.look_at_methods.new.found (flat_map (names_of_method k.0.ty) k.0.directs) h3 ((rw c.deref-3.ensures.value at c.in_ok-directs.ensures.found) (record { class = k.0.ty; methods = k.0.directs; spelled = k.1.members.directs; codes = k.1.directs }))
+    let at = goal.at.look_at_methods-requires-2-clause-found c in
+    let h = has_found_after b c.args.found.now _ (map (field_of_class k.0.ty) k.0.statics ++ flat_map names_of_value k.0.values ++ map (field_of_class k.0.ty) k.0.instances) c.requires.found
+    (instances at.In_ok-mark_fields-2 k.0 k.1 (array at.In_ok-array k.0 k.1 (statics at.In_ok-mark_fields k.0 k.1))) in
+    has_found_after b _ c.look_at_methods.new.found (flat_map (names_of_method k.0.ty) k.0.directs) h ((rw c.deref-3.ensures.value at c.in_ok-directs.ensures.found) (record { class = k.0.ty; methods = k.0.directs; spelled = k.1.members.directs; codes = k.1.directs }))
 
 pub returns-clause-found : goal.returns-clause-found
 returns-clause-found c = λ k m.
     let b = c.args.sections.now in
-    let mid : Surveyed = (record c.args.found.now { marks = c.mark_fields.new.marks }) in
-    let mid2 : Surveyed = (record c.look_at_values.new.found { marks = c.mark_fields-2.new.marks }) in
-    let statics = map (field_of_class k.ty) k.statics in
-    let array = flat_map names_of_value k.values in
-    let instances = map (field_of_class k.ty) k.instances in
+    let at = goal.at.returns-clause-found c in
+    let fields = map (field_of_class k.ty) k.statics ++ flat_map names_of_value k.values ++ map (field_of_class k.ty) k.instances in
     let directs = flat_map (names_of_method k.ty) k.directs in
-    let virtuals = flat_map (names_of_method k.ty) k.virtuals in
-    let f1 = finds_marked b c.args.found.now c.mark_fields.new.marks statics ((rw c.deref.ensures.value at c.in_ok-mark_fields.ensures.marked) (record { class = k.ty; fields = k.statics; spelled = m.members.statics })) in
-    let f2 = c.in_ok-array.ensures.found m.most k.values m.values in
-    let f3 = finds_marked b c.look_at_values.new.found c.mark_fields-2.new.marks instances ((rw c.deref-2.ensures.value at c.in_ok-mark_fields-2.ensures.marked) (record { class = k.ty; fields = k.instances; spelled = m.members.instances })) in
     let f4 = (rw c.deref-3.ensures.value at c.in_ok-directs.ensures.found) (record { class = k.ty; methods = k.directs; spelled = m.members.directs; codes = m.directs }) in
     let f5 = (rw c.deref-4.ensures.value at c.in_ok-virtuals.ensures.found) (record { class = k.ty; methods = k.virtuals; spelled = m.members.virtuals; codes = m.virtuals }) in
-    let g2 = finds_more b c.args.found.now mid c.look_at_values.new.found statics array f1 f2 in
-    let g3 = finds_more b c.args.found.now c.look_at_values.new.found mid2 (statics ++ array) instances g2 f3 in
-    let g4 = finds_more b c.args.found.now mid2 c.look_at_methods.new.found (statics ++ array ++ instances) directs g3 f4 in
-    finds_more b c.args.found.now c.look_at_methods.new.found c.look_at_methods-2.new.found (statics ++ array ++ instances ++ directs) virtuals g4 f5
+    let g4 = finds_more b c.args.found.now _ c.look_at_methods.new.found fields directs (instances at.In_ok-mark_fields-2 k m (array at.In_ok-array k m (statics at.In_ok-mark_fields k m))) f4 in
+    finds_more b c.args.found.now c.look_at_methods.new.found c.look_at_methods-2.new.found (fields ++ directs) (flat_map (names_of_method k.ty) k.virtuals) g4 f5
 
 pub returns-clause-wide : goal.returns-clause-wide
 returns-clause-wide c = λ k m.
