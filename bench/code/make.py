@@ -1,18 +1,20 @@
 #!/usr/bin/env python3
-"""Writes a .dex file with so many code items: make.py ITEMS FILE.
+"""Writes a .dex file with so many code items.
 
-Each item takes 256 bytes and has instructions in about the shares that they have in real programs: moves, constants, fields, calls,
-branches, a switch in one of twelve items and a try in one of eight. A thousand items are made, and then repeated.
+Each item takes 256 bytes and has instructions in about the shares that they have in real programs: moves, constants,
+fields, calls, branches, a switch in one of twelve items and a try in one of eight. A thousand items are made, and then
+repeated.
 """
-import hashlib
+import argparse
+import os
 import random
 import struct
 import sys
-import zlib
+
+sys.path.insert(0, os.path.join(os.path.dirname(os.path.abspath(__file__)), "..", "hostile"))
+from shapes import File  # noqa: E402
 
 STRIDE = 256
-STRINGS = ["I", "LA;", "V", "a", "b"]
-TYPES = [0, 1, 2]
 
 
 def plain(draw):
@@ -102,30 +104,32 @@ def item(draw):
     return out.ljust(STRIDE, b"\0")
 
 
+class Codes(File):
+    """A file of five strings, three types, a prototype, a field, a method, and code items that no method has."""
+
+    ORDER = "texts", "codes"
+
+    def __init__(self, items):
+        super().__init__()
+        self.field("LA;", "a", "I")
+        self.method("LA;", "b", self.proto("V"))
+        self.items = items
+
+    def codes(self, begin):
+        return self.items, len(self.items) // STRIDE, {}
+
+
 def main():
-    count, path = int(sys.argv[1]), sys.argv[2]
+    words = argparse.ArgumentParser(description=__doc__, formatter_class=argparse.RawDescriptionHelpFormatter)
+    words.add_argument("count", metavar="ITEMS", type=int)
+    words.add_argument("out", metavar="FILE")
+    given = words.parse_args()
     draw = random.Random(35)
     made = b"".join(item(draw) for _ in range(1000))
-    codes = (made * (count // 1000 + 1))[: count * STRIDE]
-    texts = b"".join(bytes([len(text)]) + text.encode() + b"\0" for text in STRINGS)
-    rows_at = 112
-    begin = rows_at + 20 + 12 + 12 + 8 + 8
-    places, at = [], begin
-    for text in STRINGS:
-        places.append(at)
-        at += len(text) + 2
-    codes_at = at + -at % 4
-    map_at = codes_at + len(codes)
-    entries = [(0, 1, 0), (1, 5, 112), (2, 3, 132), (3, 1, 144), (4, 1, 156), (5, 1, 164), (0x2002, 5, begin), (0x2001, count, codes_at), (0x1000, 1, map_at)]
-    data = texts.ljust(codes_at - begin, b"\0") + codes
-    data += struct.pack("<I", len(entries)) + b"".join(struct.pack("<HHII", kind, 0, size, place) for kind, size, place in entries)
-    fixed = struct.pack("<IIIIII", begin + len(data), 0x70, 0x12345678, 0, 0, map_at)
-    fixed += struct.pack("<12I", 5, 112, 3, 132, 1, 144, 1, 156, 1, 164, 0, 0) + struct.pack("<II", len(data), begin)
-    rows = struct.pack("<5I", *places) + struct.pack("<3I", *TYPES) + struct.pack("<III", 2, 2, 0) + struct.pack("<HHI", 1, 0, 3) + struct.pack("<HHI", 1, 0, 4)
-    body = fixed + rows + data
-    signed = hashlib.sha1(body).digest() + body
-    with open(path, "wb") as file:
-        file.write(b"dex\n035\0" + struct.pack("<I", zlib.adler32(signed)) + signed)
+    file = Codes((made * (given.count // 1000 + 1))[: given.count * STRIDE])
+    file.index()
+    file.write(given.out)
 
 
-main()
+if __name__ == "__main__":
+    main()

@@ -1,5 +1,5 @@
 #!/usr/bin/env python3
-"""Makes .dex files of version 035 to be read: make.py SHAPE COUNT OUT, where the shape is apps, falling or members
+"""Makes .dex files of version 035 to be read.
 
 apps     so many classes in the shape of real apps, 20 methods with bodies a class; 1,500 make 10 MB with 60,000 strings
 falling  so many classes, each the superclass of the next one, in falling order of their types
@@ -7,168 +7,14 @@ members  one class of a long name with so many fields
 
 The same count gives the same file.
 """
-import hashlib, random, struct, sys, zlib
+import argparse
+import os
+import random
+import struct
+import sys
 
-
-def uleb(n):
-    out = bytearray()
-    while n >= 0x80:
-        out.append(n & 0x7F | 0x80)
-        n >>= 7
-    out.append(n)
-    return bytes(out)
-
-
-def sleb(n):
-    out = bytearray()
-    while not -64 <= n < 64:
-        out.append(n & 0x7F | 0x80)
-        n >>= 7
-    out.append(n & 0x7F)
-    return bytes(out)
-
-
-class File:
-    """Names by content; classes as dicts; written by `write`."""
-
-    def __init__(self):
-        self.strings, self.types, self.protos, self.fields, self.methods = set(), set(), set(), set(), set()
-        self.classes = []
-
-    def text(self, s):
-        self.strings.add(s)
-        return s
-
-    def type(self, t):
-        self.text(t)
-        self.types.add(t)
-        return t
-
-    def proto(self, ret, *params):
-        letter = lambda t: t if len(t) == 1 else "L"
-        self.text("".join(letter(t) for t in (ret,) + params))
-        proto = (self.type(ret), tuple(self.type(t) for t in params))
-        self.protos.add(proto)
-        return proto
-
-    def field(self, owner, name, kind):
-        field = (self.type(owner), self.text(name), self.type(kind))
-        self.fields.add(field)
-        return field
-
-    def method(self, owner, name, proto):
-        method = (self.type(owner), self.text(name), proto)
-        self.methods.add(method)
-        return method
-
-    def index(self):
-        """The indices of all names."""
-        self.string_at = {s: i for i, s in enumerate(sorted(self.strings))}
-        self.type_at = {t: i for i, t in enumerate(sorted(self.types))}
-        key = lambda p: (self.type_at[p[0]], [self.type_at[t] for t in p[1]])
-        self.proto_at = {p: i for i, p in enumerate(sorted(self.protos, key=key))}
-        key = lambda f: (self.type_at[f[0]], self.string_at[f[1]], self.type_at[f[2]])
-        self.field_at = {f: i for i, f in enumerate(sorted(self.fields, key=key))}
-        key = lambda m: (self.type_at[m[0]], self.string_at[m[1]], self.proto_at[m[2]])
-        self.method_at = {m: i for i, m in enumerate(sorted(self.methods, key=key))}
-
-    def texts(self, begin):
-        """The string_data_items from the place `begin` on, and where each begins."""
-        data, places = bytearray(), []
-        for s in self.string_at:
-            places.append(begin + len(data))
-            data.extend(uleb(len(s)) + s.encode("ascii") + b"\0")
-        return data, places
-
-    def codes(self, begin):
-        """The code_items from the place `begin` on, how many, and where that of each method begins: methods with one body share its item."""
-        data, at, made = bytearray(), {}, {}
-        for method, _, body in (m for c in self.classes for m in c["directs"] + c["virtuals"] if m[2] is not None):
-            if body not in made:
-                data.extend(bytes(-(begin + len(data)) % 4))
-                made[body] = begin + len(data)
-                data.extend(body(self))
-            at[method] = made[body]
-        return data, len(made), at
-
-    def write(self, path):
-        rows = [(1, 4, len(self.string_at)), (2, 4, len(self.type_at)), (3, 12, len(self.proto_at)), (4, 8, len(self.field_at)),
-                (5, 8, len(self.method_at)), (6, 32, len(self.classes))]
-        at, entries, header = 0x70, [(0, 1, 0)], []
-        for kind, width, count in rows:
-            header += [count, at if count else 0]
-            if count:
-                entries.append((kind, count, at))
-            at += width * count
-        begin, data = at, bytearray()
-
-        def align(n):
-            data.extend(bytes(-(begin + len(data)) % n))
-
-        def section(kind, count):
-            if count:
-                entries.append((kind, count, begin + len(data)))
-
-        lists = {p[1] for p in self.proto_at if p[1]} | {c["interfaces"] for c in self.classes if c["interfaces"]}
-        section(0x1001, len(lists))
-        list_at = {}
-        for types in sorted(lists):
-            align(4)
-            list_at[types] = begin + len(data)
-            data.extend(struct.pack("<I", len(types)) + b"".join(struct.pack("<H", self.type_at[t]) for t in types))
-        align(4)
-        codes, count, code_at = self.codes(begin + len(data))
-        section(0x2001, count)
-        data.extend(codes)
-        section(0x2002, len(self.string_at))
-        texts, text_at = self.texts(begin + len(data))
-        data.extend(texts)
-        section(0x2000, len(self.classes))
-        class_at = []
-        for c in self.classes:
-            class_at.append(begin + len(data))
-            lists_of = [sorted((self.field_at[f], flags) for f, flags in c[k]) for k in ("statics", "instances")]
-            lists_of += [sorted((self.method_at[m], flags, code_at.get(m, 0)) for m, flags, _ in c[k]) for k in ("directs", "virtuals")]
-            data.extend(b"".join(uleb(len(l)) for l in lists_of))
-            for members in lists_of:
-                last = 0
-                for index, *rest in members:
-                    data.extend(uleb(index - last) + b"".join(uleb(n) for n in rest))
-                    last = index
-        arrays = [c for c in self.classes if c["values"]]
-        section(0x2005, len(arrays))
-        array_at = {}
-        for c in arrays:
-            array_at[c["ty"]] = begin + len(data)
-            data.extend(uleb(len(c["values"])))
-            for n in c["values"]:
-                data.extend(bytes([0x64]) + struct.pack("<I", n))
-        align(4)
-        map_off = begin + len(data)
-        entries.append((0x1000, 1, map_off))
-        data.extend(struct.pack("<I", len(entries)) + b"".join(struct.pack("<HHII", k, 0, n, o) for k, n, o in entries))
-        tables = bytearray(b"".join(struct.pack("<I", o) for o in text_at))
-        tables += b"".join(struct.pack("<I", self.string_at[t]) for t in self.type_at)
-        for ret, params in self.proto_at:
-            shorty = "".join(t if len(t) == 1 else "L" for t in (ret,) + params)
-            tables += struct.pack("<III", self.string_at[shorty], self.type_at[ret], list_at.get(params, 0))
-        for owner, name, kind in self.field_at:
-            tables += struct.pack("<HHI", self.type_at[owner], self.type_at[kind], self.string_at[name])
-        for owner, name, proto in self.method_at:
-            tables += struct.pack("<HHI", self.type_at[owner], self.proto_at[proto], self.string_at[name])
-        for c, place in zip(self.classes, class_at):
-            above = self.type_at[c["superclass"]] if c["superclass"] else 0xFFFFFFFF
-            tables += struct.pack("<8I", self.type_at[c["ty"]], 1, above, list_at.get(c["interfaces"], 0), 0xFFFFFFFF, 0, place, array_at.get(c["ty"], 0))
-        size = begin + len(data)
-        fields = [size, 0x70, 0x12345678, 0, 0, map_off] + header + [len(data), begin]
-        rest = struct.pack("<20I", *fields) + bytes(tables) + bytes(data)
-        signed = hashlib.sha1(rest).digest() + rest
-        with open(path, "wb") as out:
-            out.write(b"dex\n035\0" + struct.pack("<I", zlib.adler32(signed)) + signed)
-
-
-def new_class(ty, superclass):
-    return {"ty": ty, "superclass": superclass, "interfaces": (), "statics": [], "instances": [], "directs": [], "virtuals": [], "values": []}
+sys.path.insert(0, os.path.join(os.path.dirname(os.path.abspath(__file__)), "..", "hostile"))
+from shapes import File, new_class, sleb, uleb  # noqa: E402
 
 
 def body_of(rng, calls, fields, texts):
@@ -253,8 +99,19 @@ def members(count):
     return file
 
 
-if __name__ == "__main__":
-    shape, count, out = sys.argv[1:]
-    file = {"apps": apps, "falling": falling, "members": members}[shape](int(count))
+SHAPES = {"apps": apps, "falling": falling, "members": members}
+
+
+def main():
+    words = argparse.ArgumentParser(description=__doc__, formatter_class=argparse.RawDescriptionHelpFormatter)
+    words.add_argument("shape", metavar="SHAPE", choices=SHAPES)
+    words.add_argument("count", metavar="COUNT", type=int)
+    words.add_argument("out", metavar="OUT")
+    given = words.parse_args()
+    file = SHAPES[given.shape](given.count)
     file.index()
-    file.write(out)
+    file.write(given.out)
+
+
+if __name__ == "__main__":
+    main()

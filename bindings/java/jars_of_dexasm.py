@@ -41,7 +41,10 @@ class Failed(Exception):
 
 def version() -> str:
     """As Maven writes it: 0.5.0-SNAPSHOT is before 0.5.0."""
-    return re.search(r"<artifactId>dexasm</artifactId>\s*<version>(.*?)</version>", get(HERE, "pom.xml").decode()).group(1)
+    found = re.search(r"<artifactId>dexasm</artifactId>\s*<version>(.*?)</version>", get(HERE, "pom.xml").decode())
+    if found is None:
+        raise Failed("pom.xml names no version")
+    return found[1]
 
 
 def jna() -> str:

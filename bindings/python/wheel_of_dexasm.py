@@ -9,6 +9,7 @@ import os
 import re
 import time
 import zipfile
+from collections.abc import Iterable
 
 HERE = os.path.dirname(os.path.abspath(__file__))
 BUILT = os.path.join(HERE, "..", "..", "crates", "dexasm_c", "out", "built", "libdexasm.so")
@@ -21,26 +22,29 @@ CHECKOUT = re.compile(r"^<!-- checkout -->\n.*?^<!-- /checkout -->\n\n?", re.S |
 LINK = re.compile(r"^```.*?^```|`[^`\n]*`|(!?)\[((?:[^][`]|`[^`\n]*`)*)\]\(([^)\s]+)\)", re.S | re.M)
 
 
-def get(*path):
+def get(*path: str) -> bytes:
     with open(os.path.join(*path), "rb") as file:
         return file.read()
 
 
-def version():
-    return re.search(r'^version = "(.*)"$', get(HERE, "pyproject.toml").decode(), re.MULTILINE).group(1)
+def version() -> str:
+    found = re.search(r'^version = "(.*)"$', get(HERE, "pyproject.toml").decode(), re.MULTILINE)
+    if found is None:
+        raise SystemExit("pyproject.toml names no version")
+    return found[1]
 
 
-def name_of_wheel():
+def name_of_wheel() -> str:
     return f"dexasm-{version()}-{TAG}.whl"
 
 
-def described():
+def described() -> bytes:
     """The page as the wheel has it: without what needs the repository, and without links to what isn't there."""
     page = CHECKOUT.sub("", get(HERE, "README.md").decode())
     return LINK.sub(lambda found: found[0] if found[3] is None or re.match(r"\w+:|#", found[3]) else found[2], page).encode()
 
 
-def files_of_wheel(library):
+def files_of_wheel(library: bytes) -> dict[str, bytes]:
     """Where each file stands in the wheel, and its bytes."""
     info = f"dexasm-{version()}.dist-info"
     names = [name for name in os.listdir(f"{HERE}/dexasm") if name.endswith((".py", ".typed"))]
@@ -58,16 +62,16 @@ def files_of_wheel(library):
     return files
 
 
-def digest(given):
+def digest(given: bytes) -> str:
     return "sha256=" + base64.urlsafe_b64encode(hashlib.sha256(given).digest()).decode().rstrip("=")
 
 
-def wheel(library, when):
+def wheel(library: bytes, when: int) -> bytes:
     """The bytes of the wheel: the same for the same files and the same time."""
     return zipped(sorted(files_of_wheel(library).items()), when)
 
 
-def zipped(files, when):
+def zipped(files: Iterable[tuple[str, bytes]], when: int) -> bytes:
     """The bytes of a zip archive of these files, in this order, each with this time and of nobody in particular."""
     packed = io.BytesIO()
     with zipfile.ZipFile(packed, "w", zipfile.ZIP_DEFLATED) as archive:
@@ -81,7 +85,7 @@ def zipped(files, when):
 # ---- what pip calls
 
 
-def build_wheel(wheel_directory, config_settings=None, metadata_directory=None):
+def build_wheel(wheel_directory: str, config_settings: object = None, metadata_directory: str | None = None) -> str:
     path = os.environ.get("DEXASM_LIBRARY") or BUILT
     if not os.path.exists(path):
         raise SystemExit(
@@ -92,5 +96,5 @@ def build_wheel(wheel_directory, config_settings=None, metadata_directory=None):
     return name_of_wheel()
 
 
-def build_sdist(sdist_directory, config_settings=None):
+def build_sdist(sdist_directory: str, config_settings: object = None) -> str:
     raise SystemExit("there is no source distribution: the library is built in the repository, by `tools/build library`")

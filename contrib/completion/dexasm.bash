@@ -1,5 +1,5 @@
 # shellcheck shell=bash
-# Completion of dexasm and its helpers for bash, written by tools/man: source it, or put it into /etc/bash_completion.d.
+# Completion of dexasm and its helpers for bash, written by tools/generate: source it, or put it into /etc/bash_completion.d.
 _dexasm() {
   local word=${COMP_WORDS[COMP_CWORD]} words
   case ${COMP_WORDS[1]-} in

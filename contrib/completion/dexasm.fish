@@ -1,4 +1,4 @@
-# Completion of dexasm and its helpers for fish, written by tools/man: put it into ~/.config/fish/completions.
+# Completion of dexasm and its helpers for fish, written by tools/generate: put it into ~/.config/fish/completions.
 complete -c dexasm -n __fish_use_subcommand -f -a check -d 'Checks whether a .dex file keeps every rule of its format'
 complete -c dexasm -n __fish_use_subcommand -f -a list -d 'Prints the program of a .dex file as a listing'
 complete -c dexasm -n __fish_use_subcommand -f -a assemble -d 'Turns a listing into a .dex file'

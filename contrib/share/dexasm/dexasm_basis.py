@@ -11,11 +11,11 @@ DEX, ZIP = b"dex\n", b"PK"
 class Failed(Exception):
     """What is told on standard error before a helper ends, and its exit status."""
 
-    def __init__(self, line, status=FAILED):
+    def __init__(self, line: str, status: int = FAILED) -> None:
         super().__init__(line)
         self.line, self.status = line, status
 
 
-def reason(error):
+def reason(error: OSError) -> str:
     """An error of the system in its own words, without a name."""
     return error.strerror or str(error) or type(error).__name__

@@ -1,6 +1,6 @@
 //! Reads or prints a generated listing, and prints the sum of what it gave: `listing WORK ROUNDS CLASSES`, where WORK is
 //! `parse`, `print` or `all`, and CLASSES how many classes the listing has. bench/listing/run times it beside
-//! bench/listing/plain.rs, and tools/refused-memory refuses its requests for memory.
+//! bench/listing/plain.rs, and tools/try memory refuses its requests for memory.
 
 use crate::words::{number, word};
 use bumpalo::Bump;

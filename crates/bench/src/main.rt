@@ -1,6 +1,6 @@
 //! The work that `bench/*/run` time beside plain Rust: `bench NAME WORD ..`, where NAME is `codecs`, `insns`, `needed`,
 //! `tables`, `code` or `listing`, and the words are those of the file of that name; and `bench puts`, whose requests for memory
-//! tools/refused-memory refuses. `bench all` does each once, on little; `tables` and `code` read the file on standard input.
+//! tools/try memory refuses. `bench all` does each once, on little; `tables` and `code` read the file on standard input.
 //!
 //! docs/MAP.md says where this crate stands among the others.
 #![tactic(auto)]

@@ -1,5 +1,5 @@
 //! Calls each function that appends what is public once, on a Vec that has no room left: `puts` prints for each the sum of what the Vec holds
-//! then, or the fault, and whether the Vec is as it was. tools/refused-memory refuses each of their requests in turn.
+//! then, or the fault, and whether the Vec is as it was. tools/try memory refuses each of their requests in turn.
 
 use dex_base::{Fault, adler32, put_mutf8, put_sleb, put_uleb};
 use dex_insn::{RawInsn, put_insn};

@@ -1,0 +1,381 @@
+"""The manual pages and the completions of shells: docs/man/dexasm.1 from the words of the help,
+crates/dexasm_plan/src/texts.rt, and the tables of faults of docs/FORMAT.md and docs/LISTING.md; docs/man/dexasm-listing.5
+from docs/LISTING.md; a page of each helper below contrib/bin from its docstring, which is its help; contrib/completion/
+from the help too. And whether the tables name each fault as the code does.
+"""
+import ast
+import glob
+import os
+import re
+from collections.abc import Container
+
+from .. import sought
+from .making import Made, Missing
+
+TEXTS = "crates/dexasm_plan/src/texts.rt"
+NUMBERS, NAMES = "crates/dex_base/src/fault.rt", "crates/dex_base/src/fault_names.rt"
+FORMAT, LISTING = "docs/FORMAT.md", "docs/LISTING.md"
+# Names of faults that no call answers yet.
+TO_COME = {"200"}
+JOBS = ("check", "list", "assemble", "strip")
+
+# What the texts don't say.
+OUT_PART = (
+    "The answer while it is being written, beside OUT (.1.part and so on if that name is taken). It replaces OUT when it is complete. A run that "
+    "is killed leaves it there: you can delete it, and it doesn't stop the next run. An OUT that can't be replaced, as a file with several names or a "
+    "mount point, gets its bytes once it is complete; if they don't fit there, it stays, complete. A device, a pipe, a link to nothing and a "
+    "file in a folder that takes no new file are written in place, without it. Nobody but its owner may open it until it has OUT's mode. An access "
+    "control list and extended attributes of OUT are lost, and what is the list's mask in OUT's mode is what the group may do then; to keep them, "
+    "have the shell write in place: 'dexasm strip FILE > OUT'. What replaces a file is synced to the disk first, which takes some milliseconds; "
+    "under a name that isn't there nothing waits for the disk."
+)
+# What the C library heeds.
+TUNABLES = (
+    "The GNU C library hands out the command's memory. Where /sys/kernel/mm/transparent_hugepage/enabled says 'always' or 'madvise', "
+    "\\fBglibc.malloc.hugetlb=1:glibc.malloc.top_pad=67108864:glibc.malloc.mmap_threshold=4194304\\fR asks for it in huge pages: on large "
+    "files each command then takes about a tenth less time, and up to 1.6 times the memory (docs/MEASURED.md). The answer is the same."
+)
+# The lists of faults, each with what its places are.
+FAULTS = (
+    ("Faults of a file. The place is a byte of it, from 0:", FORMAT, (*range(80), 255)),
+    ("Faults of a listing. The place is a line, from 1:", LISTING, range(100, 110)),
+    ("Rules of a program, asked of a listing that has none of these. The place is the number of a class in the listing, from 0:",
+     FORMAT, range(110, 120)),
+    ("Limits of a written file. The place is the number of a class in the listing, from 0; of 80 and 81 it is how many are needed, of 90 it is 0:",
+     FORMAT, range(80, 91)),
+)
+STATUSES = (
+    ("0", "the answer was written, or help or the version was asked for"),
+    ("1", "the file or the listing is refused; standard error says the number, name and place of the fault, as in 'dexasm: refused 8 Checksum at 8'."
+     " Where it is a terminal, a second line says in a few words what is wrong"),
+    ("2", "a bad command line; standard error says what is wrong and shows the usage (unless an argument isn't UTF-8). A .dex file that would"
+     " go to a terminal is one too: standard error says so, and nothing is read or written"),
+    ("3", "reading or writing failed; standard error says 'dexasm: cannot read' or 'dexasm: cannot write'. Where it is a terminal, a second line"
+     " has the system's reason; elsewhere 'ls -l' of the file and 'df' of its folder tell why. A pipe whose reader ends early is a failure too"),
+    ("4", "out of memory"),
+    ("70", "of the launcher ./dexasm in the repository alone: there is no program, and standard error says why"),
+)
+WORDS = (
+    "Which of these does what smali, baksmali, dexdump, javap or objdump does is the first part of docs/RECIPES.md (\"Which word does it\"), in a package "
+    "share/doc/dexasm/docs/RECIPES.md: to disassemble is `dexasm list`, to verify `dexasm check`, to dump headers and bytes `dexasm-info`."
+)
+# What each helper heeds.
+COMMAND = (
+    "The command that the helper runs. Without it that is \\fBdexasm\\fR on the PATH, or else the one that came with the helper."
+)
+
+
+def texts() -> dict[str, str]:
+    """The constants by name. A backslash at a line's end takes the line's end and the blanks after it away, as in Rust."""
+    with open(TEXTS, encoding="ascii") as file:
+        found = re.findall(r'const (\w+): &str =\s*"((?:[^"\\]|\\.|\\\n)*)";', file.read())
+    return {name: ast.literal_eval('"""' + re.sub(r"\\\n\s*", "", text) + '"""') for name, text in found}
+
+
+def plain(text: str) -> str:
+    """Text as roff has it: no line of it is a request."""
+    text = text.replace("\\", "\\e").replace("-", "\\-")
+    return "\n".join("\\&" + line if line[:1] in (".", "'") else line for line in text.split("\n"))
+
+
+def title(name: str, section: int, part: str, said: dict[str, str]) -> list[str]:
+    """What a page begins with. Its date is that of the last release, so that one source makes one page."""
+    with open("CHANGELOG.md", encoding="utf8") as file:
+        date = sought(r"^## \[[\d.]+\] - (\d{4}-\d\d-\d\d)$", file.read(), re.M)[1]
+    return ['.\\" Written by tools/generate.', f'.TH {name} {section} "{date}" "{said["HEAD"]}" "{part}"']
+
+
+def tidied(text: str) -> str:
+    """Without the paragraphs that would begin nothing: after a heading, and before a tagged or a bulleted one."""
+    return re.sub(r"^\.PP\n(?=\.[TI]P)", "", re.sub(r"^(\.SH .*\n)\.PP\n", r"\1", text, flags=re.M), flags=re.M)
+
+
+def paragraphs(text: str) -> list[str]:
+    """The paragraphs of a text, without its example."""
+    return [plain(part) for part in text.split("\n\n") if not part.startswith("Example: ")]
+
+
+def example(text: str) -> str:
+    return sought(r"Example: (.*)", text)[1]
+
+
+def page(said: dict[str, str]) -> str:
+    options = {
+        "-o, --output OUT": said["OUTPUT"],
+        "-h, --help": "Print help, on standard output",
+        "-V, --version": "Print the version, on standard output",
+    }
+    out = title("DEXASM", 1, "User Commands", said)
+    out += [".SH NAME", "dexasm \\- " + plain(said["TOOL"][:1].lower() + said["TOOL"][1:])]
+    out += [".SH SYNOPSIS"]
+    for job in JOBS:
+        align = " [\\fB\\-\\-align\\fR]" if job == "assemble" else ""
+        out += [f"\\fBdexasm {job}\\fR [\\fIFILE\\fR] [\\fB\\-\\-output\\fR \\fIOUT\\fR]{align}", ".br"]
+    out[-1:] = [".br", "\\fBdexasm\\fR [\\fIcommand\\fR] \\fB\\-\\-help\\fR", ".SH DESCRIPTION"]
+    out.append("\n.PP\n".join(part for part in paragraphs(said["TOOL_MORE"]) if not part.startswith("Exit status")))
+    out += [".SH COMMANDS"]
+    for job in JOBS:
+        name = job.upper()
+        out += [".TP", f"\\fB{job}\\fR", plain(said[name]) + "."] + [".br\n" + part for part in paragraphs(said[name + "_MORE"])]
+    out += [".SH OPTIONS", ".TP", "\\fIFILE\\fR", plain(said["FILE"]) + "."]
+    for option, text in options.items():
+        out += [".TP", f"\\fB{plain(option)}\\fR", plain(text) + "."]
+    out += [".TP", "\\fB\\-\\-align\\fR", plain(said["ALIGN"]) + ". Only of \\fBassemble\\fR."]
+    out += [".SH FILES", ".TP", "\\fIOUT\\fR.0.part", OUT_PART]
+    out += [".SH ENVIRONMENT", ".TP", "\\fBGLIBC_TUNABLES\\fR", TUNABLES]
+    out += [".SH EXIT STATUS"]
+    for status, text in STATUSES:
+        out += [".TP", f"\\fB{status}\\fR", plain(text) + "."]
+    out += [".SH FAULTS", "Each refusal has the number of a fault, its name, and its place. Each list is in the order in which faults are asked."]
+    for what, path, numbers in FAULTS:
+        out += [".PP", what, *rows_of(path, numbers)]
+    out += [".SH EXAMPLES", ".nf"]
+    out += [plain(example(said[job.upper() + "_MORE"])) for job in JOBS] + [".fi"]
+    pages = [f"\\fB{plain(name)}\\fR({section})" for name, section in [("dexasm-listing", 5), *((name, 1) for name in helpers()), ("dexdump", 1)]]
+    out += [".SH SEE ALSO", ", ".join(pages) + ".", ".PP", inline(WORDS)]
+    return "\n".join(out) + "\n"
+
+
+def faults(path: str) -> list[tuple[str, str, str, str]]:
+    """The rows of a document's tables of faults: number, name, meaning, place."""
+    with open(path, encoding="utf8") as file:
+        return re.findall(r"^\| (\d+) \| (\w+) \| (.*) \| (.*) \|$", file.read(), re.M)
+
+
+def rows_of(path: str, numbers: Container[int]) -> list[str]:
+    out = []
+    for number, name, meaning, place in faults(path):
+        if int(number) not in numbers:
+            continue
+        out += [".TP", f"\\fB{number} {name}\\fR", inline(f"{meaning}. Place: {place}.")]
+    return out
+
+
+def inline(text: str) -> str:
+    """A line of a document as roff: code is bold."""
+    return re.sub(r"`([^`]*)`", r"\\fB\1\\fR", plain(text))
+
+
+def listing_page(said: dict[str, str]) -> str:
+    """docs/LISTING.md as a page of section 5, without its last part, which is for those who work on dexasm."""
+    with open(LISTING, encoding="ascii") as file:
+        text = file.read().split("## Where each rule stands")[0]
+    out = title("DEXASM-LISTING", 5, "File Formats", said)
+    out += [".SH NAME", "dexasm\\-listing \\- a program of a .dex file as text", ".SH DESCRIPTION"]
+    is_code, is_table = False, False
+    for line in text.split("\n")[1:]:
+        if line.startswith("```"):
+            is_code = not is_code
+            out.append(".PP\n.nf" if is_code else ".fi")
+        elif is_code:
+            out.append(plain(line))
+        elif line.startswith("## "):
+            out.append(".SH " + plain(line[3:].upper()))
+        elif line.startswith("|"):
+            out += table_row(line, not is_table)
+        elif line.startswith("- "):
+            out += [".IP \\(bu 2", inline(line[2:])]
+        elif line:
+            out.append(inline(line.strip()))
+        else:
+            out.append(".PP")
+        is_table = line.startswith("|")
+    return tidied("\n".join(out).replace("\n.PP\n.SH", "\n.SH").replace(".PP\n.PP", ".PP").removesuffix("\n.PP") + "\n")
+
+
+def table_row(line: str, is_head: bool) -> list[str]:
+    """A row as a tagged paragraph; heads and rules are left out."""
+    cells = [cell.strip() for cell in re.split(r"(?<!\\)\|", line.strip("|"))]
+    if is_head or set(line) <= set("|- "):
+        return []
+    return [".TP", inline(cells[0]), inline("; ".join(cell for cell in cells[1:] if cell))]
+
+
+def helpers() -> dict[str, str]:
+    """The docstrings of the helpers by their names."""
+    found = {}
+    for path in sorted(glob.glob("contrib/bin/*")):
+        with open(path, encoding="ascii") as file:
+            found[os.path.basename(path)] = ast.get_docstring(ast.parse(file.read())) or ""
+    return found
+
+
+def uses_of(doc: str) -> list[str]:
+    """A helper's lines of usage."""
+    return [line.strip() for line in sought(r"^usage: (.*(?:\n +.*)*)", doc, re.M)[1].split("\n")]
+
+
+def helper_page(name: str, doc: str, said: dict[str, str]) -> str:
+    """The page of a helper: what it does, its usage, its paragraphs, and its statuses, which its last paragraph has."""
+    what, _, *parts, statuses = doc.split("\n\n")
+    out = title(name.upper(), 1, "User Commands", said)
+    out += [".SH NAME", f"{plain(name)} \\- {plain(what[:1].lower() + what[1:].rstrip('.').replace(chr(10), ' '))}", ".SH SYNOPSIS"]
+    out.append("\n.br\n".join(f"\\fB{plain(name)}\\fR {plain(use.removeprefix(name).strip())}" for use in uses_of(doc)))
+    out.append(".SH DESCRIPTION")
+    for part in parts:
+        out += helper_rows(part) if part.startswith("  ") else [inline(part), ".PP"]
+    out += [".SH EXIT STATUS", inline(statuses.removeprefix("Exit status: "))]
+    out += [".SH ENVIRONMENT", ".TP", "\\fBDEXASM_COMMAND\\fR", COMMAND]
+    out += [".SH SEE ALSO", "\\fBdexasm\\fR(1), \\fBdexasm\\-listing\\fR(5)"]
+    return tidied("\n".join(out).replace("\n.PP\n.SH", "\n.SH") + "\n")
+
+
+def helper_rows(part: str) -> list[str]:
+    """Lines of a word and what it is: tagged paragraphs, and a plain one after them."""
+    out = []
+    for line in re.sub(r"\n {4,}", " ", part).split("\n"):
+        word, text = sought(r"^  (\S+) +(.*)$", line).groups()
+        out += [".TP", f"\\fB{plain(word)}\\fR", inline(text)]
+    return out + [".PP"]
+
+
+def helper_words(doc: str) -> tuple[list[str], dict[str, list[str]]]:
+    """What a helper's first word can be, and its options: each with the words that may follow, FILE for any file, or nothing."""
+    uses = " ".join(uses_of(doc))
+    second = [word for use in uses_of(doc) for word in re.sub(r"\[[^]]*\]", "", use).split()[1:2]]
+    first = dict.fromkeys(word for words in second for word in words.split("|") if re.fullmatch("[a-z]+", word))
+    columns = re.findall(r"^  ([a-z]+) ", doc, re.M) + ["name"]
+    options: dict[str, list[str]] = {"--help": [], "--version": []}
+    for option, follows in re.findall(r"(--[a-z]+(?:-[a-z]+)*)(?: ([A-Za-z|]+))?", uses):
+        words = columns if follows == "COLUMN" else ["FILE"] if follows in ("OUT", "FOLDER") else []
+        if "|" in follows:
+            words = [word for word in follows.split("|") if word.islower()]  # (METHOD is any word)
+        options.setdefault(option, words)
+    return [*first], options
+
+
+def options_of(job: str, said: dict[str, str]) -> list[tuple[str, str, bool]]:
+    """The options of a job: what they are called, what they do, whether a file follows. --output, alone, has a short name too, -o."""
+    align = [("--align", said["ALIGN"], False)] if job == "assemble" else []
+    return [("--output", said["OUTPUT"], True), *align, ("--help", "Print help", False)]
+
+
+def bash(said: dict[str, str]) -> str:
+    """Words for bash."""
+    cases = [f"    {job}) words='{' '.join(option for option, _, _ in options_of(job, said))}' ;;" for job in JOBS]
+    own, follow = [], []
+    for name, doc in helpers().items():
+        first, options = helper_words(doc)
+        own.append(f"    {name}) first='{' '.join(first)}' options='{' '.join(options)}' ;;")
+        follow += [f"    {name}/{option}) words='{' '.join(words)}' ;;" for option, words in options.items() if words and words != ["FILE"]]
+    return "\n".join([
+        "# shellcheck shell=bash",
+        "# Completion of dexasm and its helpers for bash, written by tools/generate: source it, or put it into /etc/bash_completion.d.",
+        "_dexasm() {",
+        "  local word=${COMP_WORDS[COMP_CWORD]} words",
+        "  case ${COMP_WORDS[1]-} in",
+        *cases,
+        f"    *) words='{' '.join(JOBS)} --help --version' ;;",
+        "  esac",
+        "  if ((COMP_CWORD == 1)) || [[ $word == -* ]]; then",
+        '    mapfile -t COMPREPLY < <(compgen -W "$words" -- "$word")',
+        "  else",
+        '    mapfile -t COMPREPLY < <(compgen -f -- "$word")',
+        "  fi",
+        "}",
+        "_dexasm_helper() {",
+        "  local name=${COMP_WORDS[0]##*/} word=${COMP_WORDS[COMP_CWORD]} first='' options='' words=''",
+        "  case $name in",
+        *own,
+        "  esac",
+        "  case $name/${COMP_WORDS[COMP_CWORD - 1]} in",
+        *follow,
+        '    *) if [[ $word == -* ]]; then words=$options; elif ((COMP_CWORD == 1)); then words=$first; fi ;;',
+        "  esac",
+        '  if [ -n "$words" ]; then',
+        '    mapfile -t COMPREPLY < <(compgen -W "$words" -- "$word")',
+        "  else",
+        '    mapfile -t COMPREPLY < <(compgen -f -- "$word")',
+        "  fi",
+        "}",
+        "complete -o filenames -F _dexasm dexasm",
+        f"complete -o filenames -F _dexasm_helper {' '.join(helpers())}",
+    ]) + "\n"
+
+
+def zsh(said: dict[str, str]) -> str:
+    """Words for zsh."""
+
+    def quoted(text: str) -> str:
+        return re.sub(r"([\[\]:])", r"\\\1", text.replace("'", "'\\''"))
+
+    out = [f"#compdef dexasm {' '.join(helpers())}"]
+    out += ["# Completion of dexasm and its helpers for zsh, written by tools/generate: put it into a folder of $fpath.", "_dexasm() {"]
+    out += ["  case ${words[1]:t} in"]
+    for name, doc in helpers().items():
+        first, options = helper_words(doc)
+        rules = ["'" + option + rule(words) + "'" for option, words in options.items()]
+        rules += [f"'1:what:({' '.join(first)})'"] if first else []
+        out.append(f"    {name}) _arguments {' '.join(rules)} '*:file:_files'; return ;;")
+    out += ["  esac", "  local -a jobs", "  jobs=("]
+    out += [f"    '{job}:{quoted(said[job.upper()])}'" for job in JOBS] + ["  )"]
+    out += ["  if ((CURRENT == 2)); then", "    _describe command jobs", "    _arguments '--help[Print help]' '--version[Print version]'", "    return", "  fi"]
+    out += ["  case $words[2] in"]
+    for job in JOBS:
+        rules = [
+            f"'(-o --output)'{{-o,--output=}}'[{quoted(text)}]:file:_files'" if is_file else f"'{option}[{quoted(text)}]'"
+            for option, text, is_file in options_of(job, said)
+        ]
+        out += [f"    {job}) _arguments {' '.join(rules)} '*:file:_files' ;;"]
+    return "\n".join(out + ["  esac", "}", '_dexasm "$@"']) + "\n"
+
+
+def rule(words: list[str]) -> str:
+    """What follows an option of a helper, as zsh's _arguments has it; an equals sign may stand before it."""
+    return "=:file:_files" if words == ["FILE"] else f"=:word:({' '.join(words)})" if words else ""
+
+
+def fish(said: dict[str, str]) -> str:
+    """Words for fish."""
+
+    def quoted(text: str) -> str:
+        return text.replace("\\", "\\\\").replace("'", "\\'")
+
+    out = ["# Completion of dexasm and its helpers for fish, written by tools/generate: put it into ~/.config/fish/completions."]
+    out += [f"complete -c dexasm -n __fish_use_subcommand -f -a {job} -d '{quoted(said[job.upper()])}'" for job in JOBS]
+    out += ["complete -c dexasm -n __fish_use_subcommand -f -s V -l version -d 'Print version'", "complete -c dexasm -s h -l help -d 'Print help'"]
+    for job in JOBS:
+        for option, text, is_file in options_of(job, said)[:-1]:
+            takes = "-r -F -s o" if is_file else "-f"
+            out += [f"complete -c dexasm -n '__fish_seen_subcommand_from {job}' {takes} -l {option[2:]} -d '{quoted(text)}'"]
+    for name, doc in helpers().items():
+        first, options = helper_words(doc)
+        out += [f"complete -c {name} -n __fish_use_subcommand -a '{' '.join(first)}'"] if first else []
+        for option, words in options.items():
+            takes = " -r -F" if words == ["FILE"] else f" -x -a '{' '.join(words)}'" if words else ""
+            out.append(f"complete -c {name} -l {option[2:]}{takes}")
+    return "\n".join(out) + "\n"
+
+
+def misnamed() -> list[str]:
+    """The faults that the documents name otherwise than the code, or not at all."""
+    with open(NUMBERS, encoding="utf8") as file:
+        numbers = dict(re.findall(r"pub const (\w+): u16 = (\d+);", file.read()))
+    with open(NAMES, encoding="utf8") as file:
+        rows = re.findall(r'row!\((?:fault::)?(\w+), "(\w+)"', file.read())
+    named = {numbers.get(number, number): name for number, name in rows}
+    told = {number: name for path in (FORMAT, LISTING) for number, name, _, _ in faults(path)}
+    return [number for number in sorted({*named, *told}, key=int) if number not in TO_COME and named.get(number) != told.get(number)]
+
+
+def look_at_version(said: dict[str, str]) -> None:
+    """That the help, the version and the CHANGELOG speak of one version."""
+    if said["HEAD"] != f"dexasm {said['VERSION']}":
+        raise Missing(f"{TEXTS}: HEAD doesn't have VERSION")
+    section = "Unreleased" if said["VERSION"].endswith("-dev") else said["VERSION"]
+    with open("CHANGELOG.md", encoding="utf8") as file:
+        if f"## [{section}]" not in file.read():
+            raise Missing(f"CHANGELOG.md has no section [{section}]")
+
+
+def made() -> Made:
+    said = texts()
+    pages = {"docs/man/dexasm.1": page(said), "docs/man/dexasm-listing.5": listing_page(said)}
+    pages |= {f"docs/man/{name}.1": helper_page(name, doc, said) for name, doc in helpers().items()}
+    pages |= {f"contrib/completion/{name}": words(said) for name, words in (("dexasm.bash", bash), ("_dexasm", zsh), ("dexasm.fish", fish))}
+    if misnamed():
+        raise Missing(f"{FORMAT} and {LISTING} don't name these faults as {NAMES} does: {', '.join(misnamed())}")
+    look_at_version(said)
+    if wide := [path for path, text in pages.items() if not text.isascii()]:
+        raise Missing(f"no manual page has other characters than ASCII: {', '.join(wide)}")
+    return Made(pages, [])

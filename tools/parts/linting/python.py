@@ -1,0 +1,67 @@
+"""What is written in Python: names that nothing uses or has, by pyflakes; and types, by mypy with the settings of
+pyproject.toml. Where neither is installed, nothing is looked at."""
+import glob
+import os
+import shutil
+import subprocess
+
+from . import Seen
+
+FOLDERS = ("tools", "contrib", "bindings", "bench")
+FLAKES = ("pyflakes3", "pyflakes")
+KNOWN = "tools/parts/out/mypy"  # what mypy has found before, which takes it a minute
+
+
+def is_python(path: str) -> bool:
+    """Whether a file is Python, by its name or by its first line."""
+    if path.endswith(".py"):
+        return True
+    if "." in os.path.basename(path) or not os.access(path, os.X_OK):
+        return False
+    with open(path, "rb") as file:
+        return file.readline().rstrip() == b"#!/usr/bin/env python3"
+
+
+def sources() -> list[str]:
+    found = [path for folder in FOLDERS for path in glob.glob(f"{folder}/**/*", recursive=True)]
+    return sorted(path for path in found if os.path.isfile(path) and is_python(path))
+
+
+def by_flakes(command: str, paths: list[str]) -> list[str]:
+    """What pyflakes finds, but for what a line marked noqa is said to want so."""
+    said = subprocess.run([command, *paths], capture_output=True, text=True)
+    return [line for line in (said.stdout + said.stderr).splitlines() if line and not is_excused(line)]
+
+
+def is_excused(line: str) -> bool:
+    """Whether the line of a file that this is told of has the word noqa."""
+    path, _, rest = line.partition(":")
+    number = rest.partition(":")[0]
+    if not number.isdecimal() or not os.path.isfile(path):
+        return False
+    with open(path, encoding="utf8") as file:
+        lines = file.read().split("\n")
+    return int(number) <= len(lines) and "# noqa" in lines[int(number) - 1]
+
+
+def by_mypy() -> list[str]:
+    """What mypy finds; pyproject.toml says where it looks."""
+    words = ["mypy", "--no-error-summary", "--cache-dir", KNOWN]
+    said = subprocess.run(words, capture_output=True, text=True)
+    lines = (said.stdout + said.stderr).splitlines()
+    return lines if said.returncode else []
+
+
+def look() -> Seen:
+    paths, wrong, by = sources(), [], []
+    if command := next(filter(shutil.which, FLAKES), None):
+        by.append("pyflakes")
+        wrong += by_flakes(command, paths)
+    if shutil.which("mypy"):
+        by.append("mypy")
+        wrong += by_mypy()
+    if not by:
+        return Seen([], missing="neither pyflakes nor mypy is installed (Debian: pyflakes3, mypy)", is_needed=False)
+    lacking = [name for name in ("pyflakes", "mypy") if name not in by]
+    said = f"{len(paths)} files of Python, by {' and '.join(by)}"
+    return Seen(wrong, said + (f"; {lacking[0]} isn't installed here" if lacking else ""))

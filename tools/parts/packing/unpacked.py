@@ -1,0 +1,227 @@
+"""The packages, each unpacked elsewhere and tried there. What needs a tool that isn't here isn't tried."""
+import glob
+import os
+import re
+import shutil
+import subprocess
+import sys
+import tempfile
+import zipfile
+from collections.abc import Iterator
+from typing import Any
+
+from .. import TOP, sought
+from ..tries.trying import check, ended, get
+from .packing import GLIBC
+
+LIMIT = 300  # seconds for a command
+# Pages that speak of how dexasm is made, and so of its toolchain; no other page of a package does.
+OF_MAKING = {f"docs/{name}.md" for name in ("COOKBOOK", "DECISIONS", "FILES", "MAP", "MEASURED", "PROVED")} | {"bench/LOG.md", "CHANGELOG.md"}
+TOOLCHAIN = re.compile(r"(?<![\w.-])rt(?![\w.-])|tools/(?:build|quick)|(?<![./])\./dexasm(?![\w-])|<!--")
+# What the lines of docs/PACKAGE.md are for.
+PATHS = """dexasm --version && dexasm-close --version && python3 -B -c 'import dexasm; print(dexasm.version())'
+if command -v pkg-config >/dev/null; then pkg-config --modversion dexasm; else echo none; fi
+if command -v man >/dev/null; then man -w dexasm-check | sed "s=^$PWD/=="; else echo none; fi
+complete -p dexasm | cut -c1-8
+"""
+# A helper over the module that they share, over a page, and over both modules.
+HELPED = (
+    ("dexasm assemble hello.txt | dexasm-query calls", '{\n "LHello;->get(Z)I": []\n}\n'),
+    ("dexasm check hello.dex 2>&1 | dexasm-explain hello.dex | sed -n 2p", "  8: the Adler-32 differs: the file was damaged or changed.\n"),
+    ("dexasm assemble hello.txt --output good.dex && dexasm-size good.dex --html size.html | tail -n 1 | grep -o all$", "all\n"),
+    ("dexasm-info --hex 0..4 good.dex | tail -n 1", "00000000  64 65 78 0a              magic 64 65 78 0a 30 33 35 00\n"),
+    ("dexasm-merge --same good.dex good.dex --output both.dex && cmp good.dex both.dex", ""),
+    ("dexasm-size good.dex both.dex | tail -n 1 | grep -o all$", "all\n"),
+    ("dexasm-browse good.dex --output pages && ls pages/class", "0.html\n"),
+)
+
+# The module's answer of a file with one class.
+PROGRAM = """
+import dexasm
+file = open("hello.dex", "rb").read()
+program = dexasm.Program.read(file)
+print(program.classes[0].name, program.write() == dexasm.strip(file))
+"""
+
+
+def runs(what: str, *words: str, want: str | None = None, **options: Any) -> None:
+    """Whether these words end well, and print what is wanted."""
+    status, said, why = ended(words, LIMIT, stdout=subprocess.PIPE, stderr=subprocess.STDOUT, **options)
+    told = said.decode("utf8", "replace")
+    check(what, status == 0 if want is None else told == want, repr(told[-600:]) if status != "late" else why)
+
+
+def session() -> Iterator[tuple[str, str]]:
+    """README's session: each command with what it prints, or with what is typed into it."""
+    text = sought(r"```console\n(.*?)```", get(f"{TOP}/README.md").decode(), re.S)[1]
+    for step in re.split(r"^\$ ", text, flags=re.M)[1:]:
+        command, _, rest = step.partition("\n")
+        yield command, rest
+
+
+def as_nobody(home: str) -> list[str]:
+    """Words before a command that root gives, by which nobody gives it; the folder is nobody's then."""
+    if os.geteuid() != 0 or not shutil.which("setpriv"):
+        return []
+    os.chown(home, 65534, 65534)
+    return ["setpriv", "--reuid=65534", "--regid=65534", "--clear-groups", "--no-new-privs"]
+
+
+def try_session(what: str, folder: str, home: str) -> None:
+    """README's session with the program below that folder, and the library by Python."""
+    drop = as_nobody(home)
+    places = {"PATH": f"{folder}/bin:/usr/local/bin:/usr/bin:/bin", "HOME": home, "LANG": "C.UTF-8"}
+    env = {**places, "DEXASM_LIBRARY": f"{folder}/lib/libdexasm.so.0", "PYTHONPATH": f"{folder}/lib/python3/dist-packages"}
+    steps = [*session(), ("/usr/bin/env python3 -B -m dexasm check hello.dex", "dexasm: refused 8 Checksum at 8\n"), *HELPED]
+    for command, rest in steps:
+        is_typed = command.startswith("cat >")
+        given, want = (rest.encode(), "") if is_typed else (b"", rest)
+        runs(f"{what}: {command}", *drop, "bash", "-c", command, want=want, cwd=home, env=env, input=given)
+
+
+def try_c(what: str, folder: str, room: str) -> None:
+    """A caller in C, as pkg-config says that it is compiled."""
+    if not shutil.which("pkg-config") or not shutil.which("cc"):
+        return
+    env = {**os.environ, "PKG_CONFIG_PATH": f"{folder}/lib/pkgconfig:{folder}/share/pkgconfig", "LD_LIBRARY_PATH": f"{folder}/lib"}
+    source, made = f"{folder}/share/doc/dexasm/examples/example.c", f"{room}/example"
+    compile = f"cc -Wall -Werror {source} $(pkg-config --cflags --libs dexasm) -o {made}"
+    runs(f"{what}: by pkg-config and cc", "bash", "-c", compile, env=env, cwd=room)
+    runs(f"{what}: the caller in C", made, "check", f"{room}/hello.dex", want="ok\n", env=env)
+
+
+def try_rust(what: str, folder: str, room: str) -> None:
+    """The crate in the package, by cargo."""
+    if not shutil.which("cargo"):
+        return
+    shutil.copytree(f"{folder}/share/doc/dexasm/rust", f"{room}/rust")
+    env = {**os.environ, "DEXASM_LIB": f"{folder}/lib"}
+    words = ["cargo", "run", "--quiet", "--offline", "--example", "run", "check", f"{room}/hello.dex"]
+    runs(f"{what}: by cargo", *words, want="ok\n", env=env, cwd=f"{room}/rust")
+
+
+def try_java(what: str, folder: str, room: str) -> None:
+    """The jar in the package, with the package's library."""
+    jar = f"{folder}/share/java/dexasm.jar"
+    if not os.path.exists(jar):
+        return
+    env = {**os.environ, "DEXASM_LIBRARY": f"{folder}/lib/libdexasm.so.0"}
+    runs(f"{what}: by java", "java", "-jar", jar, "check", f"{room}/hello.dex", want="ok\n", env=env)
+
+
+def try_jar(path: str, sample: bytes) -> None:
+    """The jar that has the library inside; of the sources whether they are there."""
+    what = os.path.basename(path)
+    with tempfile.TemporaryDirectory() as room:
+        with open(f"{room}/hello.dex", "wb") as file:
+            file.write(sample)
+        env = {name: value for name, value in os.environ.items() if name not in ("CLASSPATH", "DEXASM_LIBRARY")}
+        if path.endswith("-sources.jar"):
+            check(f"{what}: the sources", "dexasm/Dexasm.java" in zipfile.ZipFile(path).namelist())
+        else:
+            runs(f"{what}: by java", "java", "-jar", path, "check", "hello.dex", want="ok\n", env=env, cwd=room)
+
+
+def try_glibc(what: str, folder: str) -> None:
+    """That no younger C library is asked for than the package says."""
+    for place, most in GLIBC.items():
+        asked = [tuple(map(int, found.split(b"."))) for found in re.findall(rb"\0GLIBC_(\d+\.\d+)", get(f"{folder}/{place}"))]
+        check(f"{what}: {place} asks for glibc {most}", asked and max(asked) <= most, max(asked, default=None))
+
+
+def headings(text: str) -> set[str]:
+    """The headings of a page as links name them."""
+    heads = re.findall(r"^#+ (.*)$", re.sub(r"^```.*?^```", "", text, flags=re.S | re.M), re.M)
+    return {re.sub(r"[^\w\- ]", "", head.lower()).replace(" ", "-") for head in heads}
+
+
+def try_links(what: str, folder: str) -> None:
+    """That each link of a page leads to what is packed, and to a heading that is there; and that there are some."""
+    pages = sorted(glob.glob(f"{glob.escape(folder)}/share/doc/dexasm/**/*.md", recursive=True))
+    pages += glob.glob(f"{glob.escape(folder)}/README.md")
+    lost, count = [], 0
+    for page in pages:
+        text = re.sub(r"^```.*?^```|`[^`\n]*`", "", get(page).decode(), flags=re.S | re.M)
+        for target in re.findall(r"\]\((?!\w+:)([^)\s]+)\)", text):
+            to, _, anchor = target.partition("#")
+            there, count = os.path.join(os.path.dirname(page), to) if to else page, count + 1
+            if not os.path.exists(there) or anchor and anchor not in headings(get(there).decode()):
+                lost.append(f"{os.path.relpath(page, folder)}: {target}")
+    check(f"{what}: links", count > 50 and not lost, (count, lost))
+    names = {os.path.relpath(page, f"{folder}/share/doc/dexasm") for page in pages}
+    check(f"{what}: pages", {"README.md", "SECURITY.md", "CHANGELOG.md", "docs/PROVED.md"} <= names, names)
+
+
+def try_readers(what: str, folder: str) -> None:
+    """That what a reader of a package meets speaks of no toolchain, which isn't there, and says where what lies."""
+    doc = f"{folder}/share/doc/dexasm"
+    pages = {os.path.relpath(page, doc): get(page).decode() for page in glob.glob(f"{glob.escape(doc)}/**/*.md", recursive=True)}
+    pages |= {name: get(f"{folder}/{name}").decode() for name in ("README.md",) if os.path.exists(f"{folder}/{name}")}
+    told = {name: TOOLCHAIN.findall(page) for name, page in pages.items() if name not in OF_MAKING}
+    check(f"{what}: no page wants a toolchain", len(told) > 10 and not any(told.values()), {name: it for name, it in told.items() if it})
+    check(f"{what}: README says where what lies", "\n## Install\n" in pages["README.md"] and "PKG_CONFIG_PATH" in pages["README.md"])
+
+
+def try_paths(what: str, path: str, top: str, room: str) -> None:
+    """The lines of docs/PACKAGE.md for the archive, as they stand there, in a folder that has it."""
+    lines = sought(r"^```bash\n(.*?)^```$", get(f"{TOP}/docs/PACKAGE.md").decode(), re.S | re.M)[1]
+    os.mkdir(f"{room}/sp ace")
+    shutil.copy(path, f"{room}/sp ace")
+    number = top.removeprefix("dexasm-").removesuffix("-linux-x86_64")
+    env = {"PATH": "/usr/local/bin:/usr/bin:/bin", "HOME": room, "LANG": "C.UTF-8"}
+    want = f"dexasm {number}\ndexasm-close {number}\n{number}\n"
+    want += f"{number if shutil.which('pkg-config', path=env['PATH']) else 'none'}\n"
+    want += f"{'share/man/man1/dexasm-check.1' if shutil.which('man', path=env['PATH']) else 'none'}\ncomplete\n"
+    runs(f"{what}: the lines of PACKAGE", "bash", "-c", lines + PATHS, want=want, cwd=f"{room}/sp ace", env=env)
+
+
+def try_package(path: str, top: str, sample: bytes) -> None:
+    """A .tar.gz or a .deb; `sample` is a file that `check` accepts."""
+    what = os.path.basename(path)
+    with tempfile.TemporaryDirectory() as room:
+        os.chmod(room, 0o755)
+        words = ["tar", "-xzf", path, "-C", room] if path.endswith(".gz") else ["dpkg-deb", "-x", path, room]
+        runs(f"{what}: unpacked", *words)
+        folder, home = os.path.join(room, top if path.endswith(".gz") else "usr"), os.path.join(room, "home")
+        os.mkdir(home)
+        with open(f"{room}/hello.dex", "wb") as file:
+            file.write(sample)
+        try_session(what, folder, home)
+        try_glibc(what, folder)
+        try_links(what, folder)
+        try_readers(what, folder)
+        if path.endswith(".gz"):
+            try_paths(what, path, top, room)
+        try_c(what, folder, room)
+        try_rust(what, folder, room)
+        try_java(what, folder, room)
+        if path.endswith(".deb") and shutil.which("lintian"):
+            runs(f"{what}: by lintian", "lintian", "--allow-root", "--fail-on", "error", path, cwd=room)
+
+
+def try_wheels(wheel: str, library: str, sample: bytes) -> None:
+    """The wheel, and the one that pip makes of the folder, each in an environment of its own."""
+    with tempfile.TemporaryDirectory() as room:
+        with open(f"{room}/hello.dex", "wb") as file:
+            file.write(sample)
+        env = {name: value for name, value in os.environ.items() if name not in ("PYTHONPATH", "DEXASM_LIBRARY")}
+        with zipfile.ZipFile(wheel) as held:
+            told = held.read(next(name for name in held.namelist() if name.endswith("/METADATA"))).decode()
+        links = re.findall(r"\]\((?!https?:|#)[^)]*\)", told)
+        is_so = "## Programs as objects" in told and not links and not TOOLCHAIN.search(told)
+        check("what the wheel says of itself", is_so, (links, TOOLCHAIN.findall(told)))
+        for what, given, options in (
+            (os.path.basename(wheel), wheel, env),
+            ("bindings/python", f"{TOP}/bindings/python", {**env, "DEXASM_LIBRARY": f"{library}/libdexasm.so"}),
+        ):
+            python = f"{room}/{len(options)}/bin/python"
+            runs(f"{what}: an environment", sys.executable, "-m", "venv", f"{room}/{len(options)}", env=env)
+            install = ["-m", "pip", "install", "--quiet", "--no-index", "--disable-pip-version-check", given]
+            runs(f"{what}: by pip", python, *install, env=options, cwd=room)
+            runs(f"{what}: check", python, "-m", "dexasm", "check", "hello.dex", want="ok\n", env=env, cwd=room)
+            command = f"{room}/{len(options)}/bin/dexasm"
+            runs(f"{what}: its command", command, "check", "hello.dex", want="ok\n", env=env, cwd=room)
+            typed = "import dexasm, pathlib; print(pathlib.Path(dexasm.__file__).with_name('py.typed').exists())"
+            runs(f"{what}: its types", python, "-c", typed, want="True\n", env=env, cwd=room)
+            runs(f"{what}: programs", python, "-c", PROGRAM, want="LHello; True\n", env=env, cwd=room)
+            runs(f"{what}: programs", python, "-c", PROGRAM, want="LHello; True\n", env=env, cwd=room)

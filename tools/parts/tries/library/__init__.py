@@ -1,0 +1,1 @@
+"""libdexasm and its bindings, beside the command."""

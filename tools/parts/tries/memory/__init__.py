@@ -1,0 +1,1 @@
+"""The built program with requests for memory refused."""

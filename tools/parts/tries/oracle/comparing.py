@@ -1,0 +1,213 @@
+"""The proofs say that the program does what the definitions below specs/ say, not that those are the rules of
+docs/FORMAT.md and docs/LISTING.md. This compares it with a second reading of both pages, written apart from the
+definitions, by hand. Where the two differ, one of them or a page is wrong; where they agree, both may be wrong in the
+same way.
+
+There are three comparisons, each on worked examples and on cases made at random:
+  check  `check` with faults.py, on files changed at random, most of them at fault (N of them, or 3000)
+  texts  `assemble` and `list` with listing.py and writing.py, on listings, most of them at fault (N, or 1500); with
+         --large also on those that are at the edges of the limits of a file, which takes a minute or two
+  files  `strip` and `list` with reading.py, writing.py and listing.py, on files without fault (N, or 500), among them
+         one program spelled in nineteen ways
+With --only one of them alone. The files of `check` are made of random programs, and of those .dex files below --files
+that have no fault and at most 64 KB; larger ones are compared as they are. `files` compares the .dex files below it
+too. The same seed gives the same cases. A case on which the two differ is kept in a temporary folder, and a line says what each answers. """
+import collections
+import itertools
+import os
+import random
+import subprocess
+import sys
+import tempfile
+
+from ..trying import Counted, last_line
+from . import faults
+from .examples import examples
+from .listing import parse, print_listing
+from .loose import file_examples, random_files
+from .mutating import Spots, mutated, random_samples
+from .pages import NUMBERS, Refusal
+from .reading import read
+from .spelled import spelled
+from .textexamples import text_examples
+from .texts import random_texts
+from .writing import align, write
+
+LIMIT = 60  # seconds for a case
+LARGEST = 1 << 16  # bytes of a file below FOLDER that is changed
+OK = b"ok\n"
+
+
+def answer_of(program, words, data):
+    """What the program writes; where it refuses, its line as a text; where it does neither as the manual says, how."""
+    try:
+        done = subprocess.run([program, *words], input=data, capture_output=True, timeout=LIMIT)
+    except subprocess.TimeoutExpired:
+        return f"no answer within {LIMIT} s"
+    if (done.returncode, done.stderr) == (0, b""):
+        return done.stdout
+    if (done.returncode, done.stdout) == (1, b""):
+        return done.stderr.decode("latin1")
+    return f"status {done.returncode}, {done.stdout[:60]!r}, {done.stderr[:200]!r}"
+
+
+def shown(answer):
+    return answer.strip() if isinstance(answer, str) else f"{len(answer)} bytes"
+
+
+class Comparison:
+    """Cases of one of the three comparisons, how many differed, and which faults there were."""
+
+    def __init__(self, program, tables):
+        self.program, self.tables = program, tables
+        self.tried, self.failed, self.folder = 0, 0, None
+        self.counts = collections.Counter()
+
+    def keep(self, data, suffix):
+        self.folder = self.folder or tempfile.mkdtemp(prefix="oracle-")
+        path = os.path.join(self.folder, f"{self.failed}{suffix}")
+        with open(path, "wb") as file:
+            file.write(data)
+        return path
+
+    def told(self, what, data, suffix, answers):
+        """Counts a case; where the answers, as (whose, answer), aren't one, says so. Answers whether they are."""
+        if all(answer == answers[0][1] for _, answer in answers):
+            return True
+        self.failed += 1
+        said = "; ".join(f"{whose}: {shown(answer)}" for whose, answer in answers)
+        print(f"{what}: DIFFERS: {said}; kept in {self.keep(data, suffix)}", flush=True)
+        return False
+
+    def summary(self):
+        names = [(table, name) for table in self.tables for name in NUMBERS[table] if name not in ("Memory", "TooBig")]
+        missing = [f"{NUMBERS[table][name]} {name}" for table, name in names if (table, name) not in self.counts]
+        return f"{self.counts[None]} accepted; faults that no case had: {', '.join(missing) or 'none'}"
+
+
+class CheckComparison(Comparison):
+    def __init__(self, program):
+        super().__init__(program, ["file"])
+        self.samples = []
+
+    def line(self, answer):
+        """How the program says this answer."""
+        return OK if answer is None else str(Refusal("file", *answer))
+
+    def compare(self, what, data, *given):
+        """Whether the program, the second reading, and the answer that an example has are one."""
+        self.tried += 1
+        reading = faults.fault(data)
+        self.counts[reading and ("file", reading[0])] += 1
+        answers = [("program", answer_of(self.program, ["check"], data)), ("second reading", self.line(reading))]
+        self.told(what, data, ".dex", answers + [("example", self.line(each)) for each in given])
+
+    def compare_sample(self, what, data, *given):
+        """The same of a file that is changed afterwards, where it has no fault and isn't too large."""
+        self.compare(what, data, *given)
+        if len(data) <= LARGEST and faults.fault(data) is None:
+            self.samples.append(Spots(data))
+
+    def run(self, given):
+        for what, data, answer in examples():
+            self.compare_sample(what, data, answer)
+        for path, data in files_below(given.files):
+            self.compare_sample(path, data)
+        rng = random.Random(given.seed)
+        for i, data in enumerate(random_samples(rng, 100)):
+            self.compare_sample(f"sample {i} of seed {given.seed}", data)
+        for i, data in enumerate(itertools.islice(mutated(rng, self.samples), given.count or 3000)):
+            self.compare(f"file {i} of seed {given.seed}", data)
+
+
+class TextComparison(Comparison):
+    def __init__(self, program):
+        super().__init__(program, ["listing", "rules", "written"])
+
+    def compare(self, what, text, is_aligned, *given):
+        """Whether both refuse the text with one line or make one file of it, and list that file in one way."""
+        self.tried += 1
+        words = ["assemble"] + ["--align"] * is_aligned
+        classes = parse(text)
+        if is_aligned and not isinstance(classes, Refusal):
+            classes = align(classes)
+        reading = classes if isinstance(classes, Refusal) else write(classes)
+        is_refused = isinstance(reading, Refusal)
+        self.counts[(reading.table, reading.name) if is_refused else None] += 1
+        answers = [("program", answer_of(self.program, words, text))]
+        answers.append(("second reading", str(reading) if is_refused else reading))
+        for example in given:
+            answers.append(("example", str(Refusal(*example)) if example else b"" if is_refused else reading))
+        what = " ".join([what, *words[1:]])
+        if self.told(what, text, ".txt", answers) and not is_refused:
+            listed = answer_of(self.program, ["list"], reading)
+            self.told(f"{what}, listed", text, ".txt", [("program", listed), ("second reading",
+                print_listing(classes))])
+
+    def run(self, given):
+        for what, text, is_aligned, answer in text_examples(given.large):
+            self.compare(what, text, is_aligned, answer)
+        cases = random_texts(random.Random(given.seed))
+        for i, (text, is_aligned) in enumerate(itertools.islice(cases, given.count or 1500)):
+            self.compare(f"text {i} of seed {given.seed}", text, is_aligned)
+
+
+class FileComparison(Comparison):
+    def __init__(self, program):
+        super().__init__(program, [])
+
+    def compare(self, what, data, *wanted):
+        """Whether both write one file of what this file means, the wanted one, and list it in one way."""
+        self.tried += 1
+        classes = read(data)
+        written = write(classes)
+        is_refused = isinstance(written, Refusal)
+        self.counts[(written.table, written.name) if is_refused else None] += 1
+        stripped = answer_of(self.program, ["strip"], data)
+        answers = [("program", stripped), ("second reading", str(written) if is_refused else written)]
+        self.told(f"{what}, stripped", data, ".dex", answers + [("the wanted file", each) for each in wanted])
+        listed = answer_of(self.program, ["list"], data)
+        self.told(f"{what}, listed", data, ".dex", [("program", listed), ("second reading", print_listing(classes))])
+
+    def run(self, given):
+        found = [*((path, data) for path, data in files_below(given.files)),
+                 *((f"example: {what}", data) for what, data, _ in examples()),
+                 *((f"example: {what}", data) for what, data in file_examples())]
+        for what, data in found:
+            if faults.fault(data) is None:
+                self.compare(what, data)
+        classes, files = spelled()
+        written = write(classes)
+        if len({written, *(data for _, data in files)}) <= len(files):
+            self.failed += 1
+            print("spelled otherwise: two of the files are one")
+        for what, data in files:
+            self.compare(f"spelled otherwise: {what}", data, written)
+        cases = random_files(random.Random(given.seed))
+        for i, (data, is_packed) in enumerate(itertools.islice(cases, given.count or 500)):
+            self.compare(f"file {i} of seed {given.seed}", data, *[data] * is_packed)
+
+
+COMPARISONS = {"check": CheckComparison, "texts": TextComparison, "files": FileComparison}
+
+
+def files_below(folder):
+    """The .dex files of a folder, each as its path and its bytes."""
+    for at, folders, names in os.walk(folder or ""):
+        folders.sort()
+        for name in sorted(names):
+            if name.endswith(".dex"):
+                path = os.path.join(at, name)
+                with open(path, "rb") as file:
+                    yield path, file.read()
+
+
+def main(given):
+    sys.setrecursionlimit(10000)  # a value may be more than 64 deep before it's refused
+    sys.set_int_max_str_digits(0)  # a number may have many zeros
+    for name in [given.only] if given.only else COMPARISONS:
+        comparison = COMPARISONS[name](os.path.abspath(given.program))
+        comparison.run(given)
+        Counted.tried, Counted.failed = Counted.tried + comparison.tried, Counted.failed + comparison.failed
+        print(f"{name}: {comparison.tried} tried, {comparison.failed} failed; {comparison.summary()}", flush=True)
+    return last_line()

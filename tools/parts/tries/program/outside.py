@@ -1,0 +1,661 @@
+"""The built program from outside: words, help, each exit status with its line, files and pipes, big inputs."""
+import os
+import re
+import resource
+import shutil
+import signal
+import stat
+import struct
+import subprocess
+import sys
+import tempfile
+import time
+import zipfile
+
+from ... import TOP
+from ..trying import MEGABYTE, NUMBERED, ODD, check, closed, ended, get, last_line, limited, not_built, without_classes
+from ..trying import ONE_CLASS as LISTING
+from . import out_cases, terminal_cases
+
+sys.path.append(os.path.join(TOP, "bench/hostile"))
+from shapes import File, code, file_of_body, shared_code, sleb, uleb  # noqa: E402
+
+TEXTS = os.path.join(TOP, "crates/dexasm_plan/src/texts.rt")
+CANNOT_READ, CANNOT_WRITE = "dexasm: cannot read\n", "dexasm: cannot write\n"
+JOBS = ("check", "list", "assemble", "strip")
+
+# The file of LISTING from byte 0x20 on, worked out by hand from the format: header, tables, data, map.
+ONE_CLASS = bytes(32) + bytes.fromhex("""
+78 01 00 00 70 00 00 00 78 56 34 12 00 00 00 00
+00 00 00 00 fc 00 00 00 04 00 00 00 70 00 00 00
+03 00 00 00 80 00 00 00 01 00 00 00 8c 00 00 00
+00 00 00 00 00 00 00 00 01 00 00 00 98 00 00 00
+01 00 00 00 a0 00 00 00 b8 00 00 00 c0 00 00 00
+d2 00 00 00 d7 00 00 00 eb 00 00 00 ee 00 00 00
+00 00 00 00 01 00 00 00 02 00 00 00 02 00 00 00
+02 00 00 00 00 00 00 00 00 00 00 00 03 00 00 00
+00 00 00 00 01 00 00 00 01 00 00 00 00 00 00 00
+ff ff ff ff 00 00 00 00 f1 00 00 00 00 00 00 00
+01 00 00 00 00 00 00 00 00 00 00 00 01 00 00 00
+0e 00 03 4c 41 3b 00 12 4c 6a 61 76 61 2f 6c 61
+6e 67 2f 4f 62 6a 65 63 74 3b 00 01 56 00 01 6d
+00 00 00 01 00 00 09 c0 01 00 00 00 0a 00 00 00
+00 00 00 00 01 00 00 00 00 00 00 00
+01 00 00 00 04 00 00 00 70 00 00 00
+02 00 00 00 03 00 00 00 80 00 00 00
+03 00 00 00 01 00 00 00 8c 00 00 00
+05 00 00 00 01 00 00 00 98 00 00 00
+06 00 00 00 01 00 00 00 a0 00 00 00
+01 20 00 00 01 00 00 00 c0 00 00 00
+02 20 00 00 04 00 00 00 d2 00 00 00
+00 20 00 00 01 00 00 00 f1 00 00 00
+00 10 00 00 01 00 00 00 fc 00 00 00
+""")
+with open(TEXTS, encoding="ascii") as texts:
+    VERSION = re.search(r'VERSION: &str = "([^"]*)"', texts.read()).group(1)
+LIMIT = 120  # seconds for a command
+program = folder = ""  # what is tried, and where; main says so
+
+
+def run(*words, given=b"", **options):
+    """Runs the program; answers status, standard output, standard error."""
+    if "stdin" not in options:
+        options["input"] = given
+    options.setdefault("stdout", subprocess.PIPE)
+    return ended([program, *words], LIMIT, stderr=subprocess.PIPE, **options)
+
+
+def answers(what, want, *words, **options):
+    """It answers these bytes, status 0, and nothing on standard error."""
+    status, out, said = run(*words, **options)
+    check(what, (status, out, said) == (0, want, ""), f"{status} {out[:60]!r} {said[:200]!r}")
+
+
+def tells(what, status, line, *words, **options):
+    """It ends with this status and this line, and answers nothing."""
+    got, out, said = run(*words, **options)
+    check(what, (got, out or b"", said) == (status, b"", line), f"{got} {(out or b'')[:60]!r} {said[:200]!r}")
+
+
+def misuses(what, *words):
+    """Wrong words: status 2, clap's text, which shows where the usage is."""
+    status, out, said = run(*words)
+    is_so = status == 2 and out == b"" and said.startswith("error: ") and said.endswith("For more information, try '--help'.\n")
+    is_so = is_so and all(char.isprintable() or char == "\n" for char in said)
+    check(what, is_so, f"{status} {out[:60]!r} {said[:200]!r}")
+
+
+def in_folder(*names):
+    return os.path.join(folder, *names)
+
+
+def put(name, given):
+    with open(in_folder(name), "wb") as file:
+        file.write(given)
+    return in_folder(name)
+
+
+def try_words():
+    for what, *words in (
+        ("no words",),
+        ("another command", "disassemble"),
+        ("help as a command", "help"),
+        ("an option before the command", "--output", "x", "check"),
+        ("two files", "check", "a", "b"),
+        ("--output without a file", "check", "--output"),
+        ("--output twice", "check", "--output", "a", "--output", "b"),
+        ("another option", "list", "--all"),
+        ("--align of check", "check", "--align"),
+        ("--align of list", "list", "--align"),
+        ("--align of strip", "strip", "--align"),
+        ("--align with a value", "assemble", "--align=yes"),
+        ("--align twice", "assemble", "--align", "--align"),
+    ):
+        misuses(what, *words)
+    misuses("a wrong word that a terminal would obey", "\x1b[31mred")
+    misuses("an option that it would", "check", "--\x1b]0;title\x07\u009b")
+    status, out, said = run(b"check", b"\xff.dex")
+    check("words that aren't UTF-8", (status, out) == (2, b"") and said.startswith("dexasm: "), f"{status} {said!r}")
+    for words in (["--help"], ["-h"]) + tuple([job, flag] for job in JOBS for flag in ("--help", "-h")):
+        status, out, said = run(*words)
+        text = out.decode()
+        is_so = status == 0 and said == "" and "Usage: dexasm" in text and "Example: dexasm" in text and "version 035" in text
+        check(" ".join(words), is_so, f"{status} {text[:200]!r} {said!r}")
+    for flag in ("--version", "-V"):
+        answers(flag, f"dexasm {VERSION}\n".encode(), flag)
+    misuses("--version of a command", "check", "--version")
+    text = run("--help")[1].decode()
+    check("--help begins with the version", text.startswith(f"dexasm {VERSION}\n"), text[:80])
+    check("--help names each command", all(f"\n  {job} " in text for job in JOBS), text)
+    with open("/dev/full", "wb") as full:
+        tells("--help to a full device", 3, CANNOT_WRITE, "--help", stdout=full)
+        tells("--version to a full device", 3, CANNOT_WRITE, "--version", stdout=full)
+    for what, end in (("closed", ">&-"), ("full", "> /dev/full")):
+        for words, status in (("disassemble", 2), ("check --all", 2), ("check no-such-file", 3)):
+            done = subprocess.run(["sh", "-c", f'"$0" {words} 2{end}', program], stdout=subprocess.PIPE)
+            check(f"{words}, where standard error is {what}", (done.returncode, done.stdout) == (status, b""), done.returncode)
+
+
+def try_answers():
+    empty = without_classes()
+    file = run("assemble", given=LISTING.encode())[1]
+    path = put("a.dex", file)
+    listing = put("a.txt", LISTING.encode())
+    answers("check of a file without classes", b"ok\n", "check", given=empty)
+    answers("check of an assembled listing", b"ok\n", "check", given=file)
+    check("the assembled listing", file == closed(ONE_CLASS[32:]), len(file))
+    answers("check FILE", b"ok\n", "check", path)
+    answers("list", LISTING.encode(), "list", given=file)
+    answers("list FILE", LISTING.encode(), "list", path)
+    answers("assemble FILE", file, "assemble", listing)
+    answers("strip of what is stripped", file, "strip", given=file)
+    answers("strip FILE", file, "strip", path)
+    answers("list of a file without classes", b"dex 035 listing 2\n", "list", given=empty)
+    answers("assemble of no classes", empty, "assemble", given=b"dex 035 listing 2\n")
+    answers("assemble of the first form", file, "assemble", given=NUMBERED.encode())
+    answers("assemble --align where nothing is odd", file, "assemble", "--align", given=LISTING.encode())
+    aligned = run("assemble", "--align", given=ODD.encode())[1]
+    answers("assemble --align moves", b"ok\n", "check", given=aligned)
+    text = run("list", given=aligned)[1].decode()
+    check("a nop stands before the payload", "\n:L0\npacked-switch v0 :L2\nnop\n:L2\npacked-switch-payload 0 :L0\n" in text, text)
+    for job, given, want in (("check", path, b"ok\n"), ("list", path, LISTING.encode()), ("assemble", listing, file), ("strip", path, file)):
+        made = put("out", b"x" * 100000)
+        answers(f"{job} --output", b"", job, given, "--output", made)
+        check(f"{job} --output: what is written", get(made) == want)
+        os.remove(made)
+        answers(f"{job} --output=, from standard input", b"", job, f"--output={made}", given=get(given))
+        check(f"{job} --output=: what is written", get(made) == want)
+    same = put("same", without_classes(1000))
+    answers("strip with OUT that is FILE", b"", "strip", same, "--output", same)
+    check("OUT that is FILE is written anew", get(same) == empty)
+    os.link(same, in_folder("name"))
+    answers("list with OUT that is another name of FILE", b"", "list", same, "--output", in_folder("name"))
+    check("OUT that is another name of FILE", get(same) == b"dex 035 listing 2\n")
+
+
+def try_refusals():
+    file = run("assemble", given=LISTING.encode())[1]
+    changed = file[:-1] + b"\1"
+    for what, line, job, given in (
+        ("nothing", "1 TooShort at 0", "check", b""),
+        ("another version", "3 Version at 4", "check", file[:4] + b"037" + file[7:]),
+        ("a changed byte", "8 Checksum at 8", "check", changed),
+        ("list of a changed byte", "8 Checksum at 8", "list", changed),
+        ("strip of a changed byte", "8 Checksum at 8", "strip", changed),
+        ("list of a listing", "2 Magic at 0", "list", b"dex 035\n".ljust(112, b"#")),
+        ("assemble of a file", "100 Word at 1", "assemble", file),
+        ("a listing that isn't ended", "106 NotEnded at 7", "assemble", LISTING.replace("end class\n", "").encode()),
+        ("a rule of programs", "115 Target at 0", "assemble", LISTING.replace("return-void", ":a\ngoto :a").encode()),
+        ("a payload at an odd address", "86 Misaligned at 0", "assemble", ODD.encode()),
+    ):
+        tells(what, 1, f"dexasm: refused {line}\n", job, given=given)
+        same = put("same", given)
+        tells(f"{what}, with OUT that is FILE", 1, f"dexasm: refused {line}\n", job, same, "--output", same)
+        check(f"{what}: OUT that is FILE is as it was", get(same) == given)
+        tells(f"{what}, with OUT", 1, f"dexasm: refused {line}\n", job, same, "--output", in_folder("none"))
+        check(f"{what}: OUT isn't made", not os.path.exists(in_folder("none")))
+
+
+def try_ends():
+    empty, path = without_classes(), put("empty.dex", without_classes())
+    for job in JOBS:
+        tells(f"{job} of no such file", 3, CANNOT_READ, job, in_folder("no-such"))
+        tells(f"{job} of a folder", 3, CANNOT_READ, job, folder)
+        with open(folder + "/w", "wb") as file:
+            tells(f"{job} of an input that can't be read", 3, CANNOT_READ, job, stdin=file)
+        tells(f"{job} of a folder, with OUT", 3, CANNOT_READ, job, folder, "--output", in_folder("none"))
+        check(f"{job} of a folder: OUT isn't made", not os.path.exists(in_folder("none")))
+    for job, given in (("check", empty), ("list", empty), ("assemble", b"dex 035\n"), ("strip", empty)):
+        tells(f"{job} to a folder", 3, CANNOT_WRITE, job, "--output", folder, given=given)
+        tells(f"{job} below no such folder", 3, CANNOT_WRITE, job, "--output", in_folder("no", "such"), given=given)
+        tells(f"{job} to no name", 3, CANNOT_WRITE, job, "--output", "", given=given)
+        tells(f"{job} to OUT that is full", 3, CANNOT_WRITE, job, "--output", "/dev/full", given=given)
+        with open("/dev/full", "wb") as full:
+            tells(f"{job} to a full device", 3, CANNOT_WRITE, job, given=given, stdout=full)
+        with open(path, "rb") as file:
+            tells(f"{job} to an output that can't be written", 3, CANNOT_WRITE, job, given=given, stdout=file)
+        answers(f"{job} to OUT that is a device", b"", job, "--output", "/dev/null", given=given)
+    os.mkfifo(in_folder("pipe"))
+    feeder = subprocess.Popen(["sh", "-c", 'cat "$1" > "$2"', "sh", path, in_folder("pipe")])
+    answers("check of a named pipe", b"ok\n", "check", in_folder("pipe"))
+    feeder.wait()
+    reader = subprocess.Popen(["cat", in_folder("pipe")], stdout=subprocess.PIPE)
+    answers("strip to a named pipe", b"", "strip", "--output", in_folder("pipe"), given=empty)
+    check("the pipe has the answer", reader.communicate()[0] == empty)
+    slow = subprocess.Popen([program, "check"], stdin=subprocess.PIPE, stdout=subprocess.PIPE)
+    for at in range(0, 140, 35):
+        slow.stdin.write(empty[at : at + 35])
+        slow.stdin.flush()
+        time.sleep(0.05)
+    check("an input that comes in pieces", slow.communicate()[0] == b"ok\n" and slow.returncode == 0)
+
+
+def try_out():
+    """OUT is as it was whatever fails, and what it was beside its bytes stays."""
+    empty = without_classes()
+    home = in_folder("home")
+    os.mkdir(home)
+    out, link = os.path.join(home, "out.dex"), os.path.join(home, "link")
+
+    def is_alone(*names):
+        check(f"nothing is left beside {names}", sorted(os.listdir(home)) == sorted(names), os.listdir(home))
+
+    put("home/out.dex", b"kept")
+    os.chmod(out, 0o640)
+    inode = os.stat(out).st_ino
+    answers("strip over a file", b"", "strip", "--output", out, given=empty)
+    check("OUT has its mode", (get(out), stat.S_IMODE(os.stat(out).st_mode)) == (empty, 0o640))
+    check("OUT is another file", os.stat(out).st_ino != inode)
+    os.symlink("out.dex", link)
+    answers("list through a link", b"", "list", "--output", link, given=empty)
+    check("the link stays", os.path.islink(link) and get(out) == b"dex 035 listing 2\n")
+    os.remove(out)
+    answers("strip through a link that leads nowhere", b"", "strip", "--output", link, given=empty)
+    check("the file is made where it leads", os.path.islink(link) and get(out) == empty)
+    os.remove(link)
+    put("home/out.dex.0.part", b"of somebody else")
+    answers("strip where the first name is taken", b"", "strip", "--output", out, given=empty)
+    check("what is of somebody else stays", get(out + ".0.part") == b"of somebody else")
+    for number in range(100):
+        put(f"home/out.dex.{number}.part", b"of a run that was killed")
+    put("home/out.dex", b"kept")
+    tells("a refusal where a hundred names are taken", 1, "dexasm: refused 1 TooShort at 0\n", "strip", "--output", out)
+    check("OUT is as it was where a hundred names are taken", get(out) == b"kept")
+    answers("strip where a hundred names are taken", b"", "strip", "--output", out, given=empty)
+    check("OUT is written where a hundred names are taken", get(out) == empty and len(os.listdir(home)) == 101)
+    for number in range(100):
+        os.remove(f"{out}.{number}.part")
+    is_alone("out.dex")
+    # What is written in place: as it was after a refusal too.
+    second = os.path.join(home, "second")
+    put("home/out.dex", b"kept")
+    os.link(out, second)
+    tells("a refusal over a file with two names", 1, "dexasm: refused 1 TooShort at 0\n", "strip", "--output", out)
+    check("a file with two names is as it was", get(out) == b"kept")
+    answers("strip over a file with two names", b"", "strip", "--output", out, given=empty)
+    check("both names have the answer", (get(second), os.stat(out).st_ino) == (empty, os.stat(second).st_ino))
+    os.remove(second)
+    is_alone("out.dex")
+    # No room: a file may not grow beyond 64 bytes.
+    put("home/out.dex", b"kept")
+    limit = lambda: (signal.signal(signal.SIGXFSZ, signal.SIG_IGN), resource.setrlimit(resource.RLIMIT_FSIZE, (64, 64)))
+    tells("strip where there is no room", 3, CANNOT_WRITE, "strip", "--output", out, given=empty, preexec_fn=limit)
+    check("OUT is as it was where there is no room", get(out) == b"kept")
+    is_alone("out.dex")
+    if os.geteuid() == 0:
+        try_out_as_another(empty, home, out)
+        try_closed_doors()
+
+
+def try_out_cases():
+    """What a command leaves, by what OUT is: the table of out_cases.py, with an answer of half a megabyte."""
+    classes = "".join(f"class LA{number}; 0x1\nend class\n" for number in range(10000))
+    answer = run("assemble", given=("dex 035 listing 2\n" + classes).encode())[1]
+    # (what strip takes off: zeros after the map)
+    data_size = struct.unpack_from("<I", answer, 104)[0]
+    sizes = [struct.pack("<I", size + 1000) for size in (len(answer), data_size)]
+    longer = closed(sizes[0] + answer[36:104] + sizes[1] + answer[108:] + bytes(1000))
+    mine = in_folder("tried-by-all")
+    os.chmod(folder, 0o755)
+    os.chmod(shutil.copy(program, mine), 0o755)
+    out_cases.try_all(check, mine, folder, longer, answer)
+
+
+def try_terminals():
+    """What a terminal is told: the table of terminal_cases.py."""
+    empty = without_classes()
+    damaged = empty[:8] + bytes(4) + empty[12:]
+    for what, is_so, seen in terminal_cases.tries(os.path.abspath(program), folder, empty, damaged):
+        check(what, is_so, repr(seen)[:300])
+
+
+def as_nobody():
+    os.setgroups([])
+    os.setgid(65534)
+    os.setuid(65534)
+
+
+def run_as_nobody(*words, given=b""):
+    """As a user who owns nothing here; by a copy of the program, which that user can reach."""
+    mine = in_folder("program")
+    if not os.path.exists(mine):
+        os.chmod(folder, 0o755)
+        os.chmod(shutil.copy(program, mine), 0o755)
+    return ended([mine, *words], LIMIT, input=given, capture_output=True, preexec_fn=as_nobody)
+
+
+def try_out_as_another(empty, home, out):
+    def strips():
+        status, _, said = run_as_nobody("strip", "--output", out, given=empty)
+        return status, said
+
+    for mode, folder_mode, want, is_written in (
+        (0o444, 0o755, (3, CANNOT_WRITE), False),
+        (0o666, 0o755, (0, ""), True),
+        (0o444, 0o777, (3, CANNOT_WRITE), False),
+    ):
+        put("home/out.dex", b"kept")
+        os.chmod(out, mode)
+        os.chmod(home, folder_mode)
+        said = strips()
+        is_so = said == want and get(out) == (empty if is_written else b"kept")
+        check(f"OUT of mode {mode:o} in a folder of mode {folder_mode:o}", is_so, said)
+    try_out_in_place(empty, home, out, strips)
+    os.chown(out, 65534, 65534)
+    os.chmod(out, 0o644)
+    answers("strip over a file of another user", b"", "strip", "--output", out, given=empty)
+    owner = os.stat(out)
+    check("OUT has its owner", (owner.st_uid, owner.st_gid, get(out)) == (65534, 65534, empty), owner)
+    os.chmod(home, 0o755)
+
+
+def try_out_in_place(empty, home, out, strips):
+    """What can be written and not replaced: another user's file in a sticky folder, a mount point."""
+    put("home/out.dex", b"kept")
+    os.chmod(out, 0o666)
+    os.chmod(home, 0o1777)
+    said = strips()
+    # (where the system protects such files, nobody may write them)
+    is_so = (said, get(out)) == ((0, ""), empty) or (said, get(out)) == ((3, CANNOT_WRITE), b"kept")
+    check("OUT is another user's, in a sticky folder", is_so and os.listdir(home) == ["out.dex"], (said, os.listdir(home)))
+    source = put("mounted", b"kept")
+    if subprocess.run(["mount", "--bind", source, out], stderr=subprocess.DEVNULL).returncode == 0:
+        answers("OUT is a mount point", b"", "strip", "--output", out, given=empty)
+        subprocess.run(["umount", "-l", out], check=True)
+        check("OUT is a mount point: it was written", get(source) == empty and os.listdir(home) == ["out.dex"], os.listdir(home))
+        try_out_in_full(home, out)
+
+
+def try_out_in_full(home, out):
+    """A mount point whose disk has no room: the answer isn't lost."""
+    disk, part = os.path.join(home, "disk"), out + ".0.part"
+    os.mkdir(disk)
+    if subprocess.run(["mount", "-t", "tmpfs", "-o", "size=4k", "tmpfs", disk], stderr=subprocess.DEVNULL).returncode != 0:
+        return
+    put("home/disk/file", b"kept")
+    subprocess.run(["mount", "--bind", os.path.join(disk, "file"), out], check=True)
+    classes = "".join(f"class LA{number}; 0x1\nend class\n" for number in range(1000))
+    text = ("dex 035 listing 2\n" + classes).encode()
+    tells("OUT is on a full disk", 3, CANNOT_WRITE, "assemble", "--output", out, given=text)
+    answers("the file that stays is the answer", get(part), "assemble", given=text)
+    for place in (out, disk):
+        subprocess.run(["umount", "-l", place], check=True)
+    os.remove(part)
+    os.rmdir(disk)
+
+
+def try_closed_doors():
+    """Files and folders that another user may not read, search or write."""
+    home = in_folder("doors")
+    os.mkdir(home)
+    file, out = put("doors/a.dex", without_classes()), os.path.join(home, "none")
+    refused, done = (3, b"", CANNOT_READ), (0, b"ok\n", "")
+    cases = ((0o644, 0o755, done), (0o600, 0o755, refused), (0o644, 0o711, done), (0o644, 0o600, refused))
+    for mode, folder_mode, want in cases:
+        os.chmod(file, mode)
+        os.chmod(home, folder_mode)
+        said = run_as_nobody("check", file)
+        check(f"a FILE of mode {mode:o} in a folder of mode {folder_mode:o}", said == want, said)
+    for mode in (0o600, 0o755):
+        os.chmod(home, mode)
+        said = run_as_nobody("strip", "--output", out, given=without_classes())
+        check(f"a new OUT in a folder of mode {mode:o}", said == (3, b"", CANNOT_WRITE), said)
+    os.chmod(home, 0o777)
+    os.chmod(file, 0o600)
+    said = run_as_nobody("strip", file, "--output", out)
+    check("a FILE that can't be read: OUT isn't made", said == refused and not os.path.exists(out), said)
+
+
+def shell(command, home, given=None):
+    """What bash prints of this command in that folder, where `dexasm` is the program."""
+    env = {**os.environ, "PATH": os.pathsep.join([in_folder("bin"), os.path.join(TOP, "contrib/bin"), os.environ["PATH"]])}
+    status, out, _ = ended(["bash", "-c", command], LIMIT, cwd=home, env=env, input=given, stdout=subprocess.PIPE, stderr=subprocess.STDOUT)
+    return status, out.decode()
+
+
+def try_readme():
+    """README's session and recipes, as they stand there."""
+    os.mkdir(in_folder("bin"))
+    os.symlink(program, in_folder("bin", "dexasm"))
+    home = in_folder("session")
+    os.mkdir(home)
+    with open(os.path.join(TOP, "README.md"), encoding="utf8") as file:
+        text = file.read()
+    session = re.search(r"```console\n(.*?)```", text, re.S).group(1)
+    for step in re.split(r"^\$ ", session, flags=re.M)[1:]:
+        command, _, rest = step.partition("\n")
+        is_typed = command.startswith("cat >")
+        _, said = shell(command, home, rest.encode() if is_typed else None)
+        check(f"README: {command}", said == ("" if is_typed else rest), repr(said[:200]))
+    recipes = [line for line in re.search(r"```bash\n(.*?)```", text, re.S).group(1).splitlines() if not line.startswith("#")]
+    shell("dexasm assemble hello.txt --output a.dex; sed s/41/43/ hello.txt | dexasm assemble --output b.dex; cp a.dex build1.dex", home)
+    shell("cp a.dex build2.dex; cp a.dex classes.dex; git init -q . 2>/dev/null", home)
+    with zipfile.ZipFile(os.path.join(home, "app.apk"), "w") as apk:
+        apk.write(os.path.join(home, "a.dex"), "classes.dex")
+        apk.writestr("classes2.dex", b"no file")
+    refused = "classes2.dex: dexasm: refused 1 TooShort at 7\n"
+    wants = (
+        "  SHA-256  ", "-const/16 v0 41\n+const/16 v0 43\n", "all\n", "both define LHello;", "", refused, "a.dex: ok\n", "a.txt",
+        "end class\n", "ok\n", "", "", "a.dex: ok\n", "a.dex: ok\n", "", "", "",
+    )
+    check("README: as many recipes as are tried", len(recipes) == len(wants), recipes)
+    for recipe, want in zip(recipes, wants):
+        _, said = shell(recipe, home)
+        check(f"README: {recipe}", want in said, repr(said[:200]))
+    check("README: a constant is changed", "v0 42\n" in shell("dexasm list b.dex", home)[1])
+
+
+def changed(at, given, size=None):
+    """The file of LISTING with these bytes at a place, or cut to a size, closed again."""
+    file = bytearray(ONE_CLASS)
+    file[at : at + len(given)] = given
+    if size is not None:
+        file = file[:size]
+        file[32:36] = struct.pack("<I", size)
+    return closed(bytes(file[32:]))
+
+
+def try_hostile():
+    """Sizes, offsets and counts that lie: each is told, in no more memory than a file takes."""
+    ends = (112, 128, 140, 152, 160, 192, 376)
+    for first, end, place in zip(ends, ends[1:], (56, 64, 72, 88, 96, 104)):
+        for size in range(first, end):
+            tells(f"cut to {size} bytes", 1, f"dexasm: refused 10 SectionRange at {place}\n", "check", given=changed(0, b"", size))
+    sizes = {56: 268, 64: 280, 72: 292, 88: 304, 96: 316}
+    for at, place in sizes.items():
+        tells(f"no rows by {at}", 1, f"dexasm: refused 13 MapEntry at {place}\n", "check", given=changed(at, bytes(4)))
+    tells("no data section", 1, "dexasm: refused 12 MapPlace at 52\n", "check", given=changed(104, bytes(4)))
+    for at in (56, 64, 72, 80, 88, 96, 104):
+        tells(f"the most rows by {at}", 1, f"dexasm: refused 10 SectionRange at {at}\n", "check", given=changed(at, b"\xff" * 4))
+    tells("a link section", 1, "dexasm: refused 7 Linked at 44\n", "check", given=changed(44, b"\xff" * 4))
+    for at in (48, 84, 0xB4, 0xC8):
+        answers(f"strip of an offset that isn't looked at, {at}", changed(0, b""), "strip", given=changed(at, b"\xff" * 4))
+    for count, line in ((0, "14 MapMissing"), (9, "14 MapMissing"), (11, "12 MapPlace"), (0xFFFFFFFF, "12 MapPlace")):
+        tells(f"a map of {count} entries", 1, f"dexasm: refused {line} at 52\n", "check", given=changed(0xFC, struct.pack("<I", count)))
+    for at, byte, line in (
+        (0x70, 0xC0, "20 StringPlace at 112"),
+        (0x94, 0xC0, "28 ParameterList at 140"),
+        (0xAC, 0xC0, "43 InterfaceList at 160"),
+        (0xB8, 0xD2, "44 ClassData at 160"),
+        (0xBC, 0xF1, "48 Values at 160"),
+        (0xF7, 0xD4, "60 CodePlace at 212"),
+    ):
+        tells(f"an item elsewhere, by {at:#x}", 1, f"dexasm: refused {line}\n", "check", given=changed(at, bytes([byte])))
+    most = changed(0xF1, b"\xff\xff\xff\xff\x0f")
+    tells("4294967295 static fields", 1, "dexasm: refused 44 ClassData at 160\n", "check", given=most, preexec_fn=limited(48 * MEGABYTE))
+    for rows, line in ((65536, "11 TooManyRows at 64"), (65535, "12 MapPlace at 52")):
+        header = struct.pack("<6I", 262256, 0x70, 0x12345678, 0, 0, 0) + bytes(8) + struct.pack("<2I", rows, 0x70) + bytes(40)
+        tells(f"{rows} types", 1, f"dexasm: refused {line}\n", "check", given=closed(header + bytes(262144)))
+
+
+def of_handlers(order):
+    """A file with three tries and a handler for each: of 1 catch, of 30,000 and of 5,000, which begin in the list at 1, 4 and 60007."""
+
+    def body(file):
+        caught = uleb(file.type_at["LE;"]) + uleb(0)
+        handlers = uleb(3) + b"".join(sleb(n) + caught * n for n in (1, 30000, 5000))
+        return code([0] * 4 + [0x0E], tries=b"".join(struct.pack("<IHH", i, 1, at) for i, at in enumerate(order)) + handlers, count=3)
+
+    file = File()
+    file.type("LE;")
+    return file_of_body(file, body)
+
+
+def try_limits():
+    """The limits that a program can break which a file means: strip tells them, and check doesn't ask."""
+    path = in_folder("limit.dex")
+
+    def write(file):
+        file.index()
+        file.write(path)
+
+    # in the order of first use the last of them begins at 70006
+    write(of_handlers((4, 60007, 1)))
+    answers("check of handlers of which the first is used last", b"ok\n", "check", path)
+    tells("strip of them", 1, "dexasm: refused 89 HandlerTooFar at 0\n", "strip", path)
+    write(of_handlers((1, 4, 60007)))
+    answers("strip of handlers in the order of first use", get(path), "strip", path)
+    # 47,000 times the plain sum of one, of 26 + 2 * 47,000 bytes
+    write(shared_code(47000))
+    answers("check of 47,000 methods with one code", b"ok\n", "check", path)
+    tells("strip of them", 1, "dexasm: refused 90 TooBig at 0\n", "strip", path)
+
+
+def code_off_of(file):
+    """The offset of the code of the one method, as its class data at 0xf1 spells it."""
+    number = shift = 0
+    for byte in file[0xF7:]:
+        number |= (byte & 0x7F) << shift
+        shift += 7
+        if byte < 0x80:
+            return number
+
+
+def try_each_byte():
+    """Each byte of the file from 0x20 on, made 0, 7f, 80 and ff: a program, or a fault at a place of the file or where a code is said to be."""
+    for at in range(0x20, len(ONE_CLASS)):
+        for byte in (0, 0x7F, 0x80, 0xFF):
+            file = changed(at, bytes([byte]))
+            status, out, said = run("check", given=file)
+            fault = re.fullmatch(r"dexasm: refused (\d+) \w+ at (\d+)\n", said)
+            is_so = (status, out, said) == (0, b"ok\n", "")
+            if status == 1 and fault:
+                number, place = map(int, fault.groups())
+                is_so = place == code_off_of(file) if number == 60 else place <= 376
+            check(f"byte {at:#x} made {byte:#x}", is_so, f"{status} {said!r}")
+    tells("byte 0xf8 made 7f", 1, "dexasm: refused 60 CodePlace at 16320\n", "check", given=changed(0xF8, b"\x7f"))
+
+
+# Two faults of one row, entry or instruction: the bytes of the file that are changed, and the fault that is told of the two.
+PAIRS = (
+    ("d5=3a 80=01 84=00", "24 TypeText at 132"),
+    ("8c=09 94=01", "26 ProtoIndex at 140"),
+    ("98=02 9a=01", "33 MethodIndex at 152"),
+    ("a0=02 a8=09", "40 ClassIndex at 160"),
+    ("a0=02 ac=01", "41 ClassKind at 160"),
+    ("ac=01 a8=00", "43 InterfaceList at 160"),
+    ("a8=00 b8=ff", "42 ClassOrder at 160"),
+    ("a8=00 f5=01", "42 ClassOrder at 160"),
+    ("f3=02 f4=00 f5=01 f6=00 f7=00 f8=00 f9=00 fa=00", "45 MemberIndex at 160"),
+    ("d0=29 d1=01", "63 Cut at 208"),
+    ("d0=6e d1=60", "63 Cut at 208"),
+)
+
+
+def try_pairs():
+    """Of two faults of one row, entry or instruction the first in FORMAT's order is told, by check, list and strip alike."""
+    for bytes_there, line in PAIRS:
+        file = bytearray(ONE_CLASS)
+        for at, byte in (each.split("=") for each in bytes_there.split()):
+            file[int(at, 16)] = int(byte, 16)
+        for job in ("check", "list", "strip"):
+            tells(f"{job} of {bytes_there}", 1, f"dexasm: refused {line}\n", job, given=closed(bytes(file[32:])))
+
+
+def try_memory():
+    """An input of 64 MB where 48 MB can be had."""
+    path = put("long", bytes(64 * MEGABYTE))
+    for job in JOBS:
+        line = "dexasm: out of memory\n"
+        tells(f"{job} of more than there is memory", 4, line, job, path, preexec_fn=limited(48 * MEGABYTE))
+        tells(f"{job} of more, with OUT", 4, line, job, path, "--output", in_folder("none"), preexec_fn=limited(48 * MEGABYTE))
+        check(f"{job} of more: OUT isn't made", not os.path.exists(in_folder("none")))
+    os.remove(path)
+
+
+def try_texts():
+    """Listings as editors and other tools leave them, and files that are named otherwise."""
+    crlf, at_line = LISTING.replace("\n", "\r\n"), LISTING.splitlines()
+    for what, line, given in (
+        ("lines that end with CR", "100 Word at 1", crlf.encode()),
+        ("a byte order mark", "100 Word at 1", b"\xef\xbb\xbf" + LISTING.encode()),
+        ("a tab", "100 Word at 2", LISTING.replace("class LA;", "class\tLA;").encode()),
+        ("a byte above ASCII", "100 Word at 2", LISTING.encode().replace(b"class LA;", b"class L\xc3\xa4;")),
+        ("a zero byte", "100 Word at 2", LISTING.encode().replace(b"class LA;", b"class LA\0;")),
+        ("no text", "106 NotEnded at 0", b""),
+        ("an empty line alone", "106 NotEnded at 1", b"\n"),
+    ):
+        tells(f"assemble of {what}", 1, f"dexasm: refused {line}\n", "assemble", given=given)
+    made = run("assemble", given=LISTING.encode())[1]
+    for what, given in (
+        ("no line feed at the end", LISTING.rstrip("\n").encode()),
+        ("comments of any bytes", b"# \xc3\xa4 \0 \r\n" + LISTING.replace("\n", "\n# \u00e4\n").encode()),
+        ("spaces before, between and after", "".join(f"  {line.replace(' ', '   ')} \n\n" for line in at_line).encode()),
+    ):
+        answers(f"assemble of {what}", made, "assemble", given=given)
+    link = in_folder("dangling")
+    os.symlink("no-such", link)
+    for name in ("", link, folder + "/"):
+        tells(f"check of a file named {name!r}", 3, CANNOT_READ, "check", "--", name)
+    os.remove(link)
+    nothing = put("nothing", b"")
+    for job in JOBS:
+        line = "106 NotEnded at 0" if job == "assemble" else "1 TooShort at 0"
+        tells(f"{job} of an empty FILE", 1, f"dexasm: refused {line}\n", job, nothing)
+
+
+def try_big():
+    """10 MB in the shape of an app, through each command."""
+    path = in_folder("big.dex")
+    subprocess.run([sys.executable, "bench/read/make.py", "apps", "1500", path], check=True)
+    text, again, small = in_folder("big.txt"), in_folder("again.dex"), in_folder("small.dex")
+    answers("check of 10 MB", b"ok\n", "check", path)
+    answers("list of 10 MB", b"", "list", path, "--output", text)
+    listing = get(text)
+    answers("list of 10 MB to a pipe", listing, "list", path)
+    answers("assemble of 10 MB", b"", "assemble", text, "--output", again)
+    answers("check of 10 MB assembled", b"ok\n", "check", again)
+    answers("list of 10 MB assembled", listing, "list", again)
+    answers("strip of 10 MB", b"", "strip", path, "--output", small)
+    check("strip gives what its listing gives", get(again) == get(small))
+    answers("a second strip changes nothing", get(small), "strip", small)
+    reader = subprocess.Popen([program, "list", path], stdout=subprocess.PIPE, stderr=subprocess.PIPE)
+    begin = reader.stdout.read(1000)
+    reader.stdout.close()
+    said = reader.stderr.read().decode()
+    status = reader.wait()
+    check("a pipe that closes", (status, said) == (3, CANNOT_WRITE) and begin == listing[:1000], f"{status} {said!r}")
+    with open("/dev/full", "wb") as full:
+        tells("list of 10 MB to a full device", 3, CANNOT_WRITE, "list", path, stdout=full)
+    for job, given, megabytes in (("check", path, 26), ("list", path, 150), ("strip", path, 30), ("assemble", text, 200)):
+        line, limit = "dexasm: out of memory\n", limited(megabytes * MEGABYTE)
+        tells(f"{job} of 10 MB with {megabytes} MB", 4, line, job, given, preexec_fn=limit)
+        tells(f"{job} of 10 MB with {megabytes} MB, with OUT", 4, line, job, given, "--output", in_folder("none"), preexec_fn=limit)
+        check(f"{job} of 10 MB with {megabytes} MB: OUT isn't made", not os.path.exists(in_folder("none")))
+
+
+PARTS = (
+    try_words, try_answers, try_refusals, try_ends, try_out, try_out_cases, try_terminals, try_readme, try_hostile, try_limits, try_pairs,
+    try_each_byte, try_texts, try_memory, try_big,
+)
+
+
+def main(given):
+    global program, folder
+    program = os.path.abspath(given.program or "dexasm")
+    if subprocess.run([program, "--help"], stdout=subprocess.PIPE).returncode != 0:
+        return not_built()
+    with tempfile.TemporaryDirectory() as folder:
+        for part in PARTS:
+            part()
+    return last_line()
