@@ -15,7 +15,7 @@ use crate::walking::MOST_AT_ONCE;
 use bumpalo::Bump;
 use bumpalo::collections::into_bump_slice;
 use dex_base::Fault;
-use dex_insn::{Format, RawInsn, format_of, read_insn, size_of};
+use dex_insn::{Format, RawInsn, Take, format_of, size_of, take_insn};
 use program_code_rules::{branch_stays, insn_is_among};
 use program_types::Insn;
 use std::alloc::Global;
@@ -31,7 +31,7 @@ struct Seen<'a> {
 /// Whether an instruction neither is a payload nor refers to one.
 #[inline(always)]
 #[tactic(auto, unfolding(crate::specs::Plain::is_plain, dex_insn::specs::Raw::raw))]
-fn is_plain(one: &RawInsn<'_>) -> bool
+pub(crate) fn is_plain(one: &RawInsn<'_>) -> bool
     ensures { result ≡ is_plain (raw one.now) }
 {
     !matches!(
@@ -41,6 +41,41 @@ fn is_plain(one: &RawInsn<'_>) -> bool
             | RawInsn::Data { .. }
             | RawInsn::I31t { .. }
     )
+}
+
+/// Makes the symbolic instruction of the one read at the unit `at`, which is number `k` of a code of so many registers whose instructions
+/// begin at these units. None comes of one that has to do with payloads or breaks a rule.
+#[derive(Clone, Copy)]
+struct Link<'t, 'a, 's> {
+    tables: &'t Tables<'a>,
+    starts: &'s [u32],
+    registers: u16,
+    at: u32,
+    k: usize,
+    ghost rises: { Rises starts.now },
+    ghost few: { length starts.now ≤ 4294967295 },
+}
+
+impl<'a, 'b> Take<'b> for Link<'_, 'a, '_> {
+    type Out = Option<Seen<'a>>;
+
+    ghost takes = { λ l r out. IfSome out (λ s. SaysAtOnce (NameIsAt l.tables.now) l.starts.now l.registers l.at l.k r (insn s.insn) × (s.units ≡ spelled.units r)) };
+
+    #[inline(always)]
+    fn take(self, one: RawInsn<'b>) -> Option<Seen<'a>> {
+        if !is_plain(&one) {
+            return None;
+        }
+        let insn = link(self.tables, self.starts, self.at, &one)?;
+        let stays = branch_stays(&insn, self.starts.len(), self.k);
+        if !stays || !insn_is_among(self.registers, &insn) {
+            return None;
+        }
+        Some(Seen {
+            insn,
+            units: size_of(&one),
+        })
+    }
 }
 
 /// The instruction at the unit `at` of a code of so many registers, whose instructions begin at these units: number `k`. None where there is
@@ -58,20 +93,15 @@ fn insn_at<'a>(
     requires few { length starts.now ≤ 4294967295 }
     ensures { IfSome result (λ s. (r : Raw) × InsnStands units.now at r × SaysAtOnce (NameIsAt tables.now) starts.now registers at k r (insn s.insn) × (s.units ≡ spelled.units r)) }
 {
-    match read_insn(units, at) {
-        Ok(one) => {
-            if !is_plain(&one) {
-                return None;
-            }
-            let insn = link(tables, starts, at, &one)?;
-            if !branch_stays(&insn, starts.len(), k) || !insn_is_among(registers, &insn) {
-                return None;
-            }
-            Some(Seen {
-                insn,
-                units: size_of(&one),
-            })
-        }
+    let link = Link {
+        tables,
+        starts,
+        registers,
+        at,
+        k,
+    };
+    match take_insn(units, at, link) {
+        Ok(seen) => seen,
         Err(_) => None,
     }
 }

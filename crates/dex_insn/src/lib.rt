@@ -25,6 +25,7 @@ mod plain;
 mod read;
 mod registers;
 mod size;
+mod take;
 mod units;
 
 // Writing: from an instruction to units.
@@ -47,9 +48,10 @@ pub use opcode::{Format, IndexKind, Opcode};
 pub use opcodes::OPCODES;
 pub use put::put_insn;
 pub use raw::RawInsn;
-pub use read::read_insn;
+pub use read::{read_insn, take_insn};
 pub use registers::top_register;
 pub use size::size_of;
 pub use table_laws::{
     indices_have_a_kind, mnemonics_are_plain, mnemonics_differ, used_opcodes_are_named,
 };
+pub use take::Take;

@@ -1,4 +1,4 @@
-//! The opcode of a mnemonic: a table of one slot a mnemonic, found by a hash of its text. `tools/mnemonics` writes the two tables,
+//! The opcode of a mnemonic: a table of one slot a mnemonic, found by a hash of its text. `tools/generate` writes the two tables,
 //! and says how.
 
 ghost use Rattle.std.specs.Prelude.{ℕ, ◌≡◌, IfSome, IfNone};

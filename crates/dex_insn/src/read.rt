@@ -1,31 +1,32 @@
 //! Reading one instruction.
 
-ghost use Rattle.std.specs.Prelude.{◌≡◌, ◌≤◌, length, IfOk, IfErr, IsOkAnd, ◌%◌};
+ghost use Rattle.std.specs.Prelude.{◌≡◌, ◌≤◌, length, IfOk, IfErr, IsOk, IsOkAnd, ◌%◌};
 ghost use Rattle.dex_insn.specs.Raw.{Raw, raw};
 ghost use Rattle.dex_insn.specs.RawInsns.{SpellsInsn, IsPayload, InsnStands};
 ghost use Rattle.dex_insn.specs.Flaws.{InsnBreaks, IsFaultAt, code_of};
 
 use crate::flaw::Flaw;
 use crate::payload::{read_data, read_packed, read_sparse};
-use crate::plain::read_plain;
+use crate::plain::take_plain;
 use crate::raw::RawInsn;
+use crate::take::{Take, Whole, made};
 use crate::units::unit;
 use dex_base::Fault;
 
-/// Reads the instruction or payload at the front of the bytes, whose first unit is unit `at`.
+/// Reads the instruction or payload at the front of the bytes, whose first unit is unit `at`, and answers what is made of it.
 #[inline(always)]
-fn read_front(front: &[u8], at: u32) -> Result<RawInsn<'_>, Flaw>
+fn take_front<'b, V: Take<'b>>(front: &'b [u8], at: u32, v: V) -> Result<V::Out, Flaw>
     requires long { 2 ≤ length front.now }
-    ensures ok { IfOk result (λ insn. SpellsInsn front.now (raw insn)) }
-    ensures even { IfOk result (λ insn. IsPayload front.now → at % 2 ≡ 0) }
+    ensures ok { IfOk result (λ out. (r : Raw) × SpellsInsn front.now r × V.takes v r out) }
+    ensures even { IfOk result (λ out. IsPayload front.now → at % 2 ≡ 0) }
     ensures err { IfErr result (λ flaw. InsnBreaks flaw at front.now) }
 {
     match unit(front, 0) {
         0x0100 | 0x0200 | 0x0300 if at % 2 == 1 => Err(Flaw::OddPayload),
-        0x0100 => read_packed(front),
-        0x0200 => read_sparse(front),
-        0x0300 => read_data(front),
-        _ => read_plain(front),
+        0x0100 => Ok(made(v, front, read_packed(front)?)),
+        0x0200 => Ok(made(v, front, read_sparse(front)?)),
+        0x0300 => Ok(made(v, front, read_data(front)?)),
+        _ => take_plain(front, v),
     }
 }
 
@@ -36,6 +37,30 @@ fn fault(flaw: Flaw, at: u32) -> Fault
     ensures place { result.place ≡ at }
 {
     Fault::at(flaw.code(), u64::from(at))
+}
+
+/// Reads the instruction or payload at unit `at` as `read_insn` does, with its errors, and answers what `v` makes of it.
+///
+/// ```
+/// let units = take_insn(&[0x12, 0xf0], 0, Size)?; // 1, where `Size` makes `size_of` of each: see `Take`
+/// ```
+#[inline(always)]
+pub fn take_insn<'b, V: Take<'b>>(units: &'b [u8], at: u32, v: V) -> Result<V::Out, Fault>
+    // It is made of what stands there.
+    ensures ok { IfOk result (λ out. (r : Raw) × InsnStands units.now at r × V.takes v r out) }
+    // Where an instruction stands, something is made of it.
+    ensures only { (r : Raw) → InsnStands units.now at r → IsOk result }
+    // A refusal names a rule that is broken there.
+    ensures err { IfErr result (λ fault. IsFaultAt units.now at fault) }
+{
+    let begin = 2 * at as usize;
+    if units.len() < begin + 2 {
+        return Err(fault(Flaw::Missing, at));
+    }
+    match take_front(&units[begin..], at, v) {
+        Ok(out) => Ok(out),
+        Err(flaw) => Err(fault(flaw, at)),
+    }
 }
 
 /// Reads the instruction or payload at unit `at` of a code's units, given as bytes, two to a unit, the low byte first; a
@@ -62,12 +87,5 @@ pub fn read_insn(units: &[u8], at: u32) -> Result<RawInsn<'_>, Fault>
     // A refusal names a rule that is broken there.
     ensures err { IfErr result (λ fault. IsFaultAt units.now at fault) }
 {
-    let begin = 2 * at as usize;
-    if units.len() < begin + 2 {
-        return Err(fault(Flaw::Missing, at));
-    }
-    match read_front(&units[begin..], at) {
-        Ok(insn) => Ok(insn),
-        Err(flaw) => Err(fault(flaw, at)),
-    }
+    take_insn(units, at, Whole)
 }

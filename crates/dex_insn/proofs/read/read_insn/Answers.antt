@@ -1,25 +1,23 @@
-use Rattle.std.proofs.Common.{◌-◌, ◌*◌, arith, length-drop}
-use Rattle.dex_insn.specs.declared.flaw.Flaw.TheVariants.{Missing}
-use Rattle.dex_insn.specs.Raw.{raw}
+use Rattle.std.proofs.Common.{ℕ, List, ◌≡◌, ◌∙◌, sym, subst}
+use Rattle.std.specs.Prelude.{Result, Ok, Err, IfOk, IsOk, IsOkAnd}
+use Rattle.dex_base.specs.declared.fault.Fault.{Fault}
+use Rattle.dex_insn.specs.Raw.{Raw, raw}
+use Rattle.dex_insn.specs.RawInsns.{InsnStands}
+use Rattle.dex_insn.specs.declared.raw.RawInsn.{RawInsn}
 use Rattle.dex_insn.proofs.Unique.{once}
-use Rattle.dex_insn.proofs.Flaws.{no_flaw}
 use Rattle.dex_insn.proofs.read.read_insn.Goals as goal
-use Rattle.dex_base.proofs.ListFacts.{rest_is}
 
-pub returns-then-units-begin-clause-err : goal.returns-then-units-begin-clause-err
-returns-then-units-begin-clause-err c = record {
-  flaw = Missing;
-  code = c.fault.ensures.code;
-  place = c.fault.ensures.place;
-  broken = omega (arith, length-drop (2 * c.args.at) c.args.units.now);
-}
+module _ (us : List ℕ) (at : ℕ) where
+  whole : (x : Result RawInsn Fault) → IfOk x (λ insn. (r : Raw) × InsnStands us at r × (raw insn ≡ r)) → IfOk x (λ insn. InsnStands us at (raw insn))
+  whole (Ok insn) h = subst (InsnStands us at) (sym h.2) h.1
+  whole (Err e) h = tt
 
-pub returns-in-Ok-clause-only : goal.returns-in-Ok-clause-only
-returns-in-Ok-clause-only c = λ r s.
-    let e = rest_is (2 * c.args.at) c.args.units.now in
-    once _ (raw c.in-Ok.insn) r (rw e at c.in-Ok.ensures.ok) s.spelled
+  only : (x : Result RawInsn Fault) → IfOk x (λ insn. (r : Raw) × InsnStands us at r × (raw insn ≡ r)) → ((r : Raw) → InsnStands us at r → IsOk x) → (r : Raw) → InsnStands us at r → IsOkAnd x (λ insn. raw insn ≡ r)
+  only (Ok insn) h made r s = h.2 ∙ once _ h.0 r h.1.spelled s.spelled
+  only (Err e) h made r s = let f = made r s in absurd cc
 
-pub returns-in-Err-clause-only : goal.returns-in-Err-clause-only
-returns-in-Err-clause-only c = λ r s.
-    let e = rest_is (2 * c.args.at) c.args.units.now in
-    no_flaw c.in-Err.flaw c.args.at c.args.units.now r s (rw e at c.in-Err.ensures.err)
+pub returns-clause-ok : goal.returns-clause-ok
+returns-clause-ok c = whole c.args.units.now c.args.at _ c.take_insn.ensures.ok
+
+pub returns-clause-only : goal.returns-clause-only
+returns-clause-only c = only c.args.units.now c.args.at _ c.take_insn.ensures.ok c.take_insn.ensures.only
