@@ -11,6 +11,7 @@ use Rattle.dex_container.specs.Frame.{IsFramed}
 use Rattle.dex_container.specs.Layout.{size_of}
 use Rattle.dex_container.proofs.Framed.{IsSection-one}
 use Rattle.program_types.specs.Content.{Name, OfText, OfDesc, OfField, OfMethod, Value, Byte, Short, Char, Int, Long, Float, Double, Named, Enum, Array, Null, Boolean, values}
+use Rattle.program_types.specs.Depth.{most_depth}
 use Rattle.dex_container.specs.Where.{IsInSection}
 use Rattle.tables_rows.specs.Sorted.{TablesHold}
 use Rattle.tables_rows.specs.Stands.{NameStands}
@@ -206,15 +207,15 @@ module _ (N : ℕ → Name → Type 0) (names : (i t : ℕ) → (23 ≤ t) × (t
 
   -- ---- arrays of static values
 
-  array_decided : (most : ℕ) (bytes : List ℕ) → AreBytes bytes → ((vs : List Value) × (n : ℕ) × (after : List ℕ) × (left : List ℕ) × Takes (SpellsArray N) bytes vs after × (n ≤ most) × (length vs ≡ n) × Takes (Each (Shallow N 64)) left vs after) ⊎ ((e : Fault) × ArrayBreaks N off end most bytes e)
+  array_decided : (most : ℕ) (bytes : List ℕ) → AreBytes bytes → ((vs : List Value) × (n : ℕ) × (after : List ℕ) × (left : List ℕ) × Takes (SpellsArray N) bytes vs after × (n ≤ most) × (length vs ≡ n) × Takes (Each (Shallow N most_depth)) left vs after) ⊎ ((e : Fault) × ArrayBreaks N off end most bytes e)
   unfolding AreDecided
   array_decided most bytes are = elim (decide_uleb bytes) [
     | inl x ↦ elim (cases_lt most x.0) [
       | inl above ↦ inr (record { code = 49; place = off }, inr (inl (record { n = x.0; after = x.1; counted = x.2; above = above }, refl)))
-      | inr few ↦ elim (more_values 64 (value_decided 64) x.0 x.1 (rest_are Spells bytes x.1 x.0 x.2 are)) [
+      | inr few ↦ elim (more_values most_depth (value_decided most_depth) x.0 x.1 (rest_are Spells bytes x.1 x.0 x.2 are)) [
         | inl y ↦
             let count = Begins-from_takes Spells bytes x.0 x.1 x.2 in
-            inl (y.0, x.0, y.1, x.1, takes_static N x.0 (length x.2.front) 64 bytes x.1 y.1 y.0 count.0 (sym count.1) (takes_many (Shallow N 64) x.0 x.1 y.1 y.0 y.2 y.3), few, y.2, y.3)
+            inl (y.0, x.0, y.1, x.1, takes_static N x.0 (length x.2.front) most_depth bytes x.1 y.1 y.0 count.0 (sym count.1) (takes_many (Shallow N most_depth) x.0 x.1 y.1 y.0 y.2 y.3), few, y.2, y.3)
         | inr u ↦ inr (u.0, inr (inr (record { n = x.0; after = x.1; counted = x.2; few = few; next = u.1 })))
       ]
     ]
@@ -254,7 +255,7 @@ inside b are framed hold off most s low high =
             record {
               stands = found_at (SpellsArray (NameStands b)) b framed 0x2005 1 off s low (omega (arith, high)) (mod_one off) x.0 x.2 x.4;
               few = omega (arith, few, n);
-              deep = takes_deep (NameStands b) x.1 64 x.3 x.2 x.0 (takes_many (Shallow (NameStands b) 64) x.1 x.3 x.2 x.0 x.6 x.7);
+              deep = takes_deep (NameStands b) x.1 most_depth x.3 x.2 x.0 (takes_many (Shallow (NameStands b) most_depth) x.1 x.3 x.2 x.0 x.6 x.7);
             },
           )
       | inr u ↦ inr (u.0, inr (s.end, bytes, record { begin = s.begin; section = s.section; after = low; before = high; same = refl }, u.1))

@@ -5,6 +5,7 @@ use Rattle.dex_base.specs.Grammar.{IsPrefixUnique, Each}
 use Rattle.dex_base.proofs.WeakerLaws.{Implies, Takes-weaker, Each-weaker}
 use Rattle.dex_container.specs.Frame.{IsFramed}
 use Rattle.program_types.specs.Content.{Name, OfText, OfDesc, OfField, OfMethod, Value}
+use Rattle.program_types.specs.Depth.{most_depth}
 use Rattle.tables_rows.specs.Names.{Names, AreNamesOf, NameIsAt}
 use Rattle.tables_rows.specs.Stands.{NameStands}
 use Rattle.tables_rows.proofs.NameLaws.{names_stand, stands_names, field_one, method_one}
@@ -69,7 +70,7 @@ module _ (N M : ℕ → Name → Type 0) (f : (i : ℕ) (which : Name) → N i w
         after = u.after;
         counted = u.counted;
         few = u.few;
-        next = next_carried (Shallow N 64) (Shallow M 64) (ValueBreaks N off end 64) (ValueBreaks M off end 64) (shallow 64) (value_carried off end 64) u.n u.after e u.next;
+        next = next_carried (Shallow N most_depth) (Shallow M most_depth) (ValueBreaks N off end most_depth) (ValueBreaks M off end most_depth) (shallow most_depth) (value_carried off end most_depth) u.n u.after e u.next;
       }))
 
   pub breaks_carried : (b : List ℕ) (off most : ℕ) (e : Fault) → ArrayBreaksAt N b off most e → ArrayBreaksAt M b off most e

@@ -11,6 +11,7 @@ use Rattle.dex_container.specs.Frame.{IsFramed}
 use Rattle.dex_container.specs.Where.{IsSectionRest}
 use Rattle.dex_container.proofs.Framed.{IsSection-one}
 use Rattle.program_types.specs.Content.{Name, Value}
+use Rattle.program_types.specs.Depth.{most_depth}
 use Rattle.dex_value.specs.Standing.{Shallow}
 use Rattle.dex_value.specs.Unique.{IsFunctionalByType}
 use Rattle.dex_value.specs.Faults.{IsSizedHead, IsUnknown, IsTooDeep, IsEnded, IsCut, HasNoCount, NamesNothing, OwnBreaks, NextBreaks, InsideBreaks, ValueBreaks, ArrayBreaks, ArrayBreaksAt}
@@ -146,9 +147,9 @@ module _ (N : ℕ → Name → Type 0) (named : IsFunctionalByType N) (off end :
       let same = (Takes-unique Spells bytes y.0.n x.n y.0.after x.after spells_unique y.0.counted x.counted).0 in
       let above = y.0.above in let few = x.few in absurd (omega (arith, same, above, few))
   array_one most bytes e f (inr (inr x)) (inr (inr y)) =
-      let Next = NextBreaks (Shallow N 64) (ValueBreaks N off end 64) in
+      let Next = NextBreaks (Shallow N most_depth) (ValueBreaks N off end most_depth) in
       let same = Takes-unique Spells bytes x.n y.n x.after y.after spells_unique x.counted y.counted in
-      next_one (Shallow N 64) (ValueBreaks N off end 64) (shallow_unique N named 64) (value_none N named off end 64) (value_one 64) y.n y.after e f
+      next_one (Shallow N most_depth) (ValueBreaks N off end most_depth) (shallow_unique N named most_depth) (value_none N named off end most_depth) (value_one most_depth) y.n y.after e f
       (subst (λ (l : List ℕ). Next y.n l e) same.1 (subst (λ (n : ℕ). Next n x.after e) same.0 x.next)) y.next
 
 -- two that go to one section's end have the same bytes

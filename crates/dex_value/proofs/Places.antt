@@ -10,7 +10,7 @@ use Rattle.dex_container.specs.declared.section.Section.{Section}
 use Rattle.dex_container.specs.Where.{slice, At, IsInSection, IsSectionOf}
 use Rattle.dex_container.proofs.Standing.{stands_at, at_place, mod_one}
 use Rattle.program_types.specs.Content.{Name, Value}
-use Rattle.program_types.specs.Depth.{depth}
+use Rattle.program_types.specs.Depth.{depth, most_depth}
 use Rattle.dex_value.specs.Spelling.{SpellsArray}
 use Rattle.dex_value.specs.Standing.{ArrayStands}
 use Rattle.dex_value.specs.Unique.{IsFunctionalByType}
@@ -37,7 +37,7 @@ pub outside_none : (N : ℕ → Name → Type 0) (b : List ℕ) (off most : ℕ)
 outside_none N b off most vs out a = out (at_place (SpellsArray N) b 0x2005 1 off vs a.stands (at_some N b off vs a.stands))
 
 module _ (N : ℕ → Name → Type 0) (b rest : List ℕ) (s : Section) (off : ℕ) (is : IsSectionOf b 0x2005 s) (same : rest ≡ take (s.end - off) (drop off b)) where
-  pub array_stands : (most : ℕ) (vs : List Value) → s.begin ≤ off → off < s.end → ((after : List ℕ) × Takes (SpellsArray N) rest vs after) → length vs ≤ most → AllByRecursion (λ v. depth v ≤ 64) vs → ArrayStands N b off most vs
+  pub array_stands : (most : ℕ) (vs : List Value) → s.begin ≤ off → off < s.end → ((after : List ℕ) × Takes (SpellsArray N) rest vs after) → length vs ≤ most → AllByRecursion (λ v. depth v ≤ most_depth) vs → ArrayStands N b off most vs
   array_stands most vs low high t few deep = record {
     stands = stands_at (SpellsArray N) b rest 0x2005 1 s off is same vs (length t.1.front) low high (mod_one off) (Begins-from_takes (SpellsArray N) rest vs t.0 t.1).0;
     few = few;

@@ -9,7 +9,7 @@ use Rattle.dex_base.proofs.GrammarLaws.{Each-next}
 use Rattle.dex_base.proofs.Numbers.{spells_unique}
 use Rattle.dex_base.proofs.TakesLaws.{Counted-takes, Takes-unique}
 use Rattle.program_types.specs.Content.{Name, OfText, OfDesc, OfField, OfMethod, Value, Named, Enum, Array}
-use Rattle.program_types.specs.Depth.{depth, greatest_depth}
+use Rattle.program_types.specs.Depth.{depth, greatest_depth, most_depth}
 use Rattle.dex_value.specs.Spelling.{unsigned_of, SpellsValue, SpellsArray, count_of}
 use Rattle.dex_value.specs.Standing.{Shallow}
 use Rattle.dex_value.specs.Unique.{IsFunctionalByType}
@@ -163,9 +163,9 @@ module _ (N : ℕ → Name → Type 0) (one : IsFunctionalByType N) (off end : �
   value_none (suc limit) bytes fault (inl u) = own_none N off end (suc limit) bytes fault u
   value_none (suc limit) bytes fault (inr u) = inside_none limit (value_none limit) bytes fault u
 
-  -- where an array of static values breaks, none stands with at most so many values, each at most 64 deep
+  -- where an array of static values breaks, none stands with at most so many values, none deeper than a value may be
   pub array_none : (most : ℕ) (bytes : List ℕ) (fault : Fault) → ArrayBreaks N off end most bytes fault → (vs : List Value) (rest : List ℕ) → Takes (SpellsArray N) bytes vs rest → length vs ≤ most
-      → AllByRecursion (λ v. depth v ≤ 64) vs → ⊥
+      → AllByRecursion (λ v. depth v ≤ most_depth) vs → ⊥
   array_none most bytes fault (inl u) vs rest t few deep =
       let c = Counted-takes Spells (SpellsValue N) bytes rest vs t in
       u.0 c.1.front c.0 (length vs) c.1.whole c.1.spelled
@@ -178,5 +178,5 @@ module _ (N : ℕ → Name → Type 0) (one : IsFunctionalByType N) (off end : �
       let c = Counted-takes Spells (SpellsValue N) bytes rest vs t in
       let same = Takes-unique Spells bytes u.n (length vs) u.after c.0 spells_unique u.counted c.1 in
       let q = c.2 in
-      next_none (Shallow N 64) (ValueBreaks N off end 64) (shallow_unique N one 64) (value_none 64) u.n u.after fault u.next
-      q.front rest vs (same.1 ∙ q.whole) (sym same.0, each-shallow N 64 q.front vs q.spelled deep)
+      next_none (Shallow N most_depth) (ValueBreaks N off end most_depth) (shallow_unique N one most_depth) (value_none most_depth) u.n u.after fault u.next
+      q.front rest vs (same.1 ∙ q.whole) (sym same.0, each-shallow N most_depth q.front vs q.spelled deep)

@@ -6,6 +6,7 @@ use Rattle.dex_base.specs.Leb128.{Spells}
 use Rattle.dex_base.specs.declared.fault.Fault.{Fault}
 use Rattle.dex_container.specs.Where.{IsInSection, IsSectionRest}
 use Rattle.program_types.specs.Content.{Name, Value}
+use Rattle.program_types.specs.Depth.{most_depth}
 use Rattle.dex_value.specs.Spelling.{unsigned_of, value_type_of}
 use Rattle.dex_value.specs.Standing.{Shallow}
 
@@ -144,7 +145,7 @@ pub record HasWrongValue (N : ℕ → Name → Type 0) (off end most : ℕ) (byt
   pub after : List ℕ
   pub counted : Takes Spells bytes n after
   pub few : n ≤ most
-  pub next : NextBreaks (Shallow N 64) (ValueBreaks N off end 64) n after fault
+  pub next : NextBreaks (Shallow N most_depth) (ValueBreaks N off end most_depth) n after fault
 
 -- What is wrong with an encoded_array whose section has these bytes from it on.
 abbrev pub ArrayBreaks : (ℕ → Name → Type 0) → ℕ → ℕ → ℕ → List ℕ → Fault → Type 0

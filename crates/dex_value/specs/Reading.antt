@@ -5,7 +5,7 @@ use Rattle.dex_base.specs.Grammar.{Takes}
 use Rattle.program_types.specs.Content.{Name, OfField, Value, Byte, Short, Char, Int, Long, Float, Double, Named, Enum}
 use Rattle.dex_insn.specs.declared.opcode.IndexKind.{IndexKind}
 use Rattle.dex_insn.specs.declared.opcode.IndexKind.TheVariants as kind
-use Rattle.program_types.specs.Depth.{depth}
+use Rattle.program_types.specs.Depth.{depth, most_depth}
 use Rattle.dex_value.specs.Spelling.{unsigned_of, signed_of, high_of, value_type_of, SpellsArray}
 use Rattle.dex_value.specs.declared.types.NumberType.{NumberType}
 use Rattle.dex_value.specs.declared.types.NumberType.TheVariants as number
@@ -73,4 +73,4 @@ pub record TakesArray (N : ℕ → Name → Type 0) (most : ℕ) (bytes : List �
   pub rest : List ℕ
   pub spelled : Takes (SpellsArray N) bytes vs rest
   pub few : length vs ≤ most
-  pub deep : AllByRecursion (λ v. depth v ≤ 64) vs
+  pub deep : AllByRecursion (λ v. depth v ≤ most_depth) vs

@@ -3,7 +3,7 @@ use Rattle.std.specs.Prelude.{ℕ, ◌≤◌, List, length}
 use Rattle.std.specs.List.{AllByRecursion}
 use Rattle.dex_container.specs.Where.{At}
 use Rattle.program_types.specs.Content.{Name, Value}
-use Rattle.program_types.specs.Depth.{depth}
+use Rattle.program_types.specs.Depth.{depth, most_depth}
 use Rattle.dex_value.specs.Spelling.{SpellsValue, SpellsArray}
 
 -- The bytes spell the value, which is at most this deep.
@@ -15,4 +15,4 @@ pub record Shallow (N : ℕ → Name → Type 0) (limit : ℕ) (bytes : List ℕ
 pub record ArrayStands (N : ℕ → Name → Type 0) (b : List ℕ) (off most : ℕ) (vs : List Value) : Type 0 where
   pub stands : At (SpellsArray N) b 0x2005 1 off vs
   pub few : length vs ≤ most
-  pub deep : AllByRecursion (λ v. depth v ≤ 64) vs
+  pub deep : AllByRecursion (λ v. depth v ≤ most_depth) vs

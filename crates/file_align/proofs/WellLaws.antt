@@ -9,7 +9,7 @@ use Rattle.dex_base.specs.Descriptor.{IsClass}
 use Rattle.program_code_rules.proofs.OperandLaws.{formed_operands}
 use Rattle.program_code_rules.specs.CodeRules.{OperandsHold, TargetsHold, PayloadsHold, TriesHold}
 use Rattle.program_types.specs.Content.{Descriptor, Code, Method, Class, Program}
-use Rattle.program_types.specs.Depth.{depth}
+use Rattle.program_types.specs.Depth.{depth, most_depth}
 use Rattle.program_types.specs.Formed.{IsFormed, RegistersHold}
 use Rattle.program_rules.specs.Ranges.{NameInRange, ValueInRange, MemberInRange, CodeInRange, DefinedInRange, ClassInRange}
 use Rattle.program_rules.specs.WellFormed.{WellFormed}
@@ -104,7 +104,7 @@ same_place p q e i c d a h = record {
 same_values : (c d : Class) → AlignedClass c d → ValuesFit c → ValuesFit d
 same_values c d a h = record {
   few = subst (λ z. length d.values ≤ length z) (sym a.statics) (subst (λ z. length z ≤ length c.statics) (sym a.values) h.few);
-  deep = subst (AllByRecursion (λ v. depth v ≤ 64)) (sym a.values) h.deep;
+  deep = subst (AllByRecursion (λ v. depth v ≤ most_depth)) (sym a.values) h.deep;
 }
 
 class_rules : (p q : Program) → map (λ (c : Class). c.ty) q ≡ map (λ (c : Class). c.ty) p → (i : ℕ) (c d : Class) → AlignedClass c d → ClassHolds p i c → CodesHold IsFormed d → ClassHolds q i d

@@ -15,7 +15,7 @@ use Rattle.dex_container.specs.Frame.{IsFramed}
 use Rattle.dex_container.specs.Layout.{size_of}
 use Rattle.dex_base.specs.Descriptor.{IsClass}
 use Rattle.program_types.specs.Content.{Units, Proto, Name, OfText, OfDesc, OfField, OfMethod, Value, Code, Member, Method, Class, Program}
-use Rattle.program_types.specs.Depth.{depth}
+use Rattle.program_types.specs.Depth.{depth, most_depth}
 use Rattle.program_types.specs.Key.{Key, key_cmp}
 use Rattle.program_types.specs.Mentions.{if_any, names_of_value, names_of_code, field_of_class, names_of_method, names_of_class}
 use Rattle.tables_rows.specs.Sorted.{TablesHold}
@@ -227,11 +227,11 @@ module _ (b : List ℕ) (p : Program) (m : Means b p) where
 
 -- ---- values
 
-values_fit : (b : List ℕ) (off most : ℕ) (vs : List Value) → StaticsAt b off most vs → (length vs ≤ most) × AllByRecursion (λ (v : Value). depth v ≤ 64) vs
+values_fit : (b : List ℕ) (off most : ℕ) (vs : List Value) → StaticsAt b off most vs → (length vs ≤ most) × AllByRecursion (λ (v : Value). depth v ≤ most_depth) vs
 values_fit b off most vs st = by (off == 0) st
   where
-    by : (t : Bool) → MatchBool t (vs ≡ []) (ArrayStands (NameStands b) b off most vs) → (length vs ≤ most) × AllByRecursion (λ (v : Value). depth v ≤ 64) vs
-    by true e = subst (λ (l : List Value). (length l ≤ most) × AllByRecursion (λ (v : Value). depth v ≤ 64) l) (sym e) (omega arith, tt)
+    by : (t : Bool) → MatchBool t (vs ≡ []) (ArrayStands (NameStands b) b off most vs) → (length vs ≤ most) × AllByRecursion (λ (v : Value). depth v ≤ most_depth) vs
+    by true e = subst (λ (l : List Value). (length l ≤ most) × AllByRecursion (λ (v : Value). depth v ≤ most_depth) l) (sym e) (omega arith, tt)
     by false a = (a.few, a.deep)
 
 -- ---- code

@@ -6,7 +6,7 @@ use Rattle.std.specs.declared.cmp.Ordering.TheVariants.{Less}
 use Rattle.dex_base.specs.Descriptor.{IsClass}
 use Rattle.dex_base.specs.declared.fault.Fault.{Fault}
 use Rattle.program_types.specs.Content.{Descriptor, Code, Member, Method, Class, Program}
-use Rattle.program_types.specs.Depth.{depth}
+use Rattle.program_types.specs.Depth.{depth, most_depth}
 use Rattle.program_types.specs.Formed.{RegistersHold}
 use Rattle.program_types.specs.Key.{Key, key_cmp, proto_key}
 use Rattle.program_types.specs.Mentions.{names_of_class}
@@ -82,7 +82,7 @@ pub record OrderHolds (p : Program) (i : ℕ) (c : Class) : Type 0 where
 -- No more values than static fields, none deeper than 64.
 pub record ValuesFit (c : Class) : Type 0 where
   pub few : length c.values ≤ length c.statics
-  pub deep : AllByRecursion (λ v. depth v ≤ 64) c.values
+  pub deep : AllByRecursion (λ v. depth v ≤ most_depth) c.values
 
 -- ---- code
 

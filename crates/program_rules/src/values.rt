@@ -3,7 +3,7 @@
 ghost use Rattle.std.specs.Prelude.{◌↔◌, ◌≤◌, map, IsTrue};
 ghost use Rattle.std.specs.List.{AllByRecursion};
 ghost use Rattle.program_types.specs.View.{value, class};
-ghost use Rattle.program_types.specs.Depth.{depth};
+ghost use Rattle.program_types.specs.Depth.{depth, most_depth};
 ghost use Rattle.program_types.specs.Mentions.{NamesHold};
 ghost use Rattle.program_rules.specs.Valid.{IsValidName};
 ghost use Rattle.program_rules.specs.Rules.{ValuesFit};
@@ -48,7 +48,7 @@ pub(crate) fn values_are_valid(all: &[Value<'_>]) -> bool
 
 /// Whether none of the values is deeper than 64.
 fn are_shallow(all: &[Value<'_>]) -> bool
-    ensures { IsTrue result ↔ AllByRecursion (λ v. depth v ≤ 64) (map value all.now) }
+    ensures { IsTrue result ↔ AllByRecursion (λ v. depth v ≤ most_depth) (map value all.now) }
 {
     for each in all {
         if !is_within_depth(each, 64) {

@@ -12,3 +12,7 @@ abbrev mutual
   pub greatest_depth : Values → ℕ
   greatest_depth no_values = 0
   greatest_depth (more_values v vs) = max (depth v) (greatest_depth vs)
+
+-- the deepest that a static value may be (ours)
+abbrev pub most_depth : ℕ
+most_depth = 64

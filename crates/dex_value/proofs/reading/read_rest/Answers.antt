@@ -4,6 +4,7 @@ use Rattle.dex_base.proofs.TakesLaws.{Takes-from_begins}
 use Rattle.tables_rows.specs.Names.{NameIsAt}
 use Rattle.dex_value.proofs.Taking.{takes_static, takes_count, takes_deep}
 use Rattle.dex_value.proofs.reading.read_rest.Goals as goal
+use Rattle.program_types.specs.Depth.{most_depth}
 
 pub returns-then-count-most-clause-err : goal.returns-then-count-most-clause-err
 returns-then-count-most-clause-err g c = λ other.
@@ -16,13 +17,13 @@ pub returns-clause-ok : goal.returns-clause-ok
 returns-clause-ok g c =
     let all = c.in_ok-many.ensures.ok in
     let N = NameIsAt (g.K.Keep.names c.args.keep) in
-    let count = takes_count N c.in-Some.count 64 c.split_at.result.1.now _ all.0 all.1 in (
+    let count = takes_count N c.in-Some.count most_depth c.split_at.result.1.now _ all.0 all.1 in (
       all.0,
       record {
         rest = _;
-        spelled = takes_static N c.in-Some.count c.in-Some.length 64 c.args.bytes.now c.split_at.result.1.now _ all.0 c.in-Some.ensures.found c.split_at.ensures.back all.1;
+        spelled = takes_static N c.in-Some.count c.in-Some.length most_depth c.args.bytes.now c.split_at.result.1.now _ all.0 c.in-Some.ensures.found c.split_at.ensures.back all.1;
         few = omega (arith, count, c.if-count-most.false);
-        deep = takes_deep N c.in-Some.count 64 c.split_at.result.1.now _ all.0 all.1;
+        deep = takes_deep N c.in-Some.count most_depth c.split_at.result.1.now _ all.0 all.1;
       },
       count,
       all.2,
