@@ -1,4 +1,4 @@
-//! The words of the help. The manual page docs/man/dexasm.1 is made of them too, by tools/man.
+//! The words of the help. The manual page docs/man/dexasm.1 is made of them too, by tools/generate.
 
 /// The version of the tool, its crates and its manual pages; CHANGELOG.md has a section for it.
 pub(crate) const VERSION: &str = "0.5.0-dev";
