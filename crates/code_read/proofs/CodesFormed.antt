@@ -17,7 +17,6 @@ use Rattle.program_types.specs.Content.{Name, Catch, Insn, Try, Code}
 use Rattle.program_types.specs.Formed.{WantsPayload, wanted_by, insn_at, try_at, insn_wants, insn_reach, insn_branch, insn_targets, insn_leads, RefersToPayload, IsTarget, TargetHolds, PayloadHolds, TryFormed, RegistersHold, IsFormed}
 use Rattle.program_types.specs.Operands.{IsOperand}
 use Rattle.program_types.specs.Content as made
-use Rattle.program_types.specs.declared.payload.Payload.TheVariants as payload
 use Rattle.tables_rows.specs.Stands.{NameStands}
 use Rattle.code_read.specs.Places.{count_below, Rises}
 use Rattle.code_read.specs.Walk.{Run, starts, raw_at, address}

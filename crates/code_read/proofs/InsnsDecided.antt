@@ -56,7 +56,7 @@ origin-found is k = elim (decide-switch (insn_payload (insn_at is k))) [
 
 module _ (N : ℕ → Name → Type 0) (rs : List Raw) (names : (k : ℕ) → k < length rs → NameHolds N rs k) where
   -- each from itself
-  half : (is : List Insn) × (length is ≡ length rs) × ((k : ℕ) → k < length rs → Says N (lead (starts rs) (address rs k)) (raw_at rs k) (insn_at is k))
+  pub half : (is : List Insn) × (length is ≡ length rs) × ((k : ℕ) → k < length rs → Says N (lead (starts rs) (address rs k)) (raw_at rs k) (insn_at is k))
   half = build (made.I10x 0) (λ k i. Says N (lead (starts rs) (address rs k)) (raw_at rs k) i) (length rs) (λ k l. link N _ (raw_at rs k) (names k l))
 
   half-linked : AreHalfLinked N rs half.0

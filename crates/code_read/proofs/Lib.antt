@@ -23,6 +23,7 @@ pub mod HandlersDecided
 pub mod InsnsDecided
 pub mod ItemLaws
 pub mod ListReading
+pub mod LookLaws
 pub mod NamesHaveRows
 pub mod OneItemFault
 pub mod PastLaws

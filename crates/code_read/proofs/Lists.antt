@@ -1,5 +1,5 @@
 -- Lists that grow one by one.
-use Rattle.std.proofs.Common.{◌≡◌, ◌≢◌, ℕ, ◌+◌, ◌<◌, ◌≤◌, List, [], ◌∷◌, ◌++◌, map, length, get_or, ap, sym, ◌∙◌, arith, subst, inl, inr, length-append, set, length-set, get_or-set_same, get_or-set_other}
+use Rattle.std.proofs.Common.{◌≡◌, zero, suc, replicate, refl, ◌≢◌, ℕ, ◌+◌, ◌<◌, ◌≤◌, List, [], ◌∷◌, ◌++◌, map, length, get_or, ap, sym, ◌∙◌, arith, subst, inl, inr, length-append, set, length-set, get_or-set_same, get_or-set_other}
 use Rattle.std.proofs.lemmas.Bool.{cases_lt}
 use Rattle.std.proofs.lemmas.List.{map-append, map-set, get_or_append_left}
 use Rattle.std.proofs.Math.Seq.{get_or-append_seam}
@@ -66,3 +66,13 @@ put-in_place P hs xs x k s inside h =
       ];
       rest = λ j l. let ne : j ≢ k = omega (arith, l) in get_or-set_other is k j (insn x) (content.I10x 0) ne ∙ s.rest j (omega (arith, l));
     })
+
+-- ---- zeros
+
+pub zero_at : (n i : ℕ) → get_or {A = ℕ} (replicate n 0) i 0 ≡ 0
+zero_at zero i = refl
+zero_at (suc n) zero = refl
+zero_at (suc n) (suc i) = zero_at n i
+
+pub zeros : (xs : List ℕ) (n : ℕ) → xs ≡ replicate n 0 → (i : ℕ) → get_or xs i 0 ≡ 0
+zeros xs n e i = subst (λ (ys : List ℕ). get_or ys i 0 ≡ 0) (sym e) (zero_at n i)

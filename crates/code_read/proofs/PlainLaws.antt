@@ -43,7 +43,7 @@ no-targets (content.Sparse keys to) e = absurd cc
 no-targets _ e = refl
 
 -- what is said of each raw instruction of a code
-record SaidPlainly (N : ℕ → Name → Type 0) (rs : List Raw) (is : List Insn) : Type 0 where
+pub record SaidPlainly (N : ℕ → Name → Type 0) (rs : List Raw) (is : List Insn) : Type 0 where
   pub count : length is ≡ length rs
   pub plain : (k : ℕ) → k < length rs → is_plain (raw_at rs k) ≡ true
   pub leads : (k : ℕ) → k < length rs → BranchStays (length rs) k (insn_at is k)
@@ -56,10 +56,10 @@ module _ (N : ℕ → Name → Type 0) (rs : List Raw) (is : List Insn) (s : Sai
   no-wants : (k : ℕ) → k < length rs → insn_wants (insn_at is k) ≡ None
   no-wants k l = ap insn_wants (sym (s.says k l).symbol) ∙ (plain-kind _ _ (raw_at rs k) (s.plain k l)).1
 
-  are-linked : AreLinked N rs is
+  pub are-linked : AreLinked N rs is
   are-linked = record { count = s.count; each = λ k l. record { origin = k; counts = inr (λ i x. subst IsSwitch (no-payload k l) x.0, refl); says = s.says k l } }
 
-  keep : KeepRules is
+  pub keep : KeepRules is
   keep = record {
     targets = λ k l.
         let n = s.count in
@@ -83,11 +83,11 @@ equal a b e = grind (arith, nat_tests)
 
 -- ---- one more
 
-raw_front : (rs : List Raw) (r : Raw) (k : ℕ) → k < length rs → raw_at (rs ++ r ∷ []) k ≡ raw_at rs k
+pub raw_front : (rs : List Raw) (r : Raw) (k : ℕ) → k < length rs → raw_at (rs ++ r ∷ []) k ≡ raw_at rs k
 unfolding raw_at
 raw_front rs r k lt = get_or_append_left rs (r ∷ []) (raw.I10x 0) k lt
 
-raw_last : (rs : List Raw) (r : Raw) → raw_at (rs ++ r ∷ []) (length rs) ≡ r
+pub raw_last : (rs : List Raw) (r : Raw) → raw_at (rs ++ r ∷ []) (length rs) ≡ r
 unfolding raw_at
 raw_last rs r = get_or-append_seam rs r [] (raw.I10x 0)
 

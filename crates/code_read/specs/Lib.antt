@@ -7,6 +7,7 @@ pub mod InsnFaults
 pub mod Registers
 pub mod InsnReading
 pub mod Plain
+pub mod Looking
 pub mod InsnChecking
 pub mod ItemChecking
 pub mod Code

@@ -25,6 +25,7 @@ mod targets;
 mod checking;
 mod insn_laws;
 mod insns;
+mod looking;
 
 // The fixed parts of a code item, its tries and handlers.
 mod handlers;

@@ -32,7 +32,7 @@ pub fn below(starts: &[u32], x: u64) -> usize
 }
 
 /// The unit that is `offset` units from `base`.
-fn unit_at(base: u32, offset: i32) -> Option<u64>
+pub(crate) fn unit_at(base: u32, offset: i32) -> Option<u64>
     ensures none { IfNone result ((pos base +ℤ offset) <ℤ pos 0) }
     ensures some { IfSome result (λ n. pos n ≡ (pos base +ℤ offset)) }
 {

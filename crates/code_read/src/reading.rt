@@ -1,13 +1,14 @@
 //! Reading a code item.
 
-ghost use Rattle.std.specs.Prelude.{◌≡◌, ◌≢◌, ℕ, ◌≤◌, ◌<◌, ◌+◌, ◌*◌, ◌%◌, ◌^◌, ◌⊎◌, IsTrue, length, map, IfOk, IfErr, IfSome, IfNone, Some, None};
+ghost use Rattle.std.specs.Prelude.{◌≡◌, ◌≢◌, ℕ, ◌≤◌, ◌<◌, ◌+◌, ◌*◌, ◌%◌, ◌^◌, ◌⊎◌, IsTrue, length, map, IfOk, IfErr, IfSome, IfNone, IsOkUnless, Some, None};
 ghost use Rattle.dex_base.specs.Fault.{memory};
 ghost use Rattle.program_types.specs.Content as content;
-ghost use Rattle.program_types.specs.View.{code, insn};
+ghost use Rattle.program_types.specs.View.{code, insn, try};
 ghost use Rattle.tables_rows.specs.Names.{NameIsAt};
 ghost use Rattle.program_types.specs.Formed.{RegistersHold};
 ghost use Rattle.code_read.specs.InsnChecking.{AreChecked};
 ghost use Rattle.code_read.specs.InsnFaults.{InsnsBreak};
+ghost use Rattle.code_read.specs.Plain.{ArePlain};
 ghost use Rattle.code_read.specs.ItemChecking.{HoldsItem, HoldsBody};
 ghost use Rattle.code_read.specs.Code.{BodyStands, CodeStands};
 ghost use Rattle.code_read.specs.Faults.{ItemBreaks, CodeBreaks, RegistersBreak, CodeOverruns};
@@ -15,11 +16,12 @@ ghost use Rattle.code_read.specs.Faults.{ItemBreaks, CodeBreaks, RegistersBreak,
 use crate::checking::check_insns;
 use crate::insns::{Insns, read_insns};
 use crate::item::{Item, item_of};
+use crate::looking::are_clear;
 use crate::tries::read_tries;
 use bumpalo::Bump;
 use dex_base::{Fault, fault};
 use dex_container::{Sections, bytes_from, section_of};
-use program_types::Code;
+use program_types::{Code, Insn, Try};
 use std::alloc::Global;
 use tables_rows::Tables;
 
@@ -78,6 +80,34 @@ fn insns_of<'a>(
     })
 }
 
+/// The code of an item with these instructions and tries.
+#[inline(always)]
+fn code_of<'a>(item: &Item<'_>, insns: &'a [Insn<'a>], tries: &'a [Try<'a>]) -> Code<'a>
+    ensures { code result ≡ record { registers = item.now.registers; ins = item.now.ins; outs = item.now.outs; insns = map insn insns.now; tries = map try tries.now } }
+{
+    Code {
+        registers: item.registers,
+        ins: item.ins,
+        outs: item.outs,
+        insns,
+        tries,
+    }
+}
+
+/// Whether nothing but the ins of an item has to be looked at any more: it has no tries, and its instructions break no rule.
+fn is_clear(alloc: Global, tables: &Tables<'_>, item: &Item<'_>) -> Result<bool, Fault>
+    requires even { length item.now.units.now % 2 ≡ 0 }
+    requires short { length item.now.units.now ≤ 8589934590 }
+    ensures ok { IfOk result (λ clear. IsTrue clear → (item.now.tries ≡ 0)
+        × ((begins : _) × (is : _) × ArePlain (NameIsAt tables.now) item.now.units.now begins item.now.registers is)) }
+    ensures memory { IsOkUnless result memory }
+{
+    if item.tries != 0 {
+        return Ok(false);
+    }
+    are_clear(alloc, tables, item.units, item.registers)
+}
+
 /// Reads the item at the front of these bytes, which go to the section's end. Its instructions are left out unless they are to be kept.
 #[inline(always)]
 fn read_item<'a>(
@@ -98,6 +128,12 @@ fn read_item<'a>(
     if item.size == 0 {
         return Err(Fault::at(fault::EMPTY_CODE, u64::from(off)));
     }
+    if !keep && is_clear(alloc, tables, &item)? {
+        return Ok(Body {
+            code: code_of(&item, &[], &[]),
+            past: register_fault(off, item.registers, item.ins, None),
+        });
+    }
     let insns = insns_of(alloc, arena, tables, &item, u64::from(off) + 16, keep)?;
     let tries = read_tries(
         alloc,
@@ -108,13 +144,7 @@ fn read_item<'a>(
         u64::from(off) + item.items_at,
     )?;
     Ok(Body {
-        code: Code {
-            registers: item.registers,
-            ins: item.ins,
-            outs: item.outs,
-            insns: insns.insns,
-            tries,
-        },
+        code: code_of(&item, insns.insns, tries),
         past: register_fault(off, item.registers, item.ins, insns.past),
     })
 }

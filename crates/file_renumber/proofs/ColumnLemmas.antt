@@ -7,6 +7,7 @@ use Rattle.std.proofs.lemmas.List.{length-set, length-replicate, get_or-set_same
 use Rattle.program_types.specs.Key.{Key}
 use Rattle.tables_names.specs.Rank.{insert_key}
 use Rattle.tables_names.proofs.SubsetLemmas as sub
+use Rattle.code_read.proofs.Lists.{zero_at}
 use Rattle.file_renumber.specs.Marked.{IsColumn, MarksOf}
 
 -- ---- a place more has a 1
@@ -57,11 +58,6 @@ module _ {V : Type 0} (n : ℕ) (Stands : ℕ → V → Type 0) (key : V → Key
   }
 
 -- ---- no row is marked
-
-pub zero_at : (n i : ℕ) → get_or {A = ℕ} (replicate n 0) i 0 ≡ 0
-zero_at zero i = refl
-zero_at (suc n) zero = refl
-zero_at (suc n) (suc i) = zero_at n i
 
 pub marks_none : {V : Type 0} (n : ℕ) (Stands : ℕ → V → Type 0) (key : V → Key) (column : List ℕ) → n < 2 ^ 32 → column ≡ replicate (n + 1) 0 → MarksOf n Stands key [] column
 marks_none n Stands key column few is = rw is (record {

@@ -13,7 +13,6 @@ use Rattle.tables_names.specs.Closure.{Five, Holds, with_names}
 use Rattle.tables_names.proofs.NeededLemmas.{names_append, with_names-holds}
 use Rattle.tables_rows.specs.Stands.{NameStands}
 use Rattle.file_renumber.specs.Marked.{Marked, AreMarks, AddsNames}
-use Rattle.file_renumber.proofs.ColumnLemmas.{zero_at}
 use Rattle.file_renumber.proofs.MarkLemmas.{adds_none, adds_next, names_next, types_add_nothing}
 use Rattle.code_read.specs.Places.{position}
 use Rattle.code_read.proofs.PlaceLaws.{position-there}
@@ -157,9 +156,6 @@ number_inside items offsets i k e = (position-there offsets (try_handler items i
 pub found_in : (items offsets others : List ℕ) (i j k : ℕ) → others ≡ offsets → j ≡ i → position others (try_handler items j) ≡ Some k → position offsets (try_handler items i) ≡ Some k
 found_in items offsets others i j k o e at =
     subst (λ (os : List ℕ). position os (try_handler items i) ≡ Some k) o (subst (λ (n : ℕ). position others (try_handler items n) ≡ Some k) e at)
-
-pub zeros : (xs : List ℕ) (n : ℕ) → xs ≡ replicate n 0 → (k : ℕ) → get_or xs k 0 ≡ 0
-zeros xs n e k = subst (λ (ys : List ℕ). get_or ys k 0 ≡ 0) (sym e) (zero_at n k)
 
 pub zeros_long : (xs : List ℕ) (n : ℕ) → xs ≡ replicate n 0 → length xs ≡ n
 zeros_long xs n e = ap length e ∙ length-replicate {A = ℕ} n 0

@@ -1,0 +1,183 @@
+//! The instructions of a code that has neither tries nor anything to do with payloads, looked at in one walk and not kept. Where branches lead
+//! is asked when all instructions are known: of each unit it is marked whether an instruction begins there and whether a branch leads to it.
+
+ghost use Rattle.std.specs.Prelude.{◌≡◌, ◌≢◌, pos, ◌+ℤ◌, ◌<◌, ◌≤◌, ◌*◌, ◌%◌, ℕ, length, slice_index, slice_set, replicate, IfOk, IfSome, IsOkUnless, IsTrue};
+ghost use Rattle.std.specs.Int.RustNames.{bit_or};
+ghost use Rattle.dex_base.specs.Fault.{memory};
+ghost use Rattle.program_types.specs.Content as content;
+ghost use Rattle.tables_rows.specs.Names.{NameIsAt};
+ghost use Rattle.dex_insn.specs.Raw.{raw, Raw};
+ghost use Rattle.dex_insn.specs.RawInsns.{InsnStands};
+ghost use Rattle.code_read.specs.Plain.{ArePlain};
+ghost use Rattle.code_read.specs.Looking.{offset_of, IsLooked, LeadIsMarked, IsPassed};
+
+use crate::places::unit_at;
+use crate::plain::is_plain;
+use crate::symbols::link;
+use dex_base::Fault;
+use dex_insn::{RawInsn, Take, size_of, take_insn};
+use program_code_rules::insn_is_among;
+use std::alloc::Global;
+use tables_rows::Tables;
+
+/// An instruction begins at the unit.
+const BEGINS: u8 = 1;
+
+/// A branch leads to the unit.
+const LED_TO: u8 = 2;
+
+/// How many units an instruction has, and how far it leads if it is a branch.
+#[derive(Clone, Copy)]
+struct Looked {
+    units: u64,
+    leads: Option<i32>,
+}
+
+/// How far a branch leads, in units.
+#[inline(always)]
+#[tactic(auto, unfolding(crate::specs::Looking::offset_of, dex_insn::specs::Raw::raw))]
+fn offset_of(one: &RawInsn<'_>) -> Option<i32>
+    ensures { result ≡ offset_of (raw one.now) }
+{
+    match *one {
+        RawInsn::I10t { offset, .. }
+        | RawInsn::I20t { offset, .. }
+        | RawInsn::I21t { offset, .. }
+        | RawInsn::I22t { offset, .. }
+        | RawInsn::I30t { offset, .. } => Some(offset),
+        _ => None,
+    }
+}
+
+/// Looks at an instruction of a code of so many registers. Nothing comes of one that has to do with payloads, whose index has no row, or
+/// that names another register.
+#[derive(Clone, Copy)]
+struct Look<'t, 'a> {
+    tables: &'t Tables<'a>,
+    registers: u16,
+}
+
+impl<'b> Take<'b> for Look<'_, '_> {
+    type Out = Option<Looked>;
+
+    ghost takes = { λ l r out. IfSome out (λ s. IsLooked (NameIsAt l.tables.now) l.registers r s.units s.leads) };
+
+    #[inline(always)]
+    fn take(self, one: RawInsn<'b>) -> Option<Looked> {
+        if !is_plain(&one) {
+            return None;
+        }
+        // Where a branch leads isn't asked here, so no addresses are given.
+        let insn = link(self.tables, &[], 0, &one)?;
+        if !insn_is_among(self.registers, &insn) {
+            return None;
+        }
+        Some(Looked {
+            units: size_of(&one),
+            leads: offset_of(&one),
+        })
+    }
+}
+
+/// What comes of the instruction at a unit; None where there is none.
+#[inline(always)]
+fn looked_at(look: Look<'_, '_>, units: &[u8], at: u32) -> Option<Looked>
+    ensures { IfSome result (λ s. (r : Raw) × InsnStands units.now at r × IsLooked (NameIsAt look.entry.tables.now) look.entry.registers r s.units s.leads) }
+{
+    match take_insn(units, at, look) {
+        Ok(looked) => looked,
+        Err(_) => None,
+    }
+}
+
+/// Marks a unit.
+#[inline(always)]
+fn mark(marks: &mut [u8], unit: usize, with: u8)
+    requires { unit < length marks.old }
+    ensures { marks.new ≡ slice_set marks.old unit (bit_or (slice_index marks.old unit) with) }
+{
+    marks[unit] |= with;
+}
+
+/// The unit that is `offset` units from the unit `at`; None where that isn't another one of so many units.
+#[inline(always)]
+fn other_unit(count: usize, at: u32, offset: i32) -> Option<usize>
+    ensures { IfSome result (λ unit. (pos unit ≡ (pos at +ℤ offset)) × (unit < count) × (unit ≢ at)) }
+{
+    let unit = unit_at(at, offset)?;
+    if unit >= count as u64 || unit == u64::from(at) {
+        return None;
+    }
+    Some(unit as usize)
+}
+
+/// Looks at the instruction at a unit, marks where it begins and where it leads, and answers how many units it has. None where nothing comes
+/// of it, and where it leads to itself or to none of the units.
+#[inline(always)]
+fn pass(look: Look<'_, '_>, marks: &mut [u8], units: &[u8], at: u32) -> Option<u64>
+    requires { at < length marks.old }
+    ensures { IfSome result (IsPassed (NameIsAt look.entry.tables.now) units.now look.entry.registers at marks.old marks.new) }
+{
+    let looked = looked_at(look, units, at)?;
+    mark(marks, at as usize, BEGINS);
+    if let Some(offset) = looked.leads {
+        let unit = other_unit(marks.len(), at, offset)?;
+        mark(marks, unit, LED_TO);
+    }
+    Some(looked.units)
+}
+
+/// Whether an instruction begins wherever a branch leads to.
+fn all_begin(marks: &[u8]) -> bool
+    ensures { IsTrue result → (unit : ℕ) → unit < length marks.now → slice_index marks.now unit ≢ 2 }
+{
+    let mut all = true;
+    for mark in marks {
+        all &= *mark != LED_TO;
+    }
+    all
+}
+
+/// Whether the units are instructions of a code of so many registers that have nothing to do with payloads and break no rule. No unit is
+/// marked at first, and there is a mark for each.
+fn look_over(look: Look<'_, '_>, marks: &mut [u8], units: &[u8]) -> bool
+    requires even { length units.now ≡ 2 * length marks.old }
+    requires short { length units.now ≤ 8589934590 }
+    requires none { marks.old ≡ replicate (length marks.old) 0 }
+    ensures { IsTrue result → (begins : _) × (is : _) × ArePlain (NameIsAt look.entry.tables.now) units.now begins look.entry.registers is }
+{
+    let mut at = 0;
+    while at < marks.len() {
+        let Some(count) = pass(look, marks, units, at as u32) else {
+            return false;
+        };
+        at += count as usize;
+    }
+    all_begin(marks)
+}
+
+/// No mark for so many units.
+fn no_marks(alloc: Global, count: usize) -> Result<Vec<u8>, Fault>
+    ensures ok { IfOk result (λ marks. marks.items ≡ replicate count 0) }
+    ensures memory { IsOkUnless result memory }
+{
+    Ok(vec![in alloc; 0u8; count]?)
+}
+
+/// Whether the units are instructions of a code of so many registers that have nothing to do with payloads and break no rule. No of others
+/// that may break none: a goto/32 to itself isn't looked into here.
+pub(crate) fn are_clear(
+    alloc: Global,
+    tables: &Tables<'_>,
+    units: &[u8],
+    registers: u16,
+) -> Result<bool, Fault>
+    requires even { length units.now % 2 ≡ 0 }
+    requires short { length units.now ≤ 8589934590 }
+    ensures ok { IfOk result (λ clear. IsTrue clear → (begins : _) × (is : _) × ArePlain (NameIsAt tables.now) units.now begins registers is) }
+    ensures memory { IsOkUnless result memory }
+{
+    let look = Look { tables, registers };
+    let mut marks = no_marks(alloc, units.len() / 2)?;
+    Ok(look_over(look, &mut marks, units))
+}
