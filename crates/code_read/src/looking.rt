@@ -14,10 +14,10 @@ ghost use Rattle.code_read.specs.Looking.{offset_of, IsLooked, LeadIsMarked, IsP
 use crate::places::unit_at;
 use crate::plain::is_plain;
 use crate::symbols::link;
+use bumpalo::Bump;
 use dex_base::Fault;
 use dex_insn::{RawInsn, Take, size_of, take_insn};
 use program_code_rules::insn_is_among;
-use std::alloc::Global;
 use tables_rows::Tables;
 
 /// An instruction begins at the unit.
@@ -157,17 +157,17 @@ fn look_over(look: Look<'_, '_>, marks: &mut [u8], units: &[u8]) -> bool
 }
 
 /// No mark for so many units.
-fn no_marks(alloc: Global, count: usize) -> Result<Vec<u8>, Fault>
+fn no_marks(arena: &Bump, count: usize) -> Result<Vec<u8, &Bump>, Fault>
     ensures ok { IfOk result (λ marks. marks.items ≡ replicate count 0) }
     ensures memory { IsOkUnless result memory }
 {
-    Ok(vec![in alloc; 0u8; count]?)
+    Ok(vec![in arena; 0u8; count]?)
 }
 
 /// Whether the units are instructions of a code of so many registers that have nothing to do with payloads and break no rule. No of others
 /// that may break none: a goto/32 to itself isn't looked into here.
 pub(crate) fn are_clear(
-    alloc: Global,
+    arena: &Bump,
     tables: &Tables<'_>,
     units: &[u8],
     registers: u16,
@@ -178,6 +178,6 @@ pub(crate) fn are_clear(
     ensures memory { IsOkUnless result memory }
 {
     let look = Look { tables, registers };
-    let mut marks = no_marks(alloc, units.len() / 2)?;
+    let mut marks = no_marks(arena, units.len() / 2)?;
     Ok(look_over(look, &mut marks, units))
 }

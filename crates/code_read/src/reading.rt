@@ -95,7 +95,7 @@ fn code_of<'a>(item: &Item<'_>, insns: &'a [Insn<'a>], tries: &'a [Try<'a>]) -> 
 }
 
 /// Whether nothing but the ins of an item has to be looked at any more: it has no tries, and its instructions break no rule.
-fn is_clear(alloc: Global, tables: &Tables<'_>, item: &Item<'_>) -> Result<bool, Fault>
+fn is_clear(arena: &Bump, tables: &Tables<'_>, item: &Item<'_>) -> Result<bool, Fault>
     requires even { length item.now.units.now % 2 ≡ 0 }
     requires short { length item.now.units.now ≤ 8589934590 }
     ensures ok { IfOk result (λ clear. IsTrue clear → (item.now.tries ≡ 0)
@@ -105,7 +105,7 @@ fn is_clear(alloc: Global, tables: &Tables<'_>, item: &Item<'_>) -> Result<bool,
     if item.tries != 0 {
         return Ok(false);
     }
-    are_clear(alloc, tables, item.units, item.registers)
+    are_clear(arena, tables, item.units, item.registers)
 }
 
 /// Reads the item at the front of these bytes, which go to the section's end. Its instructions are left out unless they are to be kept.
@@ -128,7 +128,7 @@ fn read_item<'a>(
     if item.size == 0 {
         return Err(Fault::at(fault::EMPTY_CODE, u64::from(off)));
     }
-    if !keep && is_clear(alloc, tables, &item)? {
+    if !keep && is_clear(arena, tables, &item)? {
         return Ok(Body {
             code: code_of(&item, &[], &[]),
             past: register_fault(off, item.registers, item.ins, None),
