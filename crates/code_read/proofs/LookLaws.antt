@@ -19,7 +19,7 @@ use Rattle.code_read.specs.Places.{target_at}
 use Rattle.code_read.specs.Symbols.{linked, Says}
 use Rattle.code_read.specs.Linked.{lead}
 use Rattle.code_read.specs.Plain.{ArePlain}
-use Rattle.code_read.specs.Looking.{offset_of, IsLooked, Begins, LeadIsMarked, AreMarked, IsPassed}
+use Rattle.code_read.specs.Looking.{branch_offset, IsLooked, IsBegun, LeadIsMarked, AreMarked, IsPassed}
 use Rattle.code_read.proofs.InsnsDecided.{half}
 use Rattle.code_read.proofs.LinkLaws.{registers-linked}
 use Rattle.code_read.proofs.PlaceLaws.{target-to}
@@ -55,7 +55,7 @@ pub marks_begun : (ms : List ℕ) (at : ℕ) → at < length ms → AreMarked at
 marks_begun ms at inside = record {
   size = length-set ms at _;
   small = each_mark ms at 1 inside (λ m n. m < 4 → n < 4) (λ m l. l) (λ l. or_lt 2 (get_or ms at 0) 1 l (omega arith));
-  begins = λ v b. elim (cases_eq v at) [ inl e ↦ inl e | inr ne ↦ inr (subst Begins (get_or-set_other ms at v _ 0 ne) b) ];
+  begins = λ v b. elim (cases_eq v at) [ inl e ↦ inl e | inr ne ↦ inr (subst IsBegun (get_or-set_other ms at v _ 0 ne) b) ];
   led = each_mark ms at 1 inside (λ m n. 2 ≤ m → 2 ≤ n) (λ m l. l) (λ l. let o = le_or_l (get_or ms at 0) 1 in omega (arith, l, o));
   leads = tt;
 }
@@ -82,10 +82,10 @@ marks_led ms ns at u offset a inside sum other = record {
 pub record PassedRun (N : ℕ → Name → Type 0) (us : List ℕ) (count : ℕ) (marks : List ℕ) (at : ℕ) : Type 0 where
   pub raws : List Raw
   pub run : Run us 0 raws at
-  pub looked : AllHold (λ k. IsLooked N count (raw_at raws k) (units (raw_at raws k)) (offset_of (raw_at raws k))) (length raws)
+  pub looked : AllHold (λ k. IsLooked N count (raw_at raws k) (units (raw_at raws k)) (branch_offset (raw_at raws k))) (length raws)
   pub small : (unit : ℕ) → get_or marks unit 0 < 4
-  pub begins : (unit : ℕ) → Begins (get_or marks unit 0) → (k : ℕ) × (k < length raws) × (address raws k ≡ unit)
-  pub leads : (k : ℕ) → k < length raws → IfSome (offset_of (raw_at raws k)) (LeadIsMarked marks (address raws k))
+  pub begins : (unit : ℕ) → IsBegun (get_or marks unit 0) → (k : ℕ) × (k < length raws) × (address raws k ≡ unit)
+  pub leads : (k : ℕ) → k < length raws → IfSome (branch_offset (raw_at raws k)) (LeadIsMarked marks (address raws k))
 
 module _ (N : ℕ → Name → Type 0) (us : List ℕ) (count : ℕ) where
   pub passed_none : (marks : List ℕ) → ((unit : ℕ) → get_or marks unit 0 ≡ 0) → PassedRun N us count marks 0
@@ -125,7 +125,7 @@ module _ (N : ℕ → Name → Type 0) (us : List ℕ) (count : ℕ) where
     still_marked : (a : ℕ) (o : ℤ) → LeadIsMarked old a o → LeadIsMarked new a o
     still_marked a o m = record { unit = m.unit; sum = m.sum; inside = let e = one.marked.size in let i = m.inside in omega (arith, e, i); other = m.other; led = one.marked.led m.unit m.led }
 
-    begun : (u : ℕ) → (u ≡ at) ⊎ Begins (get_or old u 0) → (k : ℕ) × (k < length (p.raws ++ one.insn ∷ [])) × (address (p.raws ++ one.insn ∷ []) k ≡ u)
+    begun : (u : ℕ) → (u ≡ at) ⊎ IsBegun (get_or old u 0) → (k : ℕ) × (k < length (p.raws ++ one.insn ∷ [])) × (address (p.raws ++ one.insn ∷ []) k ≡ u)
     begun u (inl e) = (length p.raws, (let n = length_push p.raws one.insn in omega (arith, n)), address_last ∙ sym e)
     begun u (inr b) = let x = p.begins u b in let l = x.1 in (x.0, (let n = length_push p.raws one.insn in omega (arith, n, l)), address_front x.0 x.1 ∙ x.2)
 
@@ -135,19 +135,19 @@ module _ (N : ℕ → Name → Type 0) (us : List ℕ) (count : ℕ) where
         record {
           raws = p.raws ++ one.insn ∷ [];
           run = rw it.units_are (run-more us 0 p.raws at one.insn p.run one.stands);
-          looked = each_passed (λ r a. IsLooked N count r (units r) (offset_of r)) p.looked (record { plain = it.plain; named = it.named; among = it.among; units_are = refl; leads = refl });
+          looked = each_passed (λ r a. IsLooked N count r (units r) (branch_offset r)) p.looked (record { plain = it.plain; named = it.named; among = it.among; units_are = refl; leads = refl });
           small = λ u. one.marked.small u (p.small u);
           begins = λ u b. begun u (one.marked.begins u b);
-          leads = each_passed (λ r a. IfSome (offset_of r) (LeadIsMarked new a))
-              (λ k l. IfSome_then (offset_of (raw_at p.raws k)) {P = LeadIsMarked old (address p.raws k)} {Q = LeadIsMarked new (address p.raws k)} (p.leads k l) (still_marked (address p.raws k)))
+          leads = each_passed (λ r a. IfSome (branch_offset r) (LeadIsMarked new a))
+              (λ k l. IfSome_then (branch_offset (raw_at p.raws k)) {P = LeadIsMarked old (address p.raws k)} {Q = LeadIsMarked new (address p.raws k)} (p.leads k l) (still_marked (address p.raws k)))
               (subst (λ (o : Option ℤ). IfSome o (LeadIsMarked new at)) it.leads one.marked.leads);
         }
 
 -- ---- linked
 
 -- a branch stays where its offset leads to another instruction
-stays : (T : ℤ → ℕ) (w : Name) (n k : ℕ) (r : Raw) → IfSome (offset_of r) (λ o. (T o < n) × (T o ≢ k)) → BranchStays n k (linked T w r)
-unfolding linked offset_of insn_branch insn_short_branch
+stays : (T : ℤ → ℕ) (w : Name) (n k : ℕ) (r : Raw) → IfSome (branch_offset r) (λ o. (T o < n) × (T o ≢ k)) → BranchStays n k (linked T w r)
+unfolding linked branch_offset insn_branch insn_short_branch
 stays T w n k (raw.I10t op o) h = record { inside = h.0; moves = h.1 }
 stays T w n k (raw.I20t op o) h = record { inside = h.0; moves = h.1 }
 stays T w n k (raw.I21t op a o) h = record { inside = h.0; moves = h.1 }
@@ -184,7 +184,7 @@ module _ (N : ℕ → Name → Type 0) (us : List ℕ) (count : ℕ) (marks : Li
   said = record {
     count = found.1;
     plain = λ k l. (p.looked k l).plain;
-    leads = λ k l. subst (BranchStays (length p.raws) k) (found.2 k l).symbol (stays (lead (starts p.raws) (address p.raws k)) _ (length p.raws) k (raw_at p.raws k) (IfSome_then (offset_of (raw_at p.raws k)) {P = LeadIsMarked marks (address p.raws k)} {Q = λ o. (lead (starts p.raws) (address p.raws k) o < length p.raws) × (lead (starts p.raws) (address p.raws k) o ≢ k)} (p.leads k l) (lands k)));
+    leads = λ k l. subst (BranchStays (length p.raws) k) (found.2 k l).symbol (stays (lead (starts p.raws) (address p.raws k)) _ (length p.raws) k (raw_at p.raws k) (IfSome_then (branch_offset (raw_at p.raws k)) {P = LeadIsMarked marks (address p.raws k)} {Q = λ o. (lead (starts p.raws) (address p.raws k) o < length p.raws) × (lead (starts p.raws) (address p.raws k) o ≢ k)} (p.leads k l) (lands k)));
     says = found.2;
   }
 

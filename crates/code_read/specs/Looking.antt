@@ -1,4 +1,5 @@
--- What is seen of the instructions of a code that has nothing to do with payloads, before it is known where all of them begin.
+-- What is seen of the instructions of a code that has nothing to do with payloads, before it is known where all of them begin: the
+-- contracts of looking.rt's private functions are written with it.
 -- Pages: "Dalvik Executable instruction formats", "Format IDs": the letter t, a branch target; "Dalvik bytecode": goto, if-test.
 use Rattle.std.specs.Prelude.{ℕ, ℤ, pos, ◌≡◌, ◌≢◌, ◌+ℤ◌, ◌%◌, ◌<◌, ◌≤◌, ◌⊎◌, List, length, slice_index, true, Option, Some, None, IfSome}
 use Rattle.std.specs.List.{AllByRecursion}
@@ -11,13 +12,13 @@ use Rattle.code_read.specs.Symbols.{InsnHasName}
 use Rattle.code_read.specs.Plain.{is_plain}
 
 -- how far a branch leads, in units
-unfoldable pub offset_of : Raw → Option ℤ
-offset_of (raw.I10t op offset) = Some offset
-offset_of (raw.I20t op offset) = Some offset
-offset_of (raw.I21t op a offset) = Some offset
-offset_of (raw.I22t op a b offset) = Some offset
-offset_of (raw.I30t op offset) = Some offset
-offset_of _ = None
+unfoldable pub branch_offset : Raw → Option ℤ
+branch_offset (raw.I10t op offset) = Some offset
+branch_offset (raw.I20t op offset) = Some offset
+branch_offset (raw.I21t op a offset) = Some offset
+branch_offset (raw.I22t op a b offset) = Some offset
+branch_offset (raw.I30t op offset) = Some offset
+branch_offset _ = None
 
 -- The raw instruction has nothing to do with payloads, its index stands for a name if it has one, and it names registers among the first
 -- `count`; it has so many units, and leads so far if it is a branch.
@@ -26,13 +27,13 @@ pub record IsLooked (N : ℕ → Name → Type 0) (count : ℕ) (r : Raw) (size 
   pub named : InsnHasName N r
   pub among : AllByRecursion (λ v. v < count) (named_registers r)
   pub units_are : size ≡ units r
-  pub leads : offset ≡ offset_of r
+  pub leads : offset ≡ branch_offset r
 
 -- ---- a mark for each unit
 
 -- an instruction begins at a unit with this mark
-abbrev pub Begins : ℕ → Type 0
-Begins mark = mark % 2 ≡ 1
+abbrev pub IsBegun : ℕ → Type 0
+IsBegun mark = mark % 2 ≡ 1
 
 -- a branch leads to a unit with this mark
 abbrev pub IsLedTo : ℕ → Type 0
@@ -50,7 +51,7 @@ pub record LeadIsMarked (marks : List ℕ) (at : ℕ) (offset : ℤ) : Type 0 wh
 pub record AreMarked (at : ℕ) (offset : Option ℤ) (old new : List ℕ) : Type 0 where
   pub size : length new ≡ length old
   pub small : (unit : ℕ) → slice_index old unit < 4 → slice_index new unit < 4
-  pub begins : (unit : ℕ) → Begins (slice_index new unit) → (unit ≡ at) ⊎ Begins (slice_index old unit)
+  pub begins : (unit : ℕ) → IsBegun (slice_index new unit) → (unit ≡ at) ⊎ IsBegun (slice_index old unit)
   pub led : (unit : ℕ) → IsLedTo (slice_index old unit) → IsLedTo (slice_index new unit)
   pub leads : IfSome offset (LeadIsMarked new at)
 

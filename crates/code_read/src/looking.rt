@@ -9,7 +9,7 @@ ghost use Rattle.tables_rows.specs.Names.{NameIsAt};
 ghost use Rattle.dex_insn.specs.Raw.{raw, Raw};
 ghost use Rattle.dex_insn.specs.RawInsns.{InsnStands};
 ghost use Rattle.code_read.specs.Plain.{ArePlain};
-ghost use Rattle.code_read.specs.Looking.{offset_of, IsLooked, LeadIsMarked, IsPassed};
+ghost use Rattle.code_read.specs.Looking.{branch_offset, IsLooked, LeadIsMarked, IsPassed};
 
 use crate::places::unit_at;
 use crate::plain::is_plain;
@@ -35,9 +35,9 @@ struct Looked {
 
 /// How far a branch leads, in units.
 #[inline(always)]
-#[tactic(auto, unfolding(crate::specs::Looking::offset_of, dex_insn::specs::Raw::raw))]
-fn offset_of(one: &RawInsn<'_>) -> Option<i32>
-    ensures { result ≡ offset_of (raw one.now) }
+#[tactic(auto, unfolding(crate::specs::Looking::branch_offset, dex_insn::specs::Raw::raw))]
+fn branch_offset(one: &RawInsn<'_>) -> Option<i32>
+    ensures { result ≡ branch_offset (raw one.now) }
 {
     match *one {
         RawInsn::I10t { offset, .. }
@@ -74,7 +74,7 @@ impl<'b> Take<'b> for Look<'_, '_> {
         }
         Some(Looked {
             units: size_of(&one),
-            leads: offset_of(&one),
+            leads: branch_offset(&one),
         })
     }
 }

@@ -9,6 +9,9 @@ use crate::raw::RawInsn;
 /// Makes something of an instruction where it is read: its format is known there, so nothing has to ask for it again.
 ///
 /// ```
+/// ghost use Rattle.std.specs.Prelude.{◌≡◌};
+/// ghost use Rattle.dex_insn.specs.Raw.{units};
+///
 /// use dex_insn::{RawInsn, Take, size_of, take_insn};
 ///
 /// /// How many 16-bit units an instruction has.

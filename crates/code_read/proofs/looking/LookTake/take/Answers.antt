@@ -20,5 +20,5 @@ returns c =
       named = has-name (NameIsAt c.args.self.tables.now) (raw c.args.one) (name_in (insn c.in_ok-insn.insn)) says.named;
       among = subst (AllByRecursion (λ v. v < c.args.self.registers)) (sym (registers-linked _ _ (raw c.args.one) ∙ ap insn_registers says.symbol)) (search rules);
       units_are = c.size_of.ensures;
-      leads = c.offset_of.ensures;
+      leads = c.branch_offset.ensures;
     }
