@@ -1,4 +1,6 @@
 """The classes*.dex of an archive, for dexasm-apk and dexasm-corpus: each that can't be read has a reason."""
+from __future__ import annotations
+
 import lzma
 import re
 import struct
@@ -6,6 +8,10 @@ import zipfile
 import zlib
 
 from dexasm_contrib import DEX, Failed, escaped, reason
+
+TYPE_CHECKING = False
+if TYPE_CHECKING:
+    from typing import IO
 
 NAME = re.compile(r"classes([0-9]*)\.dex")
 ENCRYPTED = 1
@@ -23,7 +29,7 @@ WRONG = (
 )
 
 
-def opened(path, file=None):
+def opened(path: str, file: IO[bytes] | None = None) -> zipfile.ZipFile:
     """The archive of that very name, or that is in the file."""
     name = escaped(path)
     try:
@@ -35,14 +41,14 @@ def opened(path, file=None):
         raise Failed(f"{name}: no zip archive can be read: {hint}") from None
 
 
-def is_dex(path):
+def is_dex(path: str) -> bool:
     with open(path, "rb") as file:
         return file.read(len(DEX)) == DEX
 
 
-def dex_files(archive):
+def dex_files(archive: zipfile.ZipFile) -> list[tuple[str, list[zipfile.ZipInfo]]]:
     """Its entries by name, in the order of their numbers."""
-    entries = {}
+    entries: dict[str, list[zipfile.ZipInfo]] = {}
     for entry in archive.infolist():
         if NAME.fullmatch(entry.filename):
             entries.setdefault(entry.filename, []).append(entry)
@@ -50,7 +56,7 @@ def dex_files(archive):
     return sorted(entries.items(), key=lambda named: (len(named[0]), named[0]))
 
 
-def taken_out(archive, entries):
+def taken_out(archive: zipfile.ZipFile, entries: list[zipfile.ZipInfo]) -> bytes:
     """The bytes of the entries of one name, of which there has to be one."""
     if len(entries) > 1:
         raise Failed("it is there more than once")

@@ -18,6 +18,10 @@ from dexasm_page import SCRIPT, read
 from dexasm_sizes import KINDS, rows_of
 from dexasm_uses import Uses, method_of
 
+TYPE_CHECKING = False  # (as in typing)
+if TYPE_CHECKING:
+    from typing import Any
+
 ICON = (
     '<svg xmlns="http://www.w3.org/2000/svg" viewBox="0 0 8 8"><path fill="#8ab6e0" d="M0 0h5v8H0z"/>'
     '<path fill="#f6b26b" d="M5 0h3v5H5z"/><path fill="#a8dba0" d="M5 5h3v3H5z"/></svg>\n'
@@ -47,7 +51,8 @@ def lines_of(uses: Uses, coder: Coder, row: int, places: Iterator[Iterator[tuple
     one, first = uses.classes[row], uses.first[row]
     words = ["static"] * len(one.statics) + ["instance"] * len(one.instances)
     words += ["direct"] * len(one.directs) + ["virtual"] * len(one.virtuals)
-    for at, (word, member) in enumerate(zip(words, uses.members[row])):
+    members: tuple[Any, ...] = uses.members[row]  # (what they are the words say)
+    for at, (word, member) in enumerate(zip(words, members)):
         if hasattr(member, "proto"):
             yield coder.method(first + at, at, word, member, iter(()) if member.code is None else next(places))
         else:
@@ -103,7 +108,8 @@ class Browse:
             for row in range(count):
                 made.append(packed(lines_of(self.uses, self.coder, row, self.places(row))))
                 progress.step()
-        cuts, firsts = Cuts(), []
+        cuts = Cuts()
+        firsts: list[list[int]] = []
         with Progress("laying out", count) as progress:
             for row in range(count):
                 made[row] = self.laid_out(row, unpacked(made[row]), cuts, firsts)
@@ -186,14 +192,14 @@ class Browse:
             title = plain(self.packages.path(at), 80)
             for page, body in enumerate(self.packages.pages(at)):
                 folder.put(f"package/{file_of(at, page)}", frame.page(title, [body]))
-        body = overview(self.shown, self.numbers(), self.packages, self.classes, self.sizes.code)
-        folder.put("index.html", frame.page("Overview", (cuts.turned(one, "") for one in body), ""))
+        first = overview(self.shown, self.numbers(), self.packages, self.classes, self.sizes.code)
+        folder.put("index.html", frame.page("Overview", (cuts.turned(one, "") for one in first), ""))
         folder.put("help.html", frame.page("How to read it", reading(), ""))
         folder.put("style.css", read("pages.css") + read("browse.css"))
         folder.put("script.js", SCRIPT.lstrip() + read("browse.js"))
         folder.put("icon.svg", ICON)
 
-    def numbers(self):
+    def numbers(self) -> Iterator[tuple[str, int]]:
         uses, coder = self.uses, self.coder
         fields = sum(len(one.fields) for one in uses.classes)
         yield "bytes", len(self.data)

@@ -11,6 +11,10 @@ from dexasm_browse_text import counted, facts, folded, link, some
 from dexasm_html import text
 from dexasm_uses import CLASS_FLAGS, Uses, flag_words, heading, title
 
+TYPE_CHECKING = False  # (as in typing)
+if TYPE_CHECKING:
+    from dexasm.names import Type
+
 LONG = 300  # characters of a heading
 RUNS_IT = "The runtime calls it when the class is first used."
 GRAPHS = (
@@ -45,7 +49,7 @@ class Classes:
         line = "" if place is None else f".{place}"
         return link(f"{root}{row}.html#{at}{line}", self.title(number))
 
-    def users(self, found: array | None, root: str = "") -> list[str]:
+    def users(self, found: array[int] | None, root: str = "") -> list[str]:
         """Who uses something: each member once, as a link to where it does so first."""
         count = Counter(use >> 32 for use in found or ())
         first: dict[int, int] = {}
@@ -60,13 +64,13 @@ class Classes:
     def line_of(self, user: int, place: int) -> int | None:
         return place if hasattr(self.uses.member(user), "proto") else None
 
-    def used_by(self, found: array | None, said: str = "Used by") -> str:
+    def used_by(self, found: array[int] | None, said: str = "Used by") -> str:
         count = len({use >> 32 for use in found or ()})
         return folded(f"{said} {counted(count, 'member')}", self.users(found))
 
     # ---- the page
 
-    def type_link(self, name) -> str:
+    def type_link(self, name: Type) -> str:
         row = self.uses.rows.get(name)
         return text(name.pretty) if row is None else self.class_link(row)
 

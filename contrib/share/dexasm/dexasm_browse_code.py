@@ -11,11 +11,23 @@ from collections.abc import Iterator
 from dexasm_contrib import module
 from dexasm_uses import CLASS_IN, Uses, fresh
 
+TYPE_CHECKING = False  # (as in typing)
+if TYPE_CHECKING:
+    from collections.abc import Callable
+    from typing import Any
+
+    from dexasm.code import Insn, Label, Try
+    from dexasm.members import Field, Method, Value
+
+    Users = dict[Any, array[int]]  # by a number or a name
+    Named = tuple[str, Users, int | str]
+
 STRINGS_A_PAGE = 500
 
 
-def spelled(name) -> str:
-    return html.escape(module().names.spelled(name))
+def spelled(name: str) -> str:
+    said: str = html.escape(module().names.spelled(name))
+    return said
 
 
 class Coder:
@@ -23,15 +35,15 @@ class Coder:
 
     def __init__(self, uses: Uses) -> None:
         self.uses = uses
-        self.names: dict[str, tuple[str, dict, object]] = {}  # each name's HTML, and where its users are noted
+        self.names: dict[str, Named] = {}  # each name's HTML, and where its users are noted
         self.mnemonics: dict[str, tuple[str, str, str, bool]] = {}
         self.strings: dict[str, int] = {}  # each string's number, in the order in which they are met
         # The users of each member, class and string, and of each name that the program doesn't define: the number of a
         # method in the upper 32 bits, and that of an instruction.
-        self.of_member: dict[int, array] = {}
-        self.of_class: dict[int, array] = {}
-        self.of_string: dict[int, array] = {}
-        self.of_other: dict[str, array] = {}
+        self.of_member: dict[int, array[int]] = {}
+        self.of_class: dict[int, array[int]] = {}
+        self.of_string: dict[int, array[int]] = {}
+        self.of_other: dict[str, array[int]] = {}
         # Of each method the methods of the program that it calls, how often, and how many calls lead out of it; and how
         # many instructions it has.
         self.calls: dict[int, dict[int, int]] = {}
@@ -48,18 +60,20 @@ class Coder:
         """A type or a prototype."""
         return "".join(self.type_(part) if part[:1] == "L" else part for part in CLASS_IN.split(text))
 
-    def name(self, name) -> tuple[str, dict, object]:
+    def name(self, name: str) -> Named:
         """A type, a field or a method: as HTML, where it is noted, and as what."""
         found = self.names.get(name)
         if found is None:
             found = self.names[name] = self.member(name) if "->" in name else self.class_(name)
         return found
 
-    def class_(self, name: str) -> tuple[str, dict, object]:
+    def class_(self, name: str) -> Named:
         row = self.uses.rows.get(name.lstrip("["))
-        return self.types(name), *((self.of_other, str(name)) if row is None else (self.of_class, row))
+        if row is None:
+            return self.types(name), self.of_other, str(name)
+        return self.types(name), self.of_class, row
 
-    def member(self, name: str) -> tuple[str, dict, object]:
+    def member(self, name: str) -> Named:
         owner, _, signature = name.partition("->")
         number = self.uses.resolve(owner, signature)
         cut = signature.find("(") if "(" in signature else signature.find(":")
@@ -68,7 +82,9 @@ class Coder:
             row, at = self.uses.place(number)
             said = f'<a href="{row}.html#{at}">{said}</a>'
         said = f"{self.types(owner)}-&gt;{said}{self.types(signature[cut:])}"
-        return said, *((self.of_other, str(name)) if number is None else (self.of_member, number))
+        if number is None:
+            return said, self.of_other, str(name)
+        return said, self.of_member, number
 
     def text(self, text: str, user: int, place: int) -> str:
         """A string, as a link to where it is used."""
@@ -79,11 +95,11 @@ class Coder:
 
     # ---- lines
 
-    def field(self, number: int, word: str, field) -> str:
+    def field(self, number: int, word: str, field: Field) -> str:
         line = f"<li>{word} {spelled(field.name)} {self.types(field.type)} <i>{field.flags:#x}</i>"
         return line if field.value is None else f"{line} = {' '.join(self.value(field.value, number))}"
 
-    def value(self, value, user: int):
+    def value(self, value: Value, user: int) -> Iterator[str]:
         """The words of an initial value, which is at most 64 deep."""
         if value.kind == "array":
             yield "array {"
@@ -100,7 +116,7 @@ class Coder:
             kind, _, said = str(value).partition(" ")
             yield f"{kind} <i>{said}</i>" if said else kind
 
-    def method(self, number: int, at: int, word: str, method, places: Iterator[tuple[int, int]]) -> str:
+    def method(self, number: int, at: int, word: str, method: Method, places: Iterator[tuple[int, int]]) -> str:
         """A method's lines: the elements of its instructions have ids, `3.0` the first of member 3, and say where each
         is in the file and in its code.
         """
@@ -113,7 +129,10 @@ class Coder:
         numbers = {id(insn): place for place, insn in enumerate(insns)}
         numbers[id(None)] = len(insns)  # (a label's instruction, where it is the end)
         marks = {numbers[id(label.insn)] for label in code.labels()}
-        lead = lambda label: f'<a href="#{at}.{numbers[id(label.insn)]}">:L{numbers[id(label.insn)]}</a>'
+
+        def lead(label: Label) -> str:
+            return f'<a href="#{at}.{numbers[id(label.insn)]}">:L{numbers[id(label.insn)]}</a>'
+
         for place, (insn, (offset, address)) in enumerate(zip(insns, places)):
             if place in marks:
                 lines.append(f'<li class="l">:L{place}')
@@ -126,7 +145,9 @@ class Coder:
         lines.append("<li>end code")
         return "\n".join(lines)
 
-    def tries(self, tries, lead, number: int, numbers):
+    def tries(
+        self, tries: list[Try], lead: Callable[[Label], str], number: int, numbers: dict[int, int]
+    ) -> Iterator[str]:
         for one in tries:
             yield f"<li>try {lead(one.start)} {lead(one.end)}"
             for catch in one.catches:
@@ -136,7 +157,7 @@ class Coder:
             if one.catch_all is not None:
                 yield f"<li>catchall {lead(one.catch_all)}"
 
-    def insn(self, insn, lead, user: int, place: int) -> str:
+    def insn(self, insn: Insn, lead: Callable[[Label], str], user: int, place: int) -> str:
         """The words of an instruction, in the order of the listing."""
         mnemonic = insn.mnemonic
         if mnemonic[-8:] == "-payload":
@@ -174,7 +195,7 @@ class Coder:
             calls[to] = calls.get(to, 0) + 1
 
 
-def note(where: dict, what, use: int) -> None:
+def note(where: Users, what: int | str, use: int) -> None:
     uses = where.get(what)
     if uses is None:
         uses = where[what] = array("Q")
@@ -191,7 +212,7 @@ def shape_of(mnemonic: str) -> tuple[str, str, str, bool]:
     )
 
 
-def payload(insn, lead):
+def payload(insn: Any, lead: Callable[[Label], str]) -> Iterator[str]:
     """The words of what stands among instructions and is none."""
     yield f"<b>{insn.word}</b>"
     if insn.word == "packed-switch-payload":

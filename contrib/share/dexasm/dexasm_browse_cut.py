@@ -33,7 +33,8 @@ def member(at: int, listed: str, heading: str, lead: str, lines: str) -> Iterato
     (What a single line has stays together.)
     """
     start, place = -1, 0
-    kept, size = [], len(lead.encode("utf8"))
+    kept: list[str] = []
+    size = len(lead.encode("utf8"))
     for line in lines.split("\n"):
         if kept and size + len(line) > MOST:
             yield part(at, start, listed, heading, lead, kept)
@@ -109,7 +110,9 @@ class Cuts:
             if to is None and (folder, number) not in self.starts:
                 return found[0]
             to_folder = way.strip("./") if way else ""
-            file = self.file(to_folder or folder, number if to is None else int(to), int(at), int(place or -1))
+            whose = number if to is None else int(to)
+            assert whose is not None  # (what has places of its own has a number)
+            file = self.file(to_folder or folder, whose, int(at), int(place or -1))
             anchor = f"{at}.{place}" if place else at
             return f'href="#{anchor}"' if not way and file == own else f'href="{way or ""}{file}#{anchor}"'
 

@@ -2,7 +2,7 @@
 from __future__ import annotations
 
 import json
-from collections.abc import Iterator
+from collections.abc import Callable, Iterable, Iterator
 
 from dexasm_browse_class import Classes
 from dexasm_browse_code import STRINGS_A_PAGE
@@ -12,6 +12,10 @@ from dexasm_html import LONGEST, number, row, seen, table, text
 from dexasm_page import Node, picture, tree_of
 from dexasm_sizes import COLUMNS
 from dexasm_uses import title
+
+TYPE_CHECKING = False  # (as in typing)
+if TYPE_CHECKING:
+    from typing import Any
 
 LARGEST = 50  # classes, methods and packages that the overview shows
 SHARD = 4000  # names in a script of the index
@@ -57,11 +61,11 @@ TYPES = (
 class Packages:
     """The packages of a file as a tree, a page for each, and which class is in which."""
 
-    def __init__(self, rows: dict[str, list], class_rows: dict[str, int]) -> None:
+    def __init__(self, rows: dict[str, list[Any]], class_rows: dict[str, int]) -> None:
         self.rows, self.class_rows = rows, class_rows
         self.tree = tree_of(rows)
         self.numbers: dict[int, int] = {}
-        self.nodes: list[tuple] = []  # each node with its path and the number of the one that it is in
+        self.nodes: list[tuple[Node, str, int]] = []  # each node with its path and the number of the one that it is in
         self.of_class: dict[str, int] = {}
         due = [(self.tree, "", 0)]
         for node, path, outer in due:
@@ -73,10 +77,10 @@ class Packages:
                 else:
                     self.of_class[inner.full] = at
 
-    def lead(self, root: str):
+    def lead(self, root: str) -> Callable[[Node], str]:
         """What tells the page of a node, from a page at the top (root is "") or below a folder."""
 
-        def to(node):
+        def to(node: Node) -> str:
             if node.kinds is None:
                 return f"{root}package/{self.numbers[id(node)]}.html"
             row = self.class_rows.get(node.full)
@@ -84,7 +88,7 @@ class Packages:
 
         return to
 
-    def name(self, node, root: str) -> str:
+    def name(self, node: Node, root: str) -> str:
         to = self.lead(root)(node)
         said = text(node.name.replace("/", ".") + (".*" if node.kinds is None else ""))
         return link(to, said) if to else said
@@ -125,7 +129,9 @@ def holds(rows: list[str]) -> str:
     return table("What it holds, by bytes", ("bytes", "package or class"), rows)
 
 
-def overview(name: str, numbers, packages: Packages, classes: Classes, code_sizes: dict[int, int]) -> Iterator[str]:
+def overview(
+    name: str, numbers: Iterable[tuple[str, int]], packages: Packages, classes: Classes, code_sizes: dict[int, int]
+) -> Iterator[str]:
     yield f"<h1>{text(name)}</h1>"
     yield facts((said, number(count)) for said, count in numbers)
     yield "<h2>What takes the space</h2><p>Click a package or a class; the tables below lead there too.</p>"
@@ -141,7 +147,7 @@ def overview(name: str, numbers, packages: Packages, classes: Classes, code_size
 def largest_methods(classes: Classes, code_sizes: dict[int, int]) -> str:
     insns, uses = classes.coder.insns, classes.coder.of_member
 
-    def rows():
+    def rows() -> Iterator[str]:
         order = sorted(code_sizes, key=lambda method: (-code_sizes[method], method))
         for method in order[:LARGEST]:
             users = len({use >> 32 for use in uses.get(method, ())})
@@ -154,7 +160,7 @@ def largest_classes(packages: Packages, classes: Classes) -> str:
     known = [(name, taken) for name, taken in packages.rows.items() if name in packages.class_rows]
     known.sort(key=lambda row: (-row[1][0], row[0]))
 
-    def rows():
+    def rows() -> Iterator[str]:
         for name, taken in known[:LARGEST]:
             yield row(taken, classes.class_link(packages.class_rows[name], "class/"))
 
@@ -230,11 +236,11 @@ def shards(classes: Classes, pages: list[list[int]], found: list[str], cuts: Cut
     yield script(rows, [])
     for first in range(0, len(found), SHARD):
         part = enumerate(found[first : first + SHARD], first)
-        place = lambda at: f"{cuts.file('strings', at // STRINGS_A_PAGE, at)}#{at}"
-        yield script([], [[in_quotes(one), place(at)] for at, one in part])
+        places = ((one, f"{cuts.file('strings', at // STRINGS_A_PAGE, at)}#{at}") for at, one in part)
+        yield script([], [[in_quotes(one), place] for one, place in places])
 
 
-def script(rows: list, found: list) -> str:
+def script(rows: list[Any], found: list[list[str]]) -> str:
     """A call with JSON in ASCII, in which no "<" can end a script or begin a comment."""
     said = ", ".join(json.dumps(one, separators=(",", ":")) for one in (rows, found))
     return f"dexasmIndex({said});\n".replace("<", "\\u003c")

@@ -164,7 +164,8 @@ def batches(found: Iterable[tuple[bytes, int] | Verdict], is_linted: bool) -> It
 def count_workers(found: list[tuple[bytes, int] | Verdict], asked: Any) -> int:
     """How many workers these files are worth."""
     much = sum(EACH + one[1] for one in found if not isinstance(one, Verdict)) * (LINTED if asked.lint else 1)
-    return min(asked.jobs, 1 + much // ENOUGH)
+    count: int = min(asked.jobs, 1 + much // ENOUGH)
+    return count
 
 
 def judge_all(

@@ -5,10 +5,15 @@ A class that isn't in the file may be anything: whatever would rest on it is tak
 from __future__ import annotations
 
 from collections.abc import Callable
-from typing import Any, NamedTuple
+from typing import TYPE_CHECKING, Any, NamedTuple
 
 from dexasm_kinds import OBJECT, THROWABLE
 from dexasm_rules import ABSTRACT, INTERFACE, PRIVATE
+
+if TYPE_CHECKING:
+    from dexasm.members import Class
+    from dexasm.names import MethodRef
+    from dexasm.program import Program
 
 DEEPEST = 64  # superclasses of a class that are followed
 LISTED = 1 << 32  # beside the flags of a method: it stands among the direct ones
@@ -25,9 +30,9 @@ class Call(NamedTuple):
 
 
 class Classes:
-    def __init__(self, program) -> None:
-        self.rows: dict[str, Any] = {}
-        self.depths: dict[str, int] = {}
+    def __init__(self, program: Program) -> None:
+        self.rows: dict[str, Class] = {}
+        self.depths: dict[str | None, int] = {}
         self.wrongs: dict[tuple[str, str], bool] = {}
         self.calls: dict[str, Call] = {}
         self.fields: dict[str, tuple[str, str, str]] = {}
@@ -100,7 +105,7 @@ class Classes:
             found = self.fields[ref] = owner, signature.partition(":")[2], str(lists or "")
         return found
 
-    def call(self, ref) -> Call:
+    def call(self, ref: MethodRef) -> Call:
         found = self.calls.get(ref)
         if found is None:
             parameters = tuple(map(str, ref.proto.parameters))
@@ -114,9 +119,10 @@ class Classes:
         the file doesn't say.
         """
         owner, _, signature = ref.partition("->")
-        return self.member(owner, signature, self.methods_of)
+        found: int | None = self.member(owner, signature, self.methods_of)
+        return found
 
-    def member(self, owner: str, signature: str, of: Callable[[Any], dict[str, Any]]) -> Any:
+    def member(self, owner: str, signature: str, of: Callable[[Class], dict[str, Any]]) -> Any:
         """What a class has under a signature, or else the nearest of its superclasses."""
         for depth in range(DEEPEST):
             one = self.rows.get(owner)
@@ -133,13 +139,13 @@ class Classes:
             owner = one.superclass
         return None
 
-    def fields_of(self, one) -> dict[str, str]:
+    def fields_of(self, one: Class) -> dict[str, str]:
         """Those of a class, the list of each; a name that is in both isn't told."""
         lists = {field.signature: "static" for field in one.statics}
         for field in one.instances:
             lists[field.signature] = "" if field.signature in lists else "instance"
         return lists
 
-    def methods_of(self, one) -> dict[str, int]:
+    def methods_of(self, one: Class) -> dict[str, int]:
         flags = {method.signature: method.flags & ~LISTED for method in one.virtuals}
         return flags | {method.signature: method.flags & ~LISTED | LISTED for method in one.directs}

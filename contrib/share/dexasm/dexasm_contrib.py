@@ -2,6 +2,8 @@
 
 A helper is given files and names by strangers. So no name becomes a part of a program's text or of a path that leads
 elsewhere, and what is printed of a name or of a line goes through `escaped`."""
+from __future__ import annotations
+
 import argparse
 import functools
 import os
@@ -11,6 +13,13 @@ from collections.abc import Callable
 from types import ModuleType
 
 from dexasm_basis import DEX, FAILED, MEMORY, REFUSED, TOP, USAGE, ZIP, Failed, reason
+
+TYPE_CHECKING = False  # (as in typing, which takes a while to read)
+if TYPE_CHECKING:
+    from subprocess import CompletedProcess
+    from typing import Any, NoReturn
+
+    from dexasm.program import Program
 
 # (what only some helpers call is imported where it is: that takes longer than most of what they do)
 REFUSAL = re.compile(r".*\brefused (\d{1,5}) (\w+) at (\d{1,20})(?:: .*)?$")
@@ -30,7 +39,7 @@ class Usage(Failed):
     """The words are wrong."""
 
 
-def escaped(text):
+def escaped(text: str | bytes) -> str:
     """The text without what a terminal obeys: escapes, other control characters, and marks that turn its direction; and
     without what nobody sees.
     """
@@ -41,7 +50,7 @@ def escaped(text):
     return "".join(char if char.isprintable() and not UNSEEN.match(char) else shown(char) for char in text)
 
 
-def shown(char):
+def shown(char: str) -> str:
     """One character in hexadecimal digits; a byte that is no text stands as such a byte."""
     number = ord(char)
     if 0xDC80 <= number < 0xDD00:
@@ -57,10 +66,10 @@ def shortened(text: str) -> str:
 class Version(argparse.Action):
     """Prints the version of the command, which is the helper's too: they come together."""
 
-    def __init__(self, **options):
+    def __init__(self, **options: Any) -> None:
         super().__init__(nargs=0, **options)
 
-    def __call__(self, parser, *_):
+    def __call__(self, parser: argparse.ArgumentParser, *_: object) -> None:
         said = answer("--version", given=b"", name=parser.prog).decode("ascii")
         print(f"{parser.prog} {said.split()[-1]}")
         parser.exit()
@@ -69,19 +78,19 @@ class Version(argparse.Action):
 class Words(argparse.ArgumentParser):
     """A helper's words, by its manual: --help prints it, and its usage is told where the words are wrong."""
 
-    def __init__(self):
+    def __init__(self) -> None:
         self.doc = manual().strip() + "\n"
-        self.uses = "\n".join(re.search(r"^usage: .*(?:\n +.*)*", self.doc, re.M)[0].splitlines())
+        self.uses = "\n".join(re.findall(r"^usage: .*(?:\n +.*)*", self.doc, re.M)[0].splitlines())
         # (whose width is looked for otherwise, which takes a while, for a help that isn't printed)
         formatter = functools.partial(argparse.HelpFormatter, width=80)
-        named = {"prog": os.path.basename(sys.argv[0]), "usage": "%(prog)s"}
+        named: dict[str, Any] = {"prog": os.path.basename(sys.argv[0]), "usage": "%(prog)s"}
         super().__init__(**named, allow_abbrev=False, formatter_class=formatter)
         self.add_argument("--version", action=Version)
 
-    def format_help(self):
+    def format_help(self) -> str:
         return self.doc
 
-    def error(self, message):
+    def error(self, message: str) -> NoReturn:
         raise Usage(f"{self.uses}\n{self.prog}: {escaped(message)}", USAGE)
 
 
@@ -113,10 +122,10 @@ def manual() -> str:
         return program.__doc__
     import ast
 
-    return ast.get_docstring(ast.parse(get(program.__file__)), clean=False)
+    return ast.get_docstring(ast.parse(get(program.__file__)), clean=False) or ""
 
 
-def get(path):
+def get(path: str | bytes | None) -> bytes:
     """The bytes of a file, or of standard input where there is no path."""
     try:
         if path is None:
@@ -129,11 +138,11 @@ def get(path):
         raise Failed(f"{name_of(path)}: {reason(error) if isinstance(error, OSError) else error}") from None
 
 
-def name_of(path):
+def name_of(path: str | bytes | None) -> str:
     return "standard input" if path is None else escaped(path)
 
 
-def deliver(path, given, through=True, name=None):
+def deliver(path: str | bytes, given: bytes, through: bool = True, name: str | None = None) -> None:
     """Brings an answer to a file by the command's rules (dexasm/deliver.py has them); with through=False only where
     nothing is or a file of one name, so that nothing else is written through it. `name` is the file's in messages.
     """
@@ -146,7 +155,7 @@ def deliver(path, given, through=True, name=None):
         raise Failed(f"{name}: {reason(error)}") from None
 
 
-def command():
+def command() -> str:
     """The path of dexasm: the one that DEXASM_COMMAND names, or the PATH's, or the one that came with the helpers."""
     import shutil
 
@@ -169,7 +178,7 @@ class Ended:
     so.
     """
 
-    def __init__(self, job, done):
+    def __init__(self, job: str, done: CompletedProcess[bytes]) -> None:
         self.status, self.answer = done.returncode, done.stdout or b""
         self.told = done.stderr.decode("utf8", "replace").splitlines()
         if self.status < 0:
@@ -179,21 +188,21 @@ class Ended:
         elif self.status not in (0, FAILED, MEMORY) and not self.refusal():
             self.fail(None if self.told else f"status {self.status}")
 
-    def fail(self, why):
+    def fail(self, why: str | None) -> None:
         self.status, self.answer = FAILED, b""
         self.told += [f"dexasm: {why}"] if why else []
 
-    def last(self):
+    def last(self) -> str:
         """Its last line, which says why there is no answer."""
         return escaped(self.told[-1]) if self.told else f"dexasm: status {self.status}"
 
-    def refusal(self):
+    def refusal(self) -> tuple[int, str, int] | None:
         """Number, name and place of a refusal, or None."""
         found = REFUSAL.match(self.told[-1]) if self.status == REFUSED and self.told else None
-        return found and (int(found[1]), found[2], int(found[3]))
+        return (int(found[1]), found[2], int(found[3])) if found else None
 
 
-def dexasm(*words, given=b""):
+def dexasm(*words: str, given: bytes = b"") -> Ended:
     """Runs dexasm over these bytes; the first of the words is the job."""
     import subprocess
 
@@ -204,7 +213,7 @@ def dexasm(*words, given=b""):
     return Ended(words[0], done)
 
 
-def answer(*words, given, name):
+def answer(*words: str, given: bytes, name: str) -> bytes:
     """The answer of dexasm to these bytes of a file of that name; where there is none, its own line and status."""
     ended = dexasm(*words, given=given)
     if ended.status:
@@ -217,12 +226,12 @@ def is_listing(given: bytes) -> bool:
     return not given.startswith(DEX) and re.match(rb"(?: *(?:#.*)?\n)* *dex +\w", given) is not None
 
 
-def dex_of(path):
+def dex_of(path: str | bytes | None) -> bytes:
     """The bytes of a .dex file; of a listing those that dexasm makes of it."""
     return dex_from(get(path), name_of(path))
 
 
-def dex_from(given, name):
+def dex_from(given: bytes, name: str) -> bytes:
     """The same of the bytes of a file of that name."""
     if is_listing(given):
         given = answer("assemble", given=given, name=name)
@@ -231,12 +240,12 @@ def dex_from(given, name):
     return given
 
 
-def listing_of(path):
+def listing_of(path: str | bytes | None) -> str:
     """The listing of a file as dexasm prints it; a listing is assembled first, so that it is printed alike."""
     return answer("list", given=dex_of(path), name=name_of(path)).decode("ascii")
 
 
-def page(name):
+def page(name: str) -> str:
     """A page of docs/: the repository's, or the package's."""
     for way in (("..", "docs"), ("share", "doc", "dexasm", "docs")):
         path = os.path.join(TOP, *way, name)
@@ -245,19 +254,20 @@ def page(name):
     raise Failed(f"the page docs/{name} isn't there")
 
 
-def decoded(word):
+def decoded(word: str) -> str:
     """A name or a text as it is: in a listing each character may stand as an escape. A lone surrogate stays one."""
     import json
 
-    return json.loads(word if word.startswith('"') else f'"{word}"')
+    text: str = json.loads(word if word.startswith('"') else f'"{word}"')
+    return text
 
 
-def module():
+def module() -> ModuleType:
     """The module for Python that came with the helpers: the repository's, or the package's."""
     return sys.modules["dexasm"] if "dexasm" in sys.modules else load(module_folder())
 
 
-def module_folder():
+def module_folder() -> str:
     if sys.version_info < (3, 10):
         raise Failed("the module dexasm for Python needs Python 3.10 or later")
     for way in (("..", "bindings", "python"), ("lib", "python3", "dist-packages")):
@@ -273,22 +283,23 @@ def part(name: str) -> ModuleType:
     return sys.modules.get(own) or load_file(own, os.path.join(module_folder(), f"{name}.py"))
 
 
-def delivery():
+def delivery() -> ModuleType:
     """The part that brings an answer to a file."""
     return part("deliver")
 
 
-def load(folder):
+def load(folder: str) -> ModuleType:
     # (where it finds no library it wants a command, which it isn't asked to run)
     os.environ.setdefault("DEXASM_COMMAND", command())
     return load_file("dexasm", os.path.join(folder, "__init__.py"), [folder])
 
 
-def load_file(name, place, inner=None):
+def load_file(name: str, place: str, inner: list[str] | None = None) -> ModuleType:
     """Reads a module from its file, by whatever name others have it in other folders."""
     import importlib.util
 
     spec = importlib.util.spec_from_file_location(name, place, submodule_search_locations=inner)
+    assert spec is not None and spec.loader is not None
     sys.modules[name] = made = importlib.util.module_from_spec(spec)
     try:
         spec.loader.exec_module(made)
@@ -297,21 +308,22 @@ def load_file(name, place, inner=None):
     return made
 
 
-def program_of(path):
+def program_of(path: str | bytes | None) -> Program:
     """The program of a file or of a listing, as an object of the module for Python."""
     return listed(dex_of(path), name_of(path))
 
 
-def listed(data, name):
+def listed(data: bytes, name: str) -> Program:
     """The program of the bytes of a file of that name, by what dexasm lists of it."""
     listing = answer("list", given=data, name=name).decode("ascii")
     try:
-        return module().Program.of_listing(listing)
+        program: Program = module().Program.of_listing(listing)
+        return program
     except ValueError:
         raise Failed(f"{name}: dexasm: what it answers is no listing") from None
 
 
-def say(line):
+def say(line: str) -> None:
     """A line on standard error, where there is one."""
     if sys.stderr is not None:
         try:
@@ -320,7 +332,7 @@ def say(line):
             pass
 
 
-def run(main, trouble=None, unread=0):
+def run(main: Callable[[Words], int], trouble: int | None = None, unread: int = 0) -> NoReturn:
     """Runs a helper, whose `main` takes a parser of its words and answers the status, and ends with a status whatever
     happens, and with one line on standard error where something went wrong. `trouble` is the status of that, where it
     isn't told apart; `unread` is that of a run whose output nobody read to the end. (For a developer of a helper,
@@ -330,7 +342,7 @@ def run(main, trouble=None, unread=0):
     try:
         if sys.stdout is None:
             raise Failed("cannot write: standard output is closed")
-        sys.stdout.reconfigure(errors="backslashreplace")
+        sys.stdout.reconfigure(errors="backslashreplace")  # type: ignore[attr-defined]
         status = finished(main, words, unread)
     except Failed as failed:
         say(failed.line if isinstance(failed, Usage) else f"{words.prog}: {failed.line}")
@@ -352,7 +364,7 @@ def run(main, trouble=None, unread=0):
     sys.exit(status)
 
 
-def finished(main, words, unread):
+def finished(main: Callable[[Words], int], words: Words, unread: int) -> int:
     """The status of a helper, when all that it printed is written, or nobody reads it any more."""
     status = unread
     try:
@@ -376,7 +388,7 @@ def is_unread() -> bool:
     return any(event & (select.POLLERR | select.POLLHUP) for _, event in poll.poll(0))
 
 
-def silence():
+def silence() -> None:
     """What couldn't be written is let go, so that nothing is told of it once more when Python ends."""
     for stream in (sys.stdout, sys.stderr):
         try:

@@ -13,7 +13,7 @@ import os
 import sqlite3
 import time
 from collections.abc import Callable, Iterator
-from typing import TypeVar
+from typing import Any, TypeVar
 from urllib.parse import quote
 
 from dexasm_contrib import Failed, escaped
@@ -192,7 +192,7 @@ def is_damaged(path: str) -> bool:
     """Whether SQLite finds anything wrong with a database."""
     try:
         with contextlib.closing(connected(path)) as db:
-            return db.execute("pragma quick_check(1)").fetchone() != ("ok",)
+            return bool(db.execute("pragma quick_check(1)").fetchone() != ("ok",))
     except (*WRONG, Failed):
         return True
 
@@ -261,9 +261,9 @@ class Corpus:
         where = " where status in ('ok', 'refused')" if is_again else ""
         return b"".join(sha[:key] for sha, in self.db.execute(f"select sha256 from file{where} order by sha256"))
 
-    def put_all(self, found: list[tuple[object, ...]]) -> int:
+    def put_all(self, found: list[tuple[Any, ...]]) -> int:
         """One transaction; answers how many files weren't in before."""
-        put = {"file": self.put_file, "seen": self.put_seen, "unread": self.put_unread}
+        put: dict[str, Callable[..., bool]] = {"file": self.put_file, "seen": self.put_seen, "unread": self.put_unread}
         try:
             with written(self.db):
                 return sum([put[kind](kept(path), entry, *rest) for kind, path, entry, *rest in found])
@@ -271,23 +271,34 @@ class Corpus:
             self.numbers = {"name": {}, "string": {}}
             raise
 
-    def put_unread(self, path, entry, status, reason):
+    def put_unread(self, path: str | bytes, entry: str, status: str, reason: str) -> bool:
         is_read = "select 1 from path where path = ?1 and (entry = ?2 or ?2 = '')"
         words = f"insert into unread select ?1, ?2, ?3, ?4 where not exists ({is_read}) {FIRST_REASON}"
         self.db.execute(words, (path, entry, status, reason))
         return False
 
-    def put_seen(self, path, entry, sha, size):
+    def put_seen(self, path: str | bytes, entry: str, sha: bytes, size: int) -> bool:
         file = self.db.execute("select id from file where sha256 = ?", (sha,)).fetchone()
         if file:
             self.put_path(file[0], path, entry)
         return False
 
-    def put_path(self, file, path, entry):
+    def put_path(self, file: int | None, path: str | bytes, entry: str) -> None:
         self.db.execute("insert or ignore into path values (?, ?, ?)", (file, path, entry))
         self.db.execute("delete from unread where path = ? and entry in (?, '')", (path, entry))
 
-    def put_file(self, path, entry, sha, size, status, fault, fault_name, place, program):
+    def put_file(
+        self,
+        path: str | bytes,
+        entry: str,
+        sha: bytes,
+        size: int,
+        status: str,
+        fault: int | None,
+        fault_name: str | None,
+        place: int | None,
+        program: tuple[bytes, int, list[tuple[Any, ...]]] | None,
+    ) -> bool:
         there = self.db.execute("select id, status from file where sha256 = ?", (sha,)).fetchone()
         row = status, fault, fault_name, place, self.program(*program) if program else None
         if there is None:
@@ -301,21 +312,23 @@ class Corpus:
         self.put_path(file, path, entry)
         return there is None
 
-    def program(self, sha, size, classes):
+    def program(self, sha: bytes, size: int, classes: list[tuple[Any, ...]]) -> int | None:
         """The number of a program."""
         there = self.db.execute("select id from program where sha256 = ?", (sha,)).fetchone()
         if there:
-            return there[0]
+            known: int = there[0]
+            return known
         number = self.db.execute("insert into program(sha256, size) values (?, ?)", (sha, size)).lastrowid
         rows = sorted((number, self.one_class(*one)) for one in classes)
         self.db.executemany("insert into has values (?, ?)", rows)
         return number
 
-    def one_class(self, sha, name, superclass, flags, rows):
+    def one_class(self, sha: bytes, name: str, superclass: str | None, flags: int, rows: bytes) -> int | None:
         """The number of a class."""
         there = self.db.execute("select id from class where sha256 = ?", (sha,)).fetchone()
         if there:
-            return there[0]
+            known: int = there[0]
+            return known
         of, text = self.number_of, self.text_of
         row = sha, of(name), superclass and of(superclass), flags
         at = self.db.execute("insert into class(sha256, name, superclass, flags) values (?, ?, ?, ?)", row).lastrowid
@@ -340,6 +353,7 @@ class Corpus:
         if found is None:
             there = self.db.execute(f"select id from {table} where text = ?", (word,)).fetchone()
             found = there[0] if there else self.db.execute(f"insert into {table}(text) values (?)", (word,)).lastrowid
+            assert found is not None  # (a row that was put in has a number)
             if len(numbers) >= NAMES:
                 numbers.clear()
             numbers[word] = found

@@ -10,7 +10,7 @@ import stat
 import threading
 import time
 from collections.abc import Callable, Iterator
-from typing import Any
+from typing import TYPE_CHECKING, Any
 
 import dexasm_look
 from dexasm_contrib import FAILED, Failed, escaped, reason, say
@@ -18,6 +18,9 @@ from dexasm_corpus import Corpus
 from dexasm_look import KEY, look_batch
 from dexasm_paths import named, walked
 from dexasm_terminal import Line
+
+if TYPE_CHECKING:
+    from dexasm_corpus_verify import Verified
 
 MANY, MUCH = 64, 16 << 20  # files and bytes of a batch
 # What a worker of Dask gets.
@@ -40,7 +43,7 @@ class Counts:
     def bad(self) -> int:
         return self.refused + self.limits + self.unread
 
-    def take(self, found: tuple[object, ...]) -> None:
+    def take(self, found: tuple[Any, ...]) -> None:
         if found[0] == "unread":
             self.unread += 1
             return
@@ -213,7 +216,8 @@ def add(corpus: Corpus, asked: Any) -> Counts:
     files = (file for path in named(asked.paths) for file in walked(path, wrong))
     if counts.line.is_shown and "-" not in asked.paths:
         threading.Thread(target=count, args=(counts, asked.paths), daemon=True).start()
-    where = (Dask if asked.scheduler else Here)(asked, corpus.known(KEY, asked.again))
+    known = corpus.known(KEY, asked.again)
+    where: Here | Dask = Dask(asked, known) if asked.scheduler else Here(asked, known)
     try:
         put_all(corpus, counts, batches(files, where.prepare), where)
     finally:
@@ -227,7 +231,7 @@ def count(counts: Counts, paths: list[str]) -> None:
     counts.all = sum(1 for path in named(paths) for _ in walked(path, lambda *_: None))
 
 
-def put_all(corpus: Corpus, counts: Counts, work: Iterator[Jobs], where: Here | Dask) -> None:
+def put_all(corpus: Corpus | Verified, counts: Counts, work: Iterator[Jobs], where: Here | Dask) -> None:
     due: dict[Any, Jobs] = {}
     jobs = 0
     while True:

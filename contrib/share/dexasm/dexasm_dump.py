@@ -8,6 +8,7 @@ from __future__ import annotations
 import heapq
 import struct
 from collections.abc import Callable, Iterable, Iterator
+from functools import partial
 
 from dexasm_contrib import listed, shortened
 from dexasm_file import (
@@ -39,8 +40,14 @@ from dexasm_file import (
 from dexasm_info import MAP_TYPES, ROWS, Readable, as_text, has_tables, header, map_place, quoted, spelled
 from dexasm_uses import CLASS_FLAGS, FIELD_FLAGS, METHOD_FLAGS, flag_words
 
+TYPE_CHECKING = False  # (as in typing)
+if TYPE_CHECKING:
+    import dexasm.code
+    from dexasm.program import Program
+    from dexasm_file import Read
+
 WIDTH = 8  # bytes a line
-UNNEEDED = {
+UNNEEDED: dict[Read, str] = {
     read_debug: "debug_info_item",
     read_directory: "annotations_directory_item",
     read_list: "annotation_set_ref_list",
@@ -78,7 +85,7 @@ class Dump:
         self.data, self.lines_at, self.tables = data, lines_at, Readable(data)
         self.needed: dict[tuple[int, int, str], Parts] = {}
         self.others: dict[tuple[int, int, str], Parts] = {}
-        self.followed: set[tuple[Callable, int]] = set()
+        self.followed: set[tuple[Read, int]] = set()
         fields = [at + size for _, at, size, _ in header(data)]
         self.add(0, max(fields, default=0), MAP_TYPES[0], self.header)
         if not has_tables(data):
@@ -88,7 +95,7 @@ class Dump:
             begin = self.tables.at[table]
             for row in range(self.tables.rows[table]):
                 at = begin + size * row
-                self.add(at, at + size, ROWS[table], lambda table=table, row=row, at=at: self.row(table, row, at))
+                self.add(at, at + size, ROWS[table], partial(self.row, table, row, at))
         for read, rows in (
             (self.string, self.tables.rows["string"]),
             (self.parameters, self.tables.rows["proto"]),
@@ -107,7 +114,7 @@ class Dump:
     def add_map(self) -> None:
         place = map_place(self.data)
         if place:
-            self.add(place[0], place[0] + 4 + 12 * place[1], "map_list", lambda: self.map_list(*place))
+            self.add(place[0], place[0] + 4 + 12 * place[1], "map_list", partial(self.map_list, *place))
 
     def string(self, row: int) -> None:
         begin = self.tables.numbers("string", row, "<I")[0]
@@ -130,12 +137,13 @@ class Dump:
     def class_items(self, row: int) -> None:
         """What a class's row leads to; where one of it can't be read the others are."""
         _, _, _, interfaces, _, annotations, members, statics = self.tables.numbers("class", row, "<8I")
-        for read in (
+        reads: tuple[Callable[[], None], ...] = (
             lambda: self.type_list(interfaces),
             lambda: self.class_data(members, row),
             lambda: self.static_values(statics),
             lambda: self.follow(read_directory, annotations),
-        ):
+        )
+        for read in reads:
             try:
                 read()
             except NO_FILE:
@@ -198,7 +206,7 @@ class Dump:
             self.tables.charge(reader.at - at)
             self.add(at, reader.at, MAP_TYPES[0x2005], lambda: self.value_parts(at))
 
-    def follow(self, read: Callable, at: int) -> None:
+    def follow(self, read: Read, at: int) -> None:
         """An item that the program doesn't need, and those that it leads to."""
         due = [(read, at)]
         while due:
@@ -212,7 +220,7 @@ class Dump:
                 self.tables.charge(reader.at - at)
             except NO_FILE:
                 continue
-            self.others[at, reader.at, UNNEEDED[read]] = lambda at=at, end=reader.at: [(at, end, "not looked at")]
+            self.others[at, reader.at, UNNEEDED[read]] = partial(not_looked_at, at, reader.at)
 
     # ---- parts
 
@@ -319,12 +327,13 @@ class Dump:
         handlers = reader.uleb()
         yield at, reader.at, f"encoded_catch_handler_list, size {handlers}"
         for _ in range(handlers):
-            begin, size, said = reader.at, reader.sleb(), []
+            begin, size = reader.at, reader.sleb()
+            caught: list[str] = []
             for _ in range(abs(size)):
                 name = self.said("type", reader.uleb())
-                said.append(f"{name} at {reader.uleb():04x}")
-            said += [f"all else at {reader.uleb():04x}"] if size <= 0 else []
-            yield begin, reader.at, f"encoded_catch_handler: {', '.join(said)}"
+                caught.append(f"{name} at {reader.uleb():04x}")
+            caught += [f"all else at {reader.uleb():04x}"] if size <= 0 else []
+            yield begin, reader.at, f"encoded_catch_handler: {', '.join(caught)}"
 
     def value_parts(self, at: int) -> Iterator[Piece]:
         reader = Reader(self.data, at)
@@ -382,6 +391,10 @@ def whole(begin: int, end: int, parts: Iterable[Piece]) -> Iterator[Piece]:
         yield at, end, "can't be read"
 
 
+def not_looked_at(begin: int, end: int) -> list[Piece]:
+    return [(begin, end, "not looked at")]
+
+
 def unused(data: bytes, begin: int, end: int) -> str:
     is_padding = end - begin < 4 and not any(data[begin:end])
     return "padding" if is_padding else "nothing that is read here refers to it"
@@ -390,21 +403,22 @@ def unused(data: bytes, begin: int, end: int) -> str:
 def code_lines(data: bytes, name: str) -> dict[int, Callable[[], list[str]]]:
     """Of each code of an accepted file, by where it is: its instructions as the listing has them, each behind the label
     that leads to it."""
-    program, tables, found = listed(data, name), Tables(data), {}
+    program, tables = listed(data, name), Tables(data)
+    found: dict[int, Callable[[], list[str]]] = {}
     for row in range(tables.count["class"]):
         places = [code for code, _ in tables.codes_of(row, None)]
         for number, at in enumerate(places):
-            found.setdefault(at, lambda row=row, number=number: lines_of(program.classes[row], number))
+            found.setdefault(at, partial(lines_at, program, row, number))
     return found
 
 
-def lines_of(one, number: int) -> list[str]:
+def lines_at(program: Program, row: int, number: int) -> list[str]:
     """The instructions of that code of a class."""
-    codes = [method.code for method in one.methods if method.code is not None]
+    codes = [method.code for method in program.classes[row].methods if method.code is not None]
     return labelled(codes[number])
 
 
-def labelled(code) -> list[str]:
+def labelled(code: dexasm.code.Code) -> list[str]:
     """A line for each instruction, in their order."""
     found, label = [], ""
     for line in str(code).split("\n")[1:]:
@@ -422,7 +436,7 @@ def dump(data: bytes, name: str, refusal: tuple[int, str, int] | None, low: int,
     """The lines of the bytes from `low` to before `high` of a file of that name; the fault of a refused one is a line
     before its place."""
     made = Dump(data, {} if refusal else code_lines(data, name))
-    mark = refusal and f">>>>>>>>  refused {refusal[0]} {refusal[1]} at 0x{refusal[2]:x}"
+    mark = f">>>>>>>>  refused {refusal[0]} {refusal[1]} at 0x{refusal[2]:x}" if refusal else ""
     place, before = refusal[2] if refusal else -1, ""
     for begin, end, kind, said in made.pieces():
         if end <= low or begin >= high:

@@ -3,7 +3,21 @@ its program is there. (What is read of a refused one raises one of NO_FILE where
 
 What the program doesn't need (annotations, debug information) dexasm doesn't look at, so it can be anything: there each
 number is asked whether it leads into the file."""
+from __future__ import annotations
+
 import struct
+
+TYPE_CHECKING = False  # (as in typing)
+if TYPE_CHECKING:
+    from collections.abc import Callable, Iterable, Iterator, Sequence
+    from typing import Any, TypeVar
+
+    Made = TypeVar("Made")
+    Kind = TypeVar("Kind", int, str)
+    Owner = TypeVar("Owner")
+    Claim = tuple[int, int, int]  # begin, end and kind
+    Led = Sequence[tuple["Read", int]]  # what an item that isn't needed leads to, and how that is read
+    Read = Callable[["Reader"], Led]
 
 HEADER, MAP_OFF = 112, 52
 LONGEST_CHARACTER = 6  # bytes in MUTF-8: two surrogates
@@ -46,7 +60,7 @@ for first, last, units in (
     (0xD0, 0xE2, 2),
 ):
     UNITS[first : last + 1] = bytes([units] * (last + 1 - first))
-INDEX = [None] * 256
+INDEX: list[str | None] = [None] * 256
 for first, last, table in (
     (0x1A, 0x1B, "string"),
     (0x1C, 0x1C, "type"),
@@ -75,11 +89,11 @@ NO_FILE = (Outside, struct.error, ValueError, IndexError, OverflowError)
 class Reader:
     """Numbers from a place on; for what dexasm doesn't look at, `left` has how many bytes may still be read."""
 
-    def __init__(self, data, at, left=None):
+    def __init__(self, data: bytes, at: int, left: list[int] | None = None) -> None:
         self.data, self.at, self.left = data, at, left
-        self.far = None  # where the first number that `wide` read begins that is none of 32 bits
+        self.far: int | None = None  # where the first number that `wide` read begins that is none of 32 bits
 
-    def byte(self):
+    def byte(self) -> int:
         if self.left:
             self.left[0] -= 1
         if self.at >= len(self.data) or self.left and self.left[0] < 0:
@@ -87,7 +101,7 @@ class Reader:
         self.at += 1
         return self.data[self.at - 1]
 
-    def words(self, count):
+    def words(self, count: int) -> tuple[int, ...]:
         """Numbers of four bytes."""
         end = self.at + 4 * count
         if end > len(self.data):
@@ -98,14 +112,14 @@ class Reader:
         self.at = end
         return found
 
-    def uleb(self):
+    def uleb(self) -> int:
         return self.leb()[0]
 
-    def sleb(self):
+    def sleb(self) -> int:
         number, bits = self.leb()
         return number - (1 << bits) if number >> (bits - 1) else number
 
-    def wide(self):
+    def wide(self) -> int:
         """As uleb; a number that is none of 32 bits is noted, and is 0."""
         begin = self.at
         number = 0
@@ -119,7 +133,7 @@ class Reader:
         self.far = begin if self.far is None else self.far
         return 0
 
-    def leb(self):
+    def leb(self) -> tuple[int, int]:
         """A LEB128 number without its sign, and how many bits it has."""
         number = 0
         for shift in range(0, 35, 7):
@@ -133,7 +147,7 @@ class Reader:
 PAYLOADS = {0x0100: "packed-switch-payload", 0x0200: "sparse-switch-payload", 0x0300: "array-payload"}
 
 
-def steps(units):
+def steps(units: Sequence[int]) -> Iterator[tuple[int, int]]:
     """Each instruction and each payload: its first unit's place, and the place behind it."""
     at = 0
     while at < len(units):
@@ -149,18 +163,18 @@ def steps(units):
         yield begin, at
 
 
-def units_of(data, code):
+def units_of(data: bytes, code: int) -> tuple[int, ...]:
     """The units of the code that is there."""
     return struct.unpack_from(f"<{struct.unpack_from('<I', data, code + 12)[0]}H", data, code + 16)
 
 
-def addresses(data, code):
+def addresses(data: bytes, code: int) -> Iterator[tuple[int, int]]:
     """Of each instruction and each payload of the code that is there: its offset in the file, and its address in units.
     """
     return ((code + 16 + 2 * at, at) for at, _ in steps(units_of(data, code)))
 
 
-def insns(units):
+def insns(units: Sequence[int]) -> Iterator[tuple[int, int]]:
     """Each instruction that isn't a payload: its opcode and its first unit's place."""
     return ((units[at] & 0xFF, at) for at, _ in steps(units) if units[at] not in PAYLOADS)
 
@@ -170,7 +184,7 @@ class TypeList:
 
     kind = TABLE
 
-    def __init__(self, data, at):
+    def __init__(self, data: bytes, at: int) -> None:
         count = struct.unpack_from("<I", data, at)[0]
         self.begin, self.end = at, at + 4 + 2 * count
         self.mentions = {("type", type_) for type_ in struct.unpack_from(f"<{count}H", data, at + 4)}
@@ -181,7 +195,7 @@ class Values:
 
     kind = VALUES
 
-    def __init__(self, data, at):
+    def __init__(self, data: bytes, at: int) -> None:
         reader = Reader(data, at)
         self.begin, self.mentions = at, read_values(reader, reader.uleb())
         self.end = reader.at
@@ -192,20 +206,20 @@ class Code:
 
     kind = CODE
 
-    def __init__(self, data, at):
+    def __init__(self, data: bytes, at: int) -> None:
         self.begin = at
         _, _, _, tries, self.debug, count = struct.unpack_from("<HHHHII", data, at)
         self.end = at + 16 + 2 * count
         units = struct.unpack_from(f"<{count}H", data, at + 16)
         self.mentions = {
-            (INDEX[op], units[i + 1] | (units[i + 2] << 16 if op == JUMBO else 0))
+            (table, units[i + 1] | (units[i + 2] << 16 if op == JUMBO else 0))
             for op, i in insns(units)
-            if INDEX[op]
+            if (table := INDEX[op])
         }
         if tries:
             self.read_handlers(Reader(data, self.end + 2 * (count % 2) + 8 * tries))
 
-    def read_handlers(self, reader):
+    def read_handlers(self, reader: Reader) -> None:
         for _ in range(reader.uleb()):
             size = reader.sleb()
             for _ in range(abs(size)):
@@ -216,7 +230,7 @@ class Code:
         self.end = reader.at
 
 
-def values(reader, count, has_names=False):
+def values(reader: Reader, count: int, has_names: bool = False) -> Iterator[tuple[int, int, int]]:
     """Reads so many encoded values, one by one, however deep: the place of each, its head, and its number, which of an
     array or an annotation is how many follow."""
     due = [[count, has_names]]
@@ -242,7 +256,7 @@ def values(reader, count, has_names=False):
         yield begin, head, number
 
 
-def read_values(reader, count, has_names=False):
+def read_values(reader: Reader, count: int, has_names: bool = False) -> set[tuple[str, int]]:
     """Reads so many encoded values, and answers the names that they mention."""
     found = ((head & 0x1F, number) for _, head, number in values(reader, count, has_names))
     return {(VALUE_INDEX[kind], number) for kind, number in found if kind in VALUE_INDEX}
@@ -251,15 +265,15 @@ def read_values(reader, count, has_names=False):
 class Owners:
     """Whose each row of a table is."""
 
-    def __init__(self, counts):
+    def __init__(self, counts: dict[str, int]) -> None:
         self.of = {table: [NOBODY] * count for table, count in counts.items()}
 
-    def give(self, table, index, owner):
+    def give(self, table: str, index: int, owner: int) -> None:
         old = self.of[table][index]
         self.of[table][index] = owner if old in (NOBODY, owner) else SEVERAL
 
 
-def from_mutf8(spelled):
+def from_mutf8(spelled: bytes) -> str:
     return (
         spelled.replace(b"\xc0\x80", b"\0")
         .decode("utf8", "surrogatepass")
@@ -271,22 +285,25 @@ def from_mutf8(spelled):
 class Tables:
     """The six tables of a file, and what their rows name."""
 
-    def __init__(self, data):
-        self.data, self.at, self.count, self.row = data, {}, {}, {}
+    def __init__(self, data: bytes) -> None:
+        self.data = data
+        self.at: dict[str, int] = {}
+        self.count: dict[str, int] = {}
+        self.row: dict[str, int] = {}
         for name, place, size in TABLES:
             self.count[name], self.at[name] = struct.unpack_from("<II", data, place)
             self.row[name] = size
 
-    def numbers(self, table, index, form):
+    def numbers(self, table: str, index: int, form: str) -> tuple[int, ...]:
         return struct.unpack_from(form, self.data, self.at[table] + index * self.row[table])
 
-    def text(self, string):
+    def text(self, string: int) -> str:
         """A string as it is, from MUTF-8."""
         reader = Reader(self.data, self.numbers("string", string, "<I")[0])
         reader.uleb()
         return from_mutf8(self.data[reader.at : self.data.index(0, reader.at)])
 
-    def beginning(self, string, most):
+    def beginning(self, string: int, most: int) -> tuple[str, int]:
         """The first characters of a string, so many at most; and how many units it has if it has more, or else 0. What
         lies behind them isn't looked at, since strings can overlap.
         """
@@ -300,32 +317,32 @@ class Tables:
         text = from_mutf8(self.data[begin:end])
         return text[:most], units if len(text) > most else 0
 
-    def type_name(self, index):
+    def type_name(self, index: int) -> str:
         return self.text(self.numbers("type", index, "<I")[0])
 
-    def class_name(self, row):
+    def class_name(self, row: int) -> str:
         return self.type_name(self.numbers("class", row, "<I")[0])
 
-    def proto_name(self, index):
+    def proto_name(self, index: int) -> str:
         _, answer, at = self.numbers("proto", index, "<III")
         return f"({''.join(map(self.type_name, self.types_at(at)))}){self.type_name(answer)}"
 
-    def types_at(self, at):
+    def types_at(self, at: int) -> tuple[int, ...]:
         """The types of a type_list in their order; 0 is the place of none."""
         count = struct.unpack_from("<I", self.data, at)[0] if at else 0
         return struct.unpack_from(f"<{count}H", self.data, at + 4) if count else ()
 
-    def method_name(self, index):
+    def method_name(self, index: int) -> str:
         """A method as a listing names it, without its class."""
         _, proto, name = self.numbers("method", index, "<HHI")
         return self.text(name) + self.proto_name(proto)
 
-    def field_name(self, index):
+    def field_name(self, index: int) -> str:
         """A field as a listing names it, without its class."""
         _, type_, name = self.numbers("field", index, "<HHI")
         return f"{self.text(name)}:{self.type_name(type_)}"
 
-    def name(self, table, index):
+    def name(self, table: str, index: int) -> str:
         """What a row names, as a listing does, with its class."""
         if table == "string":
             return self.text(index)
@@ -336,7 +353,7 @@ class Tables:
             return f"{owner}->{self.field_name(index) if table == 'field' else self.method_name(index)}"
         return self.type_name(index) if table == "type" else self.class_name(index)
 
-    def members(self, row, left):
+    def members(self, row: int, left: list[int] | None) -> Iterator[tuple[str, int, int | None, int]]:
         """Of each member of a class: its table, its own row, what that is above the one before in its list (None of the
         first), and where its code is.
         """
@@ -350,18 +367,18 @@ class Tables:
                 reader.uleb()
                 yield table, index, above if number else None, reader.uleb() if table == "method" else 0
 
-    def codes_of(self, row, left):
+    def codes_of(self, row: int, left: list[int] | None) -> Iterator[tuple[int, int]]:
         """Of each method of a class that has one: where its code is, and its own row."""
         return ((code, index) for _, index, _, code in self.members(row, left) if code)
 
-    def twice(self, row, left):
+    def twice(self, row: int, left: list[int] | None) -> str | None:
         """The first member of a class that is the one before once more, or None."""
         for table, index, above, _ in self.members(row, left):
             if above == 0:
                 return self.field_name(index) if table == "field" else self.method_name(index)
         return None
 
-    def too_far(self, row, left):
+    def too_far(self, row: int, left: list[int] | None) -> tuple[int, bytes] | None:
         """Where the first number of a class's data begins that isn't one of 32 bits, and its bytes; or None."""
         reader = Reader(self.data, self.numbers("class", row, "<8I")[6], left)
         due = [reader.wide() for _ in range(4)] if reader.at else []
@@ -370,16 +387,19 @@ class Tables:
                 reader.wide()
                 if reader.far is not None:
                     break
-        return reader.far and (reader.far, self.data[reader.far : reader.far + 5])
+        return (reader.far, self.data[reader.far : reader.far + 5]) if reader.far else None
 
 
 class Dex(Tables):
     """A file whose bytes are told apart: `claims` has begin, end and kind of each item, and whose it is."""
 
-    def __init__(self, data):
+    def __init__(self, data: bytes) -> None:
         super().__init__(data)
-        self.claims, self.left = {}, [4 * len(data)]
-        self.items, self.given, self.followed = {}, {}, {}
+        self.claims: dict[Claim, int] = {}
+        self.left = [4 * len(data)]
+        self.items: dict[tuple[Callable[[bytes, int], Any], int], Any] = {}
+        self.given: dict[TypeList | Values | Code, int] = {}
+        self.followed: dict[tuple[Read, int], tuple[int, Led]] = {}
         self.owners = Owners(self.count)
         self.claim(0, HEADER, TABLE, FILE)
         begin = struct.unpack_from("<I", data, MAP_OFF)[0]
@@ -387,19 +407,20 @@ class Dex(Tables):
         self.names = [self.read_class(row) for row in range(self.count["class"])]
         self.read_names()
 
-    def claim(self, begin, end, kind, owner):
+    def claim(self, begin: int, end: int, kind: int, owner: int) -> None:
         """An item that several have is nobody's alone."""
         old = self.claims.setdefault((begin, end, kind), owner)
         if old != owner:
             self.claims[begin, end, kind] = SEVERAL
 
-    def item(self, read, at):
+    def item(self, read: Callable[[bytes, int], Made], at: int) -> Made:
         """What `read` makes of the item there, which is read once."""
         if (read, at) not in self.items:
             self.items[read, at] = read(self.data, at)
-        return self.items[read, at]
+        made: Made = self.items[read, at]
+        return made
 
-    def give_all(self, item, owner):
+    def give_all(self, item: TypeList | Values | Code, owner: int) -> None:
         """Gives the owner an item that several may have, and what it mentions; once it is several classes', no more is
         to be given.
         """
@@ -411,7 +432,7 @@ class Dex(Tables):
         for table, index in item.mentions:
             self.owners.give(table, index, owner)
 
-    def read_class(self, row):
+    def read_class(self, row: int) -> str:
         """A class row and what it leads to; answers the class's name."""
         type_, _, parent, interfaces, source, annotations, members, values = self.numbers("class", row, "<8I")
         give = self.owners.give
@@ -431,7 +452,7 @@ class Dex(Tables):
             self.unneeded(read_directory, annotations, row)
         return self.text(self.numbers("type", type_, "<I")[0])
 
-    def read_members(self, at, row):
+    def read_members(self, at: int, row: int) -> None:
         reader = Reader(self.data, at)
         counts = [reader.uleb() for _ in range(4)]
         for table, count in zip(("field", "field", "method", "method"), counts):
@@ -445,13 +466,13 @@ class Dex(Tables):
                     self.read_code(code, row)
         self.claim(at, reader.at, TABLE, row)
 
-    def read_code(self, at, row):
+    def read_code(self, at: int, row: int) -> None:
         code = self.item(Code, at)
         self.give_all(code, row)
         if code.debug:
             self.unneeded(read_debug, code.debug, row)
 
-    def read_names(self):
+    def read_names(self) -> None:
         """The rows of the five tables, and what they lead to: a name is whose the names with it are."""
         give, of = self.owners.give, self.owners.of
         for table, parts in (("field", ("type", "type", "string")), ("method", ("type", "proto", "string"))):
@@ -478,7 +499,7 @@ class Dex(Tables):
         for index, owner in enumerate(of["string"]):
             self.claim(*self.string_data(index), STRINGS if owner != NOBODY else UNUSED, owner)
 
-    def string_data(self, index):
+    def string_data(self, index: int) -> tuple[int, int]:
         """Where a string's item begins, and where it ends."""
         reader = Reader(self.data, self.numbers("string", index, "<I")[0])
         begin = reader.at
@@ -487,13 +508,13 @@ class Dex(Tables):
 
     # ---- parts of what a class has
 
-    def claims_of_string(self, index):
+    def claims_of_string(self, index: int) -> tuple[Claim, Claim]:
         """Those of a string: its row, and its item."""
         kind = STRINGS if self.owners.of["string"][index] != NOBODY else UNUSED
         row = self.at["string"] + self.row["string"] * index
         return (row, row + self.row["string"], kind), (*self.string_data(index), kind)
 
-    def claims_of_code(self, at):
+    def claims_of_code(self, at: int) -> list[Claim]:
         """Those of a code: its item, and its debug information where that could be followed."""
         code = self.item(Code, at)
         end = self.followed.get((read_debug, code.debug), (code.debug,))[0]
@@ -501,7 +522,7 @@ class Dex(Tables):
 
     # ---- what dexasm doesn't look at
 
-    def unneeded(self, read, at, row):
+    def unneeded(self, read: Read, at: int, row: int) -> None:
         """Claims an item that the program doesn't need, and those that it leads to."""
         due = [(read, at)]
         while due:
@@ -509,7 +530,7 @@ class Dex(Tables):
             if at:
                 due += self.follow(read, at, row)
 
-    def follow(self, read, at, row):
+    def follow(self, read: Read, at: int, row: int) -> Led:
         """Claims one such item, which is read once; answers what it leads to, and how that is read."""
         if (read, at) not in self.followed:
             self.followed[read, at] = at, ()
@@ -527,7 +548,7 @@ class Dex(Tables):
         return found
 
 
-def read_debug(reader):
+def read_debug(reader: Reader) -> Led:
     """A debug_info_item."""
     reader.uleb()
     for _ in range(reader.uleb()):
@@ -538,7 +559,7 @@ def read_debug(reader):
     return ()
 
 
-def read_directory(reader):
+def read_directory(reader: Reader) -> Led:
     """An annotations_directory_item: sets of the class, its fields and methods, and lists of sets of parameters."""
     of_class, fields, methods, parameters = reader.words(4)
     sets = (of_class, *reader.words(2 * (fields + methods))[1::2])
@@ -546,17 +567,17 @@ def read_directory(reader):
     return [(read_set, at) for at in sets] + [(read_list, at) for at in lists]
 
 
-def read_list(reader):
+def read_list(reader: Reader) -> Led:
     """An annotation_set_ref_list."""
     return [(read_set, at) for at in reader.words(*reader.words(1))]
 
 
-def read_set(reader):
+def read_set(reader: Reader) -> Led:
     """An annotation_set_item."""
     return [(read_annotation, at) for at in reader.words(*reader.words(1))]
 
 
-def read_annotation(reader):
+def read_annotation(reader: Reader) -> Led:
     """An annotation_item."""
     reader.byte()
     reader.uleb()
@@ -564,7 +585,7 @@ def read_annotation(reader):
     return ()
 
 
-def disjoint(claims):
+def disjoint(claims: Iterable[tuple[tuple[int, int, Kind], Owner]]) -> Iterator[tuple[int, int, Kind, Owner]]:
     """The same items without bytes that an item before them has."""
     at = 0
     for (begin, end, kind), owner in sorted(claims):
@@ -573,9 +594,11 @@ def disjoint(claims):
             at = end
 
 
-def between(taken, rest):
+def between(
+    taken: list[tuple[int, int, Kind, Owner]], rest: list[tuple[int, int, Kind, Owner]]
+) -> Iterator[tuple[int, int, Kind, Owner]]:
     """Those parts of `rest` that lie between what is taken."""
-    gaps = zip([0, *(end for _, end, _, _ in taken)], [*(begin for begin, _, _, _ in taken), float("inf")])
+    gaps = zip([0, *(end for _, end, _, _ in taken)], [*(begin for begin, _, _, _ in taken), 1 << 64])
     at = 0
     for low, high in gaps:
         while at < len(rest) and rest[at][0] < high:
@@ -587,7 +610,7 @@ def between(taken, rest):
             at += 1
 
 
-def sizes(dex, parts=None):
+def sizes(dex: Dex, parts: dict[Claim, str] | None = None) -> tuple[list[str], dict[int | str, list[int]]]:
     """Each class's name, and the bytes of each kind that a class, several of them, none or the file itself has; and
     those that one of `parts` has, where it has a claim to itself.
 
@@ -596,18 +619,21 @@ def sizes(dex, parts=None):
     """
     parts = parts or {}
     claims = {claim: parts.get(claim, owner) for claim, owner in dex.claims.items()}
-    is_programs = lambda claim: claim[0][2] not in (DEBUG, UNUSED)
+
+    def is_programs(claim: tuple[Claim, int | str]) -> bool:
+        return claim[0][2] not in (DEBUG, UNUSED)
+
     program = list(disjoint(filter(is_programs, claims.items())))
     rest = list(disjoint(claim for claim in claims.items() if not is_programs(claim)))
     owners = *range(len(dex.names)), SEVERAL, NOBODY, FILE, *parts.values()
     taken = {owner: [0] * len(KINDS) for owner in owners}
     for begin, end, kind, owner in (*program, *between(program, rest)):
         taken[owner][kind] += end - begin
-    taken[FILE][UNUSED] += len(dex.data) - sum(map(sum, taken.values()))
+    taken[FILE][UNUSED] += len(dex.data) - sum(sum(found) for found in taken.values())
     return dex.names, taken
 
 
-def code_sizes(dex):
+def code_sizes(dex: Dex) -> list[list[int]]:
     """Of each class, by its row, how many bytes the code item of each of its methods takes that has one, in their
     order.
     """

@@ -12,6 +12,13 @@ from bisect import bisect_left
 from dexasm_contrib import Failed, module
 from dexasm_uses import Uses, fresh
 
+TYPE_CHECKING = False  # (as in typing)
+if TYPE_CHECKING:
+    from collections.abc import Iterator
+    from typing import Any
+
+    from dexasm.code import Code, Insn, Label
+
 MOST_EDGES = 1_000_000
 MOST_DRAWN = 2000  # edges of a picture on a page
 MOST_LINES, LONGEST = 40, 100  # lines of a block in a picture, and characters of a line
@@ -33,7 +40,7 @@ class Graph:
 
     def __init__(self, name: str) -> None:
         self.name = name
-        self.nodes: list[dict] = []
+        self.nodes: list[dict[str, Any]] = []
         self.edges: dict[tuple[int, int, str, str], int] = {}
 
     def lead(self, a: int, b: int, kind: str, label: str = "") -> None:
@@ -48,7 +55,7 @@ class Flow:
     payload does, by its keys, and `handler` from each block that a try covers, by the exception's type.
     """
 
-    def __init__(self, name: str, code) -> None:
+    def __init__(self, name: str, code: Code) -> None:
         self.code = code = fresh(code)
         lines = [line for line in str(code).split("\n")[1:] if line[:1] != ":"]
         self.insns, self.graph = code.insns, Graph(name)
@@ -66,7 +73,7 @@ class Flow:
             self.leave(block, end)
         self.handle()
 
-    def place(self, label) -> int:
+    def place(self, label: Label) -> int:
         return self.places[id(label.insn)]
 
     def is_payload(self, place: int) -> bool:
@@ -77,21 +84,20 @@ class Flow:
         is_before = first > 0 and end < len(self.insns) and self.is_payload(end) and first not in self.led
         return is_before and all(insn.mnemonic == "nop" for insn in self.insns[first:end])
 
-    def targets(self, insn) -> list[tuple[int, str, str]]:
+    def targets(self, insn: Insn) -> list[tuple[int, str, str]]:
         """Where an instruction leads, besides what comes next."""
         if insn.target is None or insn.mnemonic == "fill-array-data":
             return []
         if not insn.mnemonic.endswith("-switch"):
             return [(self.place(insn.target), "taken", "")]
-        payload = insn.target.insn
+        payload: Any = insn.target.insn  # (a switch leads to its payload)
         keys: dict[int, list[str]] = {}
         for at, target in enumerate(payload.targets):
             key = payload.keys[at] if hasattr(payload, "keys") else payload.first + at
             keys.setdefault(self.place(target), []).append(str(key))
-        cut = lambda found: ", ".join(found[:MOST_KEYS]) + (f" .. {len(found)} keys" if len(found) > MOST_KEYS else "")
         return [(target, "switch", cut(found)) for target, found in keys.items()]
 
-    def starts(self):
+    def starts(self) -> Iterator[int]:
         """Where blocks begin."""
         for place, insn in enumerate(self.insns):
             found = [target for target, _, _ in self.targets(insn)]
@@ -119,16 +125,22 @@ class Flow:
         starts = [node["first"] for node in self.graph.nodes]
         for one in self.code.tries:
             first, end = self.place(one.start), self.place(one.end)
-            found = [(catch.type, catch.target) for catch in one.catches]
+            found: list[tuple[str, Label]] = [(catch.type, catch.target) for catch in one.catches]
             found += [("any", one.catch_all)] if one.catch_all is not None else []
             for block in range(bisect_left(starts, first), bisect_left(starts, end)):
                 for type_, label in found:
                     self.graph.lead(block, self.blocks[self.place(label)], "handler", str(type_))
 
 
+def cut(keys: list[str]) -> str:
+    """The keys of a switch that lead to one place, the first of many."""
+    return ", ".join(keys[:MOST_KEYS]) + (f" .. {len(keys)} keys" if len(keys) > MOST_KEYS else "")
+
+
 def flow(uses: Uses, number: int) -> Graph:
     """The flow of a method that has code."""
-    return Flow(uses.full_name(number), uses.member(number).code).graph
+    method: Any = uses.member(number)
+    return Flow(uses.full_name(number), method.code).graph
 
 
 def calls(uses: Uses, start: int | None = None, depth: int | None = None) -> Graph:
@@ -152,7 +164,7 @@ def calls(uses: Uses, start: int | None = None, depth: int | None = None) -> Gra
         for insn in fresh(code).insns:
             if not insn.mnemonic.startswith("invoke-"):
                 continue
-            owner, _, signature = insn.name.partition("->")
+            owner, _, signature = str(insn.name).partition("->")
             to = uses.resolve(owner, signature)
             graph.lead(here, node(str(insn.name) if to is None else to), "call")
             if to is not None and to not in depths:
@@ -164,7 +176,7 @@ def calls(uses: Uses, start: int | None = None, depth: int | None = None) -> Gra
 # ---- what is written
 
 
-def as_json(graph: Graph) -> dict:
+def as_json(graph: Graph) -> dict[str, Any]:
     nodes = [
         {key: value for key, value in node.items() if key != "lines" or "name" not in node} for node in graph.nodes
     ]
@@ -183,7 +195,7 @@ def in_dot(text: str) -> str:
     return text.replace("&", "&amp;").replace("\\", "\\\\").replace('"', '\\"')
 
 
-def as_dot(graph: Graph, link: str = ""):
+def as_dot(graph: Graph, link: str = "") -> Iterator[str]:
     """The graph in the language of graphviz. `link` and a node's first instruction are where a node leads."""
     yield f'digraph "{in_dot(module().names.spelled(graph.name))}" {{'
     yield 'bgcolor="transparent" node [shape=box fontname="monospace" fontsize=10 style=filled fillcolor="#ffffff"]'
@@ -241,7 +253,7 @@ def for_page(svg: str) -> str:
         raise Failed(NO_PICTURE) from None
 
 
-def keep(element) -> None:
+def keep(element: xml.Element) -> None:
     to = element.get(LINK)
     element.attrib = {name: said for name, said in element.attrib.items() if name in ATTRIBUTES}
     if to and re.fullmatch(r"#\d+\.\d+", to):

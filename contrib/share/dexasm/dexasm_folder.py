@@ -14,6 +14,10 @@ import tempfile
 
 from dexasm_contrib import Failed, deliver, delivery, escaped, reason
 
+TYPE_CHECKING = False  # (as in typing)
+if TYPE_CHECKING:
+    from rich.progress import Progress as RichBar
+
 # All that dexasm-browse writes into a folder. What holds anything else isn't its own.
 FILES = re.compile(
     r"(?:index|help)\.html|style\.css|script\.js|icon\.svg|(?:class|package|strings)/\d+(?:-\d+)?\.html|search/\d+\.js"
@@ -194,7 +198,8 @@ class Progress:
     """How far a job is, on standard error where that is a terminal: rich's bar where it is installed, or a line."""
 
     def __init__(self, said: str, count: int) -> None:
-        self.said, self.count, self.done, self.bar = said, count, 0, None
+        self.said, self.count, self.done = said, count, 0
+        self.bar: RichBar | None = None
         self.is_shown = sys.stderr is not None and sys.stderr.isatty()
 
     def __enter__(self) -> Progress:
@@ -216,7 +221,7 @@ class Progress:
         elif self.is_shown and (self.done % 100 == 0 or self.done == self.count):
             print(f"\r{self.said}: {self.done} of {self.count}", end="", file=sys.stderr, flush=True)
 
-    def __exit__(self, *_) -> None:
+    def __exit__(self, *_: object) -> None:
         if self.bar is not None:
             self.bar.stop()
         elif self.is_shown:

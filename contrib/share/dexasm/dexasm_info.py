@@ -12,6 +12,10 @@ from dexasm_contrib import DEX, part
 from dexasm_file import ABSENT, HEADER, MAP_OFF, NO_FILE, TABLES, Outside, Reader, Tables
 from dexasm_uses import CLASS_FLAGS, flag_words
 
+TYPE_CHECKING = False  # (as in typing)
+if TYPE_CHECKING:
+    from typing import Any
+
 # The header's fields and their bytes ("Dalvik Executable format", header_item).
 FIELDS = (
     ("magic", 8), ("checksum", 4), ("signature", 20), ("file_size", 4), ("header_size", 4), ("endian_tag", 4),
@@ -99,12 +103,14 @@ class Readable(Tables):
 
 def quoted(text: str) -> str:
     """A text as a listing has it: ASCII, with nothing that a terminal obeys."""
-    return part("names").quoted(text)
+    said: str = part("names").quoted(text)
+    return said
 
 
 def spelled(name: str) -> str:
     """A name as a listing has it."""
-    return part("names").spelled(name)
+    said: str = part("names").spelled(name)
+    return said
 
 
 def has_tables(data: bytes) -> bool:
@@ -143,7 +149,7 @@ def map_place(data: bytes) -> tuple[int, int] | None:
     return at, min(struct.unpack_from("<I", data, at)[0], (len(data) - at - 4) // 12)
 
 
-def map_entries(data: bytes) -> list[dict]:
+def map_entries(data: bytes) -> list[dict[str, Any]]:
     """The map's entries that lie in the bytes."""
     at, count = map_place(data) or (0, 0)
     found = (struct.unpack_from("<HHII", data, at + 4 + 12 * i) for i in range(count))
@@ -153,7 +159,7 @@ def map_entries(data: bytes) -> list[dict]:
     ]
 
 
-def sections(data: bytes) -> list[dict]:
+def sections(data: bytes) -> list[dict[str, Any]]:
     """The file from its begin to its end: each section, by the map, and what lies between two."""
     entries, found, at = map_entries(data), [], 0
     row_size = {kind: size for kind, (_, _, size) in enumerate(TABLES, 1)} | {0: HEADER}
@@ -174,7 +180,7 @@ def sections(data: bytes) -> list[dict]:
     return found
 
 
-def tables(data: bytes) -> dict[str, dict]:
+def tables(data: bytes) -> dict[str, dict[str, Any]]:
     """How many rows each table has, the limit, and how many may still be added within it."""
     count, found = Readable(data).count, {}
     for table, name in ROWS.items():
@@ -183,7 +189,7 @@ def tables(data: bytes) -> dict[str, dict]:
     return found
 
 
-def row_of(tables: Tables, table: str, row: int) -> str | dict:
+def row_of(tables: Tables, table: str, row: int) -> str | dict[str, Any]:
     """What a row says: a name, of a class what stands before its members."""
     if table != "class":
         return tables.name(table, row)
@@ -198,7 +204,7 @@ def row_of(tables: Tables, table: str, row: int) -> str | dict:
     }
 
 
-def line_of(table: str, row: str | dict) -> str:
+def line_of(table: str, row: str | dict[str, Any]) -> str:
     """What a row says, in the words of a listing."""
     if isinstance(row, str):
         return quoted(row) if table == "string" else spelled(row)
@@ -209,7 +215,7 @@ def line_of(table: str, row: str | dict) -> str:
     return " ".join(filter(None, words))
 
 
-def row_or_none(readable: Readable, table: str, row: int) -> str | dict | None:
+def row_or_none(readable: Readable, table: str, row: int) -> str | dict[str, Any] | None:
     """The same; None where it can't be read."""
     try:
         return row_of(readable, table, row)
@@ -217,7 +223,7 @@ def row_or_none(readable: Readable, table: str, row: int) -> str | dict | None:
         return None
 
 
-def rows_read(data: bytes) -> dict[str, dict]:
+def rows_read(data: bytes) -> dict[str, dict[str, Any]]:
     """Of refused bytes each table: how many rows its header says, and each of those that lie in the file, None where it
     can't be read."""
     readable, found = Readable(data), {}
@@ -227,5 +233,5 @@ def rows_read(data: bytes) -> dict[str, dict]:
     return found
 
 
-def hashes(data: bytes) -> dict:
+def hashes(data: bytes) -> dict[str, Any]:
     return {"size": len(data), "sha256": hashlib.sha256(data).hexdigest()}

@@ -11,7 +11,7 @@ import re
 import sys
 from collections.abc import Iterator
 from itertools import accumulate
-from typing import Any, NamedTuple
+from typing import TYPE_CHECKING, Any, NamedTuple
 
 if __name__ == "__main__":  # (Python may have been told not to look for modules there)
     sys.path.insert(0, os.path.dirname(os.path.realpath(__file__)))
@@ -25,6 +25,13 @@ from dexasm_rules import PAGE, broken, classes_of, said_of
 from dexasm_rules import RULES as FILE_RULES
 from dexasm_uses import fresh
 from dexasm_verify import MOST_TOLD, TooMuch, Wrong, check
+
+if TYPE_CHECKING:
+    from collections.abc import Callable
+
+    from dexasm import listed, members
+    from dexasm.code import Code, Insn
+    from dexasm.program import Program
 
 # Each rule's word, and its numbers on the page "Dalvik bytecode constraints"; `code_item` is a part of the page
 # "Dalvik Executable format". What is wrong where one is broken stands in the help of dexasm-lint.
@@ -158,7 +165,7 @@ def sentence(wrong: Wrong, mnemonic: str) -> str:
 class Looked:
     """A program, whose methods are looked at by class."""
 
-    def __init__(self, program) -> None:
+    def __init__(self, program: Program) -> None:
         self.classes = Classes(program)
         self.kinds = Kinds(self.classes.parents)
         self.program = program
@@ -170,7 +177,9 @@ class Looked:
                 code = fresh(method.code)
                 yield from self.look_at(row, at, one, method, code)
 
-    def look_at(self, row: int, at: int, one, method, code) -> Iterator[Told]:
+    def look_at(
+        self, row: int, at: int, one: members.Class, method: members.Method, code: Code
+    ) -> Iterator[Told]:
         try:
             found = check(self.classes, self.kinds, one, method, code)
         except TooMuch:
@@ -184,7 +193,7 @@ class Looked:
             yield Told(row, at, wrong.place, wrong.rule, text, wrong.register)
 
 
-def look(program, jobs: int = 1) -> Iterator[Told]:
+def look(program: Program, jobs: int = 1) -> Iterator[Told]:
     """What is wrong in the code of a program, in the order of its classes."""
     if jobs > 1 and len(program.classes) > 1:
         yield from look_by_workers(program, jobs)
@@ -206,7 +215,7 @@ class Part:
     def __init__(self, first: int, end: int) -> None:
         self.first, self.end = first, end
 
-    def look(self, tell, listing: str) -> None:
+    def look(self, tell: Callable[..., None], listing: str) -> None:
         import dexasm
 
         if Part.looked is None:
@@ -229,11 +238,11 @@ class Worker(Looker):
                 return found
             if said[0] != "told":
                 break
-            found.append(Told._make(said[1:]))  # type: ignore[arg-type]
+            found.append(Told._make(said[1:]))
         raise Failed(f"a worker ended with status {self.ended()}")
 
 
-def look_by_workers(program, jobs: int) -> Iterator[Told]:
+def look_by_workers(program: Program, jobs: int) -> Iterator[Told]:
     """The same, by several workers."""
     lead()
     listing = str(program)
@@ -259,7 +268,7 @@ def look_by_workers(program, jobs: int) -> Iterator[Told]:
         pool.shutdown(wait=True)
 
 
-def parts(program, count: int) -> list[tuple[int, int]]:
+def parts(program: Program, count: int) -> list[tuple[int, int]]:
     """The classes in parts of about the same length of text."""
     ends = [*accumulate(len(text) for text in program.classes.texts())]
     found: list[tuple[int, int]] = []
@@ -277,12 +286,12 @@ def parts(program, count: int) -> list[tuple[int, int]]:
 class Places:
     """Names the places of what is told: lines of the listing that was given, or else instructions."""
 
-    def __init__(self, path: bytes, kind: str, program, listing: bytes | None) -> None:
+    def __init__(self, path: bytes, kind: str, program: Program, listing: bytes | None) -> None:
         self.path, self.kind, self.program = path, kind, program
         self.read = module().listed.Listing(listing) if listing is not None else None
         self.row = -1  # of the class that was looked at last, its methods, and their codes as the listing has them
         self.methods: tuple[Any, ...] = ()
-        self.codes: dict[tuple[str, str, str], Any] = {}
+        self.codes: dict[tuple[str, str, str], listed.Code] = {}
 
     def open(self, row: int) -> None:
         one, said = self.program.classes[row], module().listed.said
@@ -323,29 +332,33 @@ class Places:
             address=address,
         )
 
-    def named(self, found: re.Match[str], lines) -> str:
+    def named(self, found: re.Match[str], lines: listed.Code | None) -> str:
         """A type or a place in words."""
         if found[2].isdecimal():
             at = int(found[2])
             return f"instruction {at}" if lines is None else f"line {lines.insns[at].number}"
         type_ = module().names.type_of(found[2])
-        return module().listed.brief(type_ if found[1] else type_.pretty)
+        said: str = module().listed.brief(type_ if found[1] else type_.pretty)
+        return said
 
-    def column(self, line, register: int) -> int:
+    def column(self, line: listed.Line, register: int) -> int:
         """That of the register, as what is read and not what is written; of the second of a pair that of the first."""
-        listed = module().listed
-        words = {listed.register_of(word): word for word in listed.registers(line)}
+        rules = module().listed
+        words: dict[int, listed.Word] = {rules.register_of(word): word for word in rules.registers(line)}
         return (words.get(register) or words.get(register - 1) or line.words[0]).column
 
 
-def units(insn) -> int:
+def units(insn: Insn) -> int:
     """How many units of 16 bits an instruction takes."""
     form = module().formats.format_of(insn.mnemonic)
     if form is not None:
-        return form.units
+        count: int = form.units
+        return count
     if hasattr(insn, "keys"):
         return 2 + 4 * len(insn.keys)
-    return 4 + 2 * len(insn.targets) if hasattr(insn, "targets") else 4 + (len(insn.data) + 1) // 2
+    if hasattr(insn, "targets"):
+        return 4 + 2 * len(insn.targets)
+    return 4 + (len(insn.data) + 1) // 2  # type: ignore[attr-defined]  # (of an array)
 
 
 def member_of(verdict: Verdict) -> list[str]:
@@ -353,14 +366,14 @@ def member_of(verdict: Verdict) -> list[str]:
     return [word for word in (verdict.class_, verdict.member) if word]
 
 
-def looked_at(path: bytes, given: bytes, is_text: bool, program, jobs: int) -> Iterator[Verdict]:
+def looked_at(path: bytes, given: bytes, is_text: bool, program: Program, jobs: int) -> Iterator[Verdict]:
     """What is wrong in the code of a file."""
     places = Places(path, kind_by(is_text), program, given if is_text else None)
     for told in look(program, jobs):
         yield places.verdict(told)
 
 
-def broken_by(path: bytes, is_text: bool, program) -> Iterator[Verdict]:
+def broken_by(path: bytes, is_text: bool, program: Program) -> Iterator[Verdict]:
     """Which rules of files a program breaks: each as the help of dexasm-lint has it, and by what."""
     for one in classes_of(program):
         for where, rule, by in broken(one):

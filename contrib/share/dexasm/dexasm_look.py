@@ -23,6 +23,11 @@ if __name__ == "__main__":  # (Python may have been told not to look for modules
 from dexasm_basis import DEX, MEMORY, TOP, ZIP, Failed
 from dexasm_worker import opened_file, work
 
+TYPE_CHECKING = False  # (as in typing)
+if TYPE_CHECKING:
+    import zipfile
+    from typing import Any
+
 TRIES = 3  # how often a job is begun whose worker was killed by somebody
 KEY = 16  # bytes of a SHA-256 by which a worker knows the files that are in
 # Where the module dexasm is, in the repository and in a package; otherwise it is installed.
@@ -74,7 +79,7 @@ class Job:
             elif first == DEX or self.is_named or self.path.endswith(b".dex"):
                 look_at("", file.read, tell, is_known)
 
-    def look_into(self, archive, tell: Callable[..., None], is_known: Callable[[bytes], bool]) -> None:
+    def look_into(self, archive: zipfile.ZipFile, tell: Callable[..., None], is_known: Callable[[bytes], bool]) -> None:
         from dexasm_archive import dex_files, taken_out
 
         for name, entries in dex_files(archive):
@@ -136,7 +141,9 @@ def facts(text: str) -> tuple[object, ...]:
 
     one = Class.of_text(text)
     name = spelled(one.name)
-    members, calls, strings = [], Counter(), Counter()
+    members = []
+    calls: Counter[tuple[str, str]] = Counter()
+    strings: Counter[tuple[str, str]] = Counter()
     for kind, fields in (("static", one.statics), ("instance", one.instances)):
         for field in fields:
             ref = f"{name}->{spelled(field.name)}:{spelled(field.type)}"
@@ -217,7 +224,8 @@ class Looker:
             env={**os.environ, "PYTHONPATH": os.pathsep.join(filter(None, ways))},
         )
 
-    def send(self, given: object) -> None:
+    def send(self, given: Any) -> None:
+        assert self.worker is not None and self.worker.stdin is not None
         try:
             marshal.dump(given, self.worker.stdin)
             self.worker.stdin.flush()
@@ -233,15 +241,18 @@ class Looker:
         close(worker)
         return worker.returncode
 
-    def said(self) -> tuple[object, ...] | None:
+    def said(self) -> tuple[Any, ...] | None:
         """What the worker says next, or None where it has ended."""
+        assert self.worker is not None and self.worker.stdout is not None
         try:
-            self.worker.stdout.peek(1)  # (it is waited for here: marshal takes an interrupt for the end)
-            return marshal.load(self.worker.stdout)
+            # (it is waited for here: marshal takes an interrupt for the end)
+            self.worker.stdout.peek(1)  # type: ignore[attr-defined]
+            found: tuple[Any, ...] = marshal.load(self.worker.stdout)
+            return found
         except (EOFError, ValueError, TypeError):
             return None
 
-    def look(self, path: bytes, is_named: bool, given: bytes | None = None) -> Iterator[tuple[object, ...]]:
+    def look(self, path: bytes, is_named: bool, given: bytes | None = None) -> Iterator[tuple[Any, ...]]:
         """What is found of a path: `seen`, `file` or `unread`, each with the path and the entry after it.
 
         A file at which the worker ended by a limit is told as such, and what comes after it in an archive goes on.
@@ -266,9 +277,10 @@ class Looker:
                 return
             skipped.append(entry)
 
-    def hear(self, path: bytes, skipped: list[str]) -> Generator[tuple[object, ...], None, tuple[object, object]]:
+    def hear(self, path: bytes, skipped: list[str]) -> Generator[tuple[Any, ...], None, tuple[str | None, Any]]:
         """What the worker tells of a job, and then, where it ended, of which entry and which file; `end` otherwise."""
-        entry, begun = None, None
+        entry: str | None = None
+        begun: Any = None
         while (said := self.said()) is not None:
             if said[0] == "end":
                 return None, "end"
@@ -282,6 +294,7 @@ class Looker:
 
     def ended(self) -> int:
         """The status of a worker that said no more."""
+        assert self.worker is not None
         try:
             self.worker.wait(1)
         except subprocess.TimeoutExpired:
@@ -303,8 +316,8 @@ ending = threading.Event()
 
 
 def look_batch(
-    jobs: list[tuple[object, ...]], run: str, seconds: float, memory: int, known: bytes
-) -> list[tuple[object, ...]]:
+    jobs: list[tuple[Any, ...]], run: str, seconds: float, memory: int, known: bytes
+) -> list[tuple[Any, ...]]:
     """What is found of several paths; its worker stays for the next ones of this run."""
     for old in [key for key in idle if key[0] != run]:
         for looker in idle.pop(old, []):
@@ -340,7 +353,7 @@ def close(worker: subprocess.Popen[bytes]) -> None:
     """Closes the pipes to a worker."""
     for pipe in (worker.stdin, worker.stdout):
         with contextlib.suppress(OSError):
-            pipe.close()
+            pipe.close()  # type: ignore[union-attr]
 
 
 def close_all() -> None:

@@ -9,6 +9,12 @@ from collections.abc import Callable, Iterable, Iterator
 
 from dexasm_html import drawn_text, plain, row, seen, table, text
 
+TYPE_CHECKING = False  # (as in typing)
+if TYPE_CHECKING:
+    from typing import Any
+
+    Place = tuple[float, float, float, float]  # left, top, width and height
+
 HERE = os.path.dirname(os.path.abspath(__file__))
 WIDTH, HEIGHT = 1200, 720
 DEEPEST = 8  # levels of packages: what lies deeper is drawn in the deepest one, by its whole name
@@ -51,14 +57,18 @@ for (const head of document.querySelectorAll('th')) {
 class Node:
     """A package or a class: its name, its bytes, and what it holds."""
 
-    def __init__(self, name):
-        self.name, self.total, self.inner, self.kinds = name, 0, {}, None
+    full: str  # the whole name of a class
 
-    def rows(self):
+    def __init__(self, name: str) -> None:
+        self.name, self.total = name, 0
+        self.inner: dict[tuple[str, str], Node] = {}
+        self.kinds: list[Any] | None = None
+
+    def rows(self) -> list[Node]:
         return sorted(self.inner.values(), key=lambda node: (-node.total, node.name))
 
 
-def tree_of(rows):
+def tree_of(rows: dict[str, list[Any]]) -> Node:
     """The packages, their packages and classes; a package that holds nothing but another one is one with it."""
     top = Node("")
     for name, numbers in rows.items():
@@ -75,7 +85,7 @@ def tree_of(rows):
     return joined(top)
 
 
-def joined(node):
+def joined(node: Node) -> Node:
     """(At most DEEPEST deep.)"""
     node.inner = {key: joined(inner) for key, inner in node.inner.items()}
     only = next(iter(node.inner.values())) if len(node.inner) == 1 else None
@@ -85,7 +95,7 @@ def joined(node):
     return node
 
 
-def squares(nodes, x, y, width, height):
+def squares(nodes: Iterable[Node], x: float, y: float, width: float, height: float) -> Iterator[tuple[Node, Place]]:
     """Places for the nodes, greatest first, each as near to a square as its row lets it be ("Squarified Treemaps",
     Bruls and others, 2000).
     """
@@ -105,7 +115,7 @@ def squares(nodes, x, y, width, height):
             if ratio > worst:
                 break
             worst, taken, count = ratio, more, count + 1
-        thick, at = taken * scale / side, 0
+        thick, at = taken * scale / side, 0.0
         for node in nodes[:count]:
             long = node.total * scale / thick
             yield node, (x, y + at, thick, long) if width >= height else (x + at, y, long, thick)
@@ -116,7 +126,7 @@ def squares(nodes, x, y, width, height):
         nodes, left = nodes[count:], left - taken
 
 
-def rect(x, y, width, height, fill, more=""):
+def rect(x: float, y: float, width: float, height: float, fill: str, more: str = "") -> str:
     return f'<rect x="{x:.1f}" y="{y:.1f}" width="{width:.1f}" height="{height:.1f}" fill="{fill}"{more}/>'
 
 
@@ -134,22 +144,23 @@ def label(name: str, x: float, y: float, width: float) -> str:
     return f'<svg {place}><text x="3" y="11">{drawn_text(said)}</text></svg>'
 
 
-def led(node, lead, *parts):
+def led(node: Node, lead: Callable[[Node], str] | None, *parts: str) -> str:
     """What is drawn of a node, as a link where it leads to a page. (By keyboard the tables lead there.)"""
     to = lead and lead(node)
     return "".join([f'<a href="{to}" tabindex="-1">', *parts, "</a>"] if to else parts)
 
 
-def drawn_class(node, x, y, width, height):
+def drawn_class(node: Node, x: float, y: float, width: float, height: float) -> Iterator[str]:
     """A class: a slice for each kind."""
-    said = ", ".join(f"{kind} {number:,}" for kind, number in zip(KINDS, node.kinds) if number)
+    kinds = node.kinds or []
+    said = ", ".join(f"{kind} {number:,}" for kind, number in zip(KINDS, kinds) if number)
     yield f"<g><title>{plain(node.full)}\n{node.total:,} bytes ({said})</title>"
     if width * height < SLICED:
-        largest = node.kinds.index(max(node.kinds))
+        largest = kinds.index(max(kinds))
         yield f"{rect(x, y, width, height, [*KINDS.values()][largest][0], EDGE)}</g>"
         return
-    at = 0
-    for (color, _), number in zip(KINDS.values(), node.kinds):
+    at = 0.0
+    for (color, _), number in zip(KINDS.values(), kinds):
         share = number / node.total
         if number and width >= height:
             yield rect(x + at, y, width * share, height, color)
@@ -162,7 +173,9 @@ def drawn_class(node, x, y, width, height):
     yield "</g>"
 
 
-def drawn(node, x, y, width, height, lead, least):
+def drawn(
+    node: Node, x: float, y: float, width: float, height: float, lead: Callable[[Node], str] | None, least: float
+) -> Iterator[str]:
     """A node and those in it, but for rectangles of fewer pixels than `least`."""
     if width * height < least:
         return
@@ -174,14 +187,14 @@ def drawn(node, x, y, width, height, lead, least):
         title = f"<title>{plain(node.name)}\n{node.total:,} bytes</title>"
         head = label(node.name, x, y, width) if has_head else ""
         yield led(node, lead, f"<g>{title}{rect(x, y, width, height, '#dddddd', EDGE)}{head}</g>")
-    head, edge = (HEAD, 2) if has_head else (0, 0)
-    for inner, place in squares(node.rows(), x + edge, y + head, width - 2 * edge, height - head - edge):
+    top, edge = (HEAD, 2) if has_head else (0, 0)
+    for inner, place in squares(node.rows(), x + edge, y + top, width - 2 * edge, height - top - edge):
         yield from drawn(inner, *place, lead, least)
 
 
 def picture(node: Node, lead: Callable[[Node], str] | None = None) -> Iterator[str]:
     """The treemap of a node, and what its colours mean. `lead` tells the page of a node, if there is one."""
-    least = LEAST
+    least: float = LEAST
     parts = [*drawn(node, 0, 0, WIDTH, HEIGHT, lead, least)]
     while sum(len(part.encode("utf8")) for part in parts) > MOST:
         least *= 1.5
@@ -206,11 +219,11 @@ def read(name: str) -> str:
         return file.read()
 
 
-def total_of(rows) -> list[int | None]:
+def total_of(rows: Iterable[list[Any]]) -> list[int | None]:
     return [None if None in column else sum(column) for column in zip(*rows)]
 
 
-def sums(title: str, columns, rows) -> Iterator[str]:
+def sums(title: str, columns: Iterable[str], rows: dict[str, list[Any]]) -> Iterator[str]:
     """A table of rows by their names, with a row that adds them up; those that are too many are one."""
     order = sorted(rows.items(), key=lambda one: (-one[1][0], one[0]))
     lines = [row(numbers, text(name)) for name, numbers in order[:MOST_ROWS]]
@@ -235,7 +248,9 @@ def page_of(title: str, parts: Iterable[str]) -> str:
     )
 
 
-def html_page(name: str, columns, rows, packages) -> str:
+def html_page(
+    name: str, columns: Iterable[str], rows: dict[str, list[Any]], packages: dict[str, list[Any]]
+) -> str:
     total = sum(numbers[0] for numbers in rows.values())
     parts = [
         f"<h1>What takes the space of {text(name)}: {total:,} bytes</h1>",

@@ -18,7 +18,7 @@ def named(words: list[str]) -> Iterator[bytes]:
         if sys.stdin is None:
             raise Failed("standard input: it is closed")
         rest = b""
-        while more := sys.stdin.buffer.read1(1 << 16):
+        while more := sys.stdin.buffer.read1(1 << 16):  # type: ignore[attr-defined]
             *paths, rest = (rest + more).split(b"\0")
             yield from filter(None, paths)
         if rest:

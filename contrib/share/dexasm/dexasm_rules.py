@@ -7,9 +7,12 @@ import ast
 import functools
 import os
 import re
-from typing import Iterator, NamedTuple, Optional
+from typing import TYPE_CHECKING, Iterator, NamedTuple, Optional
 
 from dexasm_contrib import TOP, get, module
+
+if TYPE_CHECKING:
+    from dexasm.program import Program
 
 PUBLIC, PRIVATE, PROTECTED, STATIC, FINAL, SYNCHRONIZED = 0x1, 0x2, 0x4, 0x8, 0x10, 0x20
 VOLATILE, VARARGS, NATIVE, INTERFACE, ABSTRACT, STRICT, SYNTHETIC = 0x40, 0x80, 0x100, 0x200, 0x400, 0x800, 0x1000
@@ -103,12 +106,12 @@ class Broken(NamedTuple):
 @functools.cache
 def said_of() -> dict[str, str]:
     """What is wrong where a rule is broken, one of these or of code, as the help of dexasm-lint has it."""
-    help_ = ast.get_docstring(ast.parse(get(os.path.join(TOP, "bin", "dexasm-lint"))), clean=False)
+    help_ = ast.get_docstring(ast.parse(get(os.path.join(TOP, "bin", "dexasm-lint"))), clean=False) or ""
     found = re.findall(r"^  ([a-z-]+)  (\S.*(?:\n {6}.*)*)", help_, re.M)
     return {rule: " ".join(text.split()) for rule, text in found}
 
 
-def classes_of(program) -> Iterator[Class]:
+def classes_of(program: "Program") -> Iterator[Class]:
     """The classes of a program, with names and the first words of values as a listing spells them."""
     spelled = module().names.spelled
     for one in program.classes:
@@ -119,7 +122,7 @@ def classes_of(program) -> Iterator[Class]:
                 members.append(Member(kind, spelled(field.name), spelled(field.type), field.flags, value, None))
         for kind, methods in (("direct", one.directs), ("virtual", one.virtuals)):
             for method in methods:
-                code = method.code and Code(method.code.registers, method.code.ins, method.code.outs)
+                code = Code(method.code.registers, method.code.ins, method.code.outs) if method.code else None
                 members.append(Member(kind, spelled(method.name), spelled(method.proto), method.flags, None, code))
         yield Class(spelled(one.name), one.flags, members)
 

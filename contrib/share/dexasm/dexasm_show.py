@@ -6,11 +6,16 @@ from collections.abc import Iterator
 from dexasm_contrib import USAGE, Failed, escaped, module
 from dexasm_file import Tables, addresses
 
+TYPE_CHECKING = False  # (as in typing)
+if TYPE_CHECKING:
+    from dexasm.members import Field, Method
+    from dexasm.program import Program
+
 HEAD = "dex 035 listing 2"
 BLANK = " " * len("00000000 0000 ")
 
 
-def chosen(program, names: list[str]) -> dict[int, set[str] | None]:
+def chosen(program: Program, names: list[str]) -> dict[int, set[str] | None]:
     """Of each class that the names name, by its place: the members' signatures, or None for all of it."""
     found: dict[int, set[str] | None] = {}
     for asked in names:
@@ -26,7 +31,8 @@ def chosen(program, names: list[str]) -> dict[int, set[str] | None]:
             found[place] = None
             continue
         one = program.classes[place]
-        members = {each.signature for each in (*one.fields, *one.methods) if wanted in (each.signature, each.name)}
+        both: tuple[Field | Method, ...] = (*one.fields, *one.methods)
+        members = {each.signature for each in both if wanted in (each.signature, each.name)}
         if not members:
             raise Failed(f"{escaped(asked)} names nothing of the file; a whole name is as LHello;->get(Z)I", USAGE)
         already = found.setdefault(place, set())
@@ -35,7 +41,7 @@ def chosen(program, names: list[str]) -> dict[int, set[str] | None]:
     return found
 
 
-def show(program, names: list[str], data: bytes | None = None) -> Iterator[str]:
+def show(program: Program, names: list[str], data: bytes | None = None) -> Iterator[str]:
     """Their listing, in the order of the file. With the file's bytes each line stands behind blanks, and an instruction
     behind its offset in the file and its address in units."""
     tables = Tables(data) if data is not None else None
@@ -48,7 +54,7 @@ def show(program, names: list[str], data: bytes | None = None) -> Iterator[str]:
         for member, text in one.parts():
             if member is None or members is None or member.signature in members:
                 at = places.get(id(member))
-                yield from text.splitlines() if tables is None else behind(text, data, at)
+                yield from text.splitlines() if data is None else behind(text, data, at)
         yield f"{blank}end class"
 
 

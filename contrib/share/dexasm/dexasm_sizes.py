@@ -1,10 +1,16 @@
 """The bytes of a file by package, class, method and string, as dexasm-size tells them and dexasm-browse draws them."""
 from __future__ import annotations
 
-from collections.abc import Iterable
+from collections.abc import Callable, Iterable
 
 from dexasm_contrib import part
 from dexasm_file import FILE, KINDS, NOBODY, SEVERAL, Dex, sizes
+
+TYPE_CHECKING = False  # (as in typing)
+if TYPE_CHECKING:
+    from typing import TypeVar
+
+    Number = TypeVar("Number", int, "int | None")
 
 COLUMNS = ("total", *KINDS, "strip")
 OTHERS = {SEVERAL: "(several classes)", NOBODY: "(no class)", FILE: "(the file)"}
@@ -52,7 +58,8 @@ class Methods:
 def spelled(dex: Dex, string: int) -> str:
     """A string as a listing spells it; of a long one the beginning, and its UTF-16 units."""
     text, units = dex.beginning(string, LONGEST_STRING)
-    return part("names").quoted(text) + (f".. ({units} units)" if units else "")
+    said: str = part("names").quoted(text)
+    return said + (f".. ({units} units)" if units else "")
 
 
 def parts_of(claims: Iterable[tuple[str, Claim]]) -> dict[Claim, str]:
@@ -100,7 +107,8 @@ def bytes_of(dex: Dex, by: str = "class") -> Rows:
     """The bytes of each kind by package, class, method or string."""
     if by == "package":
         return by_package(named(dex))
-    return {"class": named, "method": bytes_by_method, "string": bytes_by_string}[by](dex)
+    rows_by: dict[str, Callable[[Dex], Rows]] = {"class": named, "method": bytes_by_method, "string": bytes_by_string}
+    return rows_by[by](dex)
 
 
 def rows_of(dex: Dex, stripped: Dex | None, by: str = "class") -> dict[str, list[int | None]]:
@@ -114,17 +122,17 @@ def rows_of(dex: Dex, stripped: Dex | None, by: str = "class") -> dict[str, list
     }
 
 
-def package_of(name):
+def package_of(name: str) -> str:
     """A class's package as its descriptor has it; what is no class's stays."""
     return name if name.startswith("(") else name[1:-1].rpartition("/")[0] or "(no package)"
 
 
-def added(one, other):
-    return [None if a is None else a + b for a, b in zip(one, other)]
+def added(one: list[Number], other: list[Number]) -> list[Number]:
+    return [None if a is None else a + b for a, b in zip(one, other)]  # type: ignore[operator]
 
 
-def by_package(rows):
-    found = {}
+def by_package(rows: dict[str, list[Number]]) -> dict[str, list[Number]]:
+    found: dict[str, list[Number]] = {}
     for name, numbers in rows.items():
         package = package_of(name)
         found[package] = added(found[package], numbers) if package in found else numbers

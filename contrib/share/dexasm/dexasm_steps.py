@@ -15,6 +15,11 @@ import dexasm_objects as objects
 from dexasm_asks import ASK, Line, ask_int, ask_type, ask_wide, put, put_pair
 from dexasm_kinds import ANY, CONFLICT, INT, NUMBERS, PAIRS, THROWABLE, WIDE
 
+TYPE_CHECKING = False  # (as in typing)
+if TYPE_CHECKING:
+    from dexasm.code import Insn
+    from dexasm_verify import Method
+
 ADD = r"(?:add|sub|mul|div|rem)"
 # The instructions of which no more is asked than kinds: the register that is written and its type, and each that is
 # read with the type (O is any object, also one whose constructor wasn't called; R a reference). One row a family.
@@ -87,12 +92,12 @@ def by_row(row: str) -> tuple[Callable[..., None], str]:
     sources = [(int(word[0]), ASK[word[1]]) for word in words]
     if written and not sources:
 
-        def step(method, insn, line: Line, place: int) -> None:
+        def step(method: Method, insn: Insn, line: Line, place: int) -> None:
             line[insn.registers[0]] = method.kinds.ref(written)
 
     elif written in PAIRS:
 
-        def step(method, insn, line: Line, place: int) -> None:
+        def step(method: Method, insn: Insn, line: Line, place: int) -> None:
             registers = insn.registers
             for at, ask in sources:
                 ask(method, line, registers[at], place)
@@ -101,7 +106,7 @@ def by_row(row: str) -> tuple[Callable[..., None], str]:
     elif written:
         result = NUMBERS[written]
 
-        def step(method, insn, line: Line, place: int) -> None:
+        def step(method: Method, insn: Insn, line: Line, place: int) -> None:
             registers = insn.registers
             for at, ask in sources:
                 ask(method, line, registers[at], place)
@@ -109,7 +114,7 @@ def by_row(row: str) -> tuple[Callable[..., None], str]:
 
     else:
 
-        def step(method, insn, line: Line, place: int) -> None:
+        def step(method: Method, insn: Insn, line: Line, place: int) -> None:
             for at, ask in sources:
                 ask(method, line, insn.registers[at], place)
 
@@ -119,7 +124,7 @@ def by_row(row: str) -> tuple[Callable[..., None], str]:
 # ---- moves and constants
 
 
-def move(method, insn, line: Line, place: int) -> None:
+def move(method: Method, insn: Insn, line: Line, place: int) -> None:
     to, source = insn.registers
     kind = line[source]
     if not kind.is_single and kind is not CONFLICT:
@@ -127,7 +132,7 @@ def move(method, insn, line: Line, place: int) -> None:
     line[to] = line[source]
 
 
-def move_object(method, insn, line: Line, place: int) -> None:
+def move_object(method: Method, insn: Insn, line: Line, place: int) -> None:
     to, source = insn.registers
     kind = line[source]
     if not kind.is_object and kind is not CONFLICT:
@@ -135,13 +140,13 @@ def move_object(method, insn, line: Line, place: int) -> None:
     line[to] = line[source]
 
 
-def move_wide(method, insn, line: Line, place: int) -> None:
+def move_wide(method: Method, insn: Insn, line: Line, place: int) -> None:
     to, source = insn.registers
     ask_wide(method, line, source, place)
     put_pair(method, line, to, place, line[source : source + 2])
 
 
-def move_result(method, insn, line: Line, place: int) -> None:
+def move_result(method: Method, insn: Insn, line: Line, place: int) -> None:
     to = insn.registers[0]
     ending = insn.mnemonic[len("move-result") :]
     answered = method.answered(place)
@@ -161,26 +166,26 @@ def move_result(method, insn, line: Line, place: int) -> None:
         put_pair(method, line, to, place, (ANY, ANY))
 
 
-def move_exception(method, insn, line: Line, place: int) -> None:
+def move_exception(method: Method, insn: Insn, line: Line, place: int) -> None:
     kind = method.caught.get(place)
     if kind is None:
         method.tell(place, "exception-place", "move-exception isn't the first instruction of a handler")
     line[insn.registers[0]] = kind or ANY
 
 
-def const(method, insn, line: Line, place: int) -> None:
-    line[insn.registers[0]] = kinds.constant(insn.literal)
+def const(method: Method, insn: Insn, line: Line, place: int) -> None:
+    line[insn.registers[0]] = kinds.constant(insn.literal)  # type: ignore[arg-type]
 
 
-def const_high(method, insn, line: Line, place: int) -> None:
-    line[insn.registers[0]] = kinds.constant(insn.literal << 16)
+def const_high(method: Method, insn: Insn, line: Line, place: int) -> None:
+    line[insn.registers[0]] = kinds.constant(insn.literal << 16)  # type: ignore[operator]
 
 
-def const_wide(method, insn, line: Line, place: int) -> None:
+def const_wide(method: Method, insn: Insn, line: Line, place: int) -> None:
     put_pair(method, line, insn.registers[0], place, WIDE)
 
 
-def bits(method, insn, line: Line, place: int) -> None:
+def bits(method: Method, insn: Insn, line: Line, place: int) -> None:
     """and, or, xor: of two booleans a boolean."""
     registers = insn.registers
     sources = registers[-2:] if insn.literal is None else registers[1:]
@@ -195,7 +200,7 @@ def bits(method, insn, line: Line, place: int) -> None:
 # ---- the end of a method
 
 
-def leave(method, line: Line, place: int, insn, types: str) -> bool:
+def leave(method: Method, line: Line, place: int, insn: Insn, types: str) -> bool:
     """Whether a return is of its method's kind; a constructor has to have called another one before."""
     if method.returns[0] not in types:
         right = next(right for right, found in ANSWERS.items() if method.returns[0] in found)
@@ -209,11 +214,11 @@ def leave(method, line: Line, place: int, insn, types: str) -> bool:
     return True
 
 
-def return_void(method, insn, line: Line, place: int) -> None:
+def return_void(method: Method, insn: Insn, line: Line, place: int) -> None:
     leave(method, line, place, insn, "V")
 
 
-def return_single(method, insn, line: Line, place: int) -> None:
+def return_single(method: Method, insn: Insn, line: Line, place: int) -> None:
     if not leave(method, line, place, insn, ANSWERS[""]):
         return
     register, type_ = insn.registers[0], method.returns
@@ -225,24 +230,24 @@ def return_single(method, insn, line: Line, place: int) -> None:
             method.wrong_range(line, register, place, wanted)
 
 
-def return_wide(method, insn, line: Line, place: int) -> None:
+def return_wide(method: Method, insn: Insn, line: Line, place: int) -> None:
     if leave(method, line, place, insn, "JD"):
         ASK[method.returns](method, line, insn.registers[0], place)
 
 
-def return_object(method, insn, line: Line, place: int) -> None:
+def return_object(method: Method, insn: Insn, line: Line, place: int) -> None:
     if leave(method, line, place, insn, "L["):
         ask_type(method, line, insn.registers[0], place, method.returns, "return-type")
 
 
-def throw(method, insn, line: Line, place: int) -> None:
+def throw(method: Method, insn: Insn, line: Line, place: int) -> None:
     ask_type(method, line, insn.registers[0], place, THROWABLE, "throw-type")
 
 
 # ---- branches
 
 
-def if_equal(method, insn, line: Line, place: int) -> None:
+def if_equal(method: Method, insn: Insn, line: Line, place: int) -> None:
     """Two ints or two references."""
     one, other = (line[register] for register in insn.registers)
     if one.is_object and other.is_object or one.is_int and other.is_int:
@@ -256,13 +261,13 @@ def if_equal(method, insn, line: Line, place: int) -> None:
         method.wrong(line, second, place, "an int" if one.is_int else "a reference")
 
 
-def if_zero(method, insn, line: Line, place: int) -> None:
+def if_zero(method: Method, insn: Insn, line: Line, place: int) -> None:
     kind = line[insn.registers[0]]
     if not kind.is_object and not kind.is_int:
         method.wrong(line, insn.registers[0], place, "an int or a reference")
 
 
-def payload(method, insn, line: Line, place: int) -> None:
+def payload(method: Method, insn: Insn, line: Line, place: int) -> None:
     method.tell(place, "payload-reached", "the flow runs into this payload: a goto or a return has to stand before it")
 
 

@@ -9,6 +9,15 @@ from bisect import bisect_right
 
 from dexasm_contrib import USAGE, Failed, escaped, module
 
+TYPE_CHECKING = False  # (as in typing)
+if TYPE_CHECKING:
+    from collections.abc import Iterator
+
+    from dexasm.code import Code
+    from dexasm.members import Class, Field, Method
+    from dexasm.names import Type
+    from dexasm.program import Program
+
 ABOVE = 64  # superclasses and interfaces of a class that are looked through for a member
 CLASS_IN = re.compile(r"(L[^;]*;)")  # in a type or a prototype
 # Flags as Java's words ("Dalvik executable format", access_flags).
@@ -33,7 +42,7 @@ def flag_words(flags: int, table: dict[int, str]) -> str:
     return " ".join(word for bit, word in table.items() if flags & bit)
 
 
-def simple(type_) -> str:
+def simple(type_: Type) -> str:
     """A type as Java has it, without its package."""
     return type_.pretty.rpartition(".")[2]
 
@@ -41,11 +50,11 @@ def simple(type_) -> str:
 class Uses:
     """The classes of a program by row, their members by number, and who uses each, by method and instruction."""
 
-    def __init__(self, program) -> None:
+    def __init__(self, program: Program) -> None:
         self.classes = [*program.classes]
         self.rows: dict[str, int] = {}
         self.first: list[int] = []  # of each class the number of its first member
-        self.members: list[tuple] = []  # of each class
+        self.members: list[tuple[Field | Method, ...]] = []  # of each class
         self.by_signature: list[dict[str, int]] = []
         self.heirs: dict[int, list[int]] = {}
         self.count = 0
@@ -59,8 +68,8 @@ class Uses:
             for above in rows:
                 self.heirs.setdefault(above, []).append(row)
 
-    def add(self, one) -> None:
-        members = (*one.fields, *one.methods)
+    def add(self, one: Class) -> None:
+        members: tuple[Field | Method, ...] = (*one.fields, *one.methods)
         numbers: dict[str, int] = {}
         for at, member in enumerate(members):
             numbers.setdefault(member.signature, self.count + at)
@@ -78,11 +87,11 @@ class Uses:
         row = self.row_of(number)
         return row, number - self.first[row]
 
-    def member(self, number: int):
+    def member(self, number: int) -> Field | Method:
         row, at = self.place(number)
         return self.members[row][at]
 
-    def rows_above(self, one) -> list[int]:
+    def rows_above(self, one: Class) -> list[int]:
         """The superclass and the interfaces of a class, those that the program has."""
         names = [one.superclass] if one.superclass is not None else []
         return [*dict.fromkeys(self.rows[name] for name in (*names, *one.interfaces) if name in self.rows)]
@@ -128,27 +137,27 @@ class Uses:
         row, at = self.place(number)
         return f"{self.classes[row].name}->{self.members[row][at].signature}"
 
-    def methods(self):
+    def methods(self) -> Iterator[tuple[int, Method]]:
         """Each method that has code: its number and the method."""
         for row, first in enumerate(self.first):
             for at, member in enumerate(self.members[row]):
                 if getattr(member, "code", None) is not None:
-                    yield first + at, member
+                    yield first + at, member  # type: ignore[misc]  # (a field has no code)
 
 
-def fresh(code):
+def fresh(code: Code) -> Code:
     """The code once more, unread: what is read of it is let go with it, and the code stays as it was."""
     return type(code).of_text(str(code))
 
 
-def title(member) -> str:
+def title(member: Field | Method) -> str:
     """A member as Java has it: `get(boolean)`, `count`."""
     if not hasattr(member, "proto"):
         return member.name
     return f"{member.name}({', '.join(simple(one) for one in member.proto.parameters)})"
 
 
-def heading(member) -> str:
+def heading(member: Field | Method) -> str:
     """A member with its flags and its types."""
     if not hasattr(member, "proto"):
         return f"{flag_words(member.flags, FIELD_FLAGS)} {member.type.pretty} {member.name}".strip()
@@ -179,6 +188,6 @@ def method_of(uses: Uses, asked: str, has_code: bool = False) -> int:
     if len(found) != 1:
         count = f"{len(found)} methods" if found else "no method"
         raise Failed(f"{said} names {count} of the file; a whole name is as LHello;->get(Z)I", USAGE)
-    if has_code and uses.member(found[0]).code is None:
+    if has_code and uses.member(found[0]).code is None:  # type: ignore[union-attr]  # (`find` finds methods)
         raise Failed(f"{said} has no code in this file", USAGE)
     return found[0]

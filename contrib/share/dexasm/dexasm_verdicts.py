@@ -205,7 +205,7 @@ class JUnit(Text):
         suites = ElementTree.Element("testsuites")
         suites.append(self.suite)
         ElementTree.indent(suites, " ")
-        made = ElementTree.tostring(suites, "us-ascii", xml_declaration=True)
+        made: bytes = ElementTree.tostring(suites, "us-ascii", xml_declaration=True)
         return made.decode("ascii").split("\n")
 
 
@@ -246,7 +246,7 @@ class Sarif(Text):
         rules = []
         for rule in self.rules:
             name, sentence = self.named(rule)
-            more = {"shortDescription": {"text": sentence}} if sentence else {}
+            more: dict[str, Any] = {"shortDescription": {"text": sentence}} if sentence else {}
             rules.append({"id": rule, "name": name, **more})
         run = {
             "tool": {"driver": {"name": self.tool, "rules": rules}},

@@ -8,7 +8,7 @@ from __future__ import annotations
 
 import heapq
 from bisect import bisect_right
-from typing import NamedTuple
+from typing import TYPE_CHECKING, NamedTuple
 
 from dexasm_asks import put_pair
 from dexasm_classes import Classes
@@ -16,6 +16,10 @@ from dexasm_kinds import ANY, CONFLICT, OBJECT, REFERENCE, THROWABLE, UNSET, Kin
 from dexasm_kinds import PAIRS as WIDE_TYPES
 from dexasm_rules import STATIC
 from dexasm_steps import step_of
+
+if TYPE_CHECKING:
+    from dexasm import members
+    from dexasm.code import Code, Try
 
 MOST_CELLS = 1 << 25  # kinds that are kept: registers by blocks
 STEP = 16  # registers that can be joined while one instruction is gone through
@@ -46,7 +50,9 @@ class Method:
     last, in a constructor, whether another one was called: its object's kind.
     """
 
-    def __init__(self, classes: Classes, kinds: Kinds, one, method, code) -> None:
+    def __init__(
+        self, classes: Classes, kinds: Kinds, one: members.Class, method: members.Method, code: Code
+    ) -> None:
         self.classes, self.kinds, self.code, self.registers = classes, kinds, code, code.registers
         self.owner, self.above = str(one.name), one.superclass
         self.returns, self.name = str(method.proto.returns), method.name
@@ -78,7 +84,9 @@ class Method:
         insn = self.insns[place - 1] if place else None
         if insn is None or insn.mnemonic[:7] not in ("invoke-", "filled-"):
             return None
-        return str(insn.name) if insn.mnemonic[0] == "f" else self.classes.call(insn.name).returns
+        if insn.mnemonic[0] == "f":
+            return str(insn.name)
+        return self.classes.call(insn.name).returns  # type: ignore[arg-type]
 
     def is_short(self, place: int, count: int) -> bool:
         """Whether the outs aren't enough for a call of so many registers."""
@@ -149,7 +157,8 @@ class Method:
         for place, insn in enumerate(self.insns):
             step = self.steps[place]
             if insn.target is not None and insn.mnemonic != "fill-array-data":
-                labels = insn.target.insn.targets if insn.mnemonic[-7:] == "-switch" else (insn.target,)
+                label, is_switch = insn.target, insn.mnemonic[-7:] == "-switch"
+                labels = label.insn.targets if is_switch else (label,)  # type: ignore[union-attr]
                 self.leads[place] = [*dict.fromkeys(places[id(label.insn)] for label in labels)]
                 starts.update(self.leads[place])
             if step.ends or place in self.leads:
@@ -166,7 +175,7 @@ class Method:
             count = self.blocks[end] - self.blocks[first]
             self.handlers[self.blocks[first] : self.blocks[end]] = [into] * count
 
-    def read_try(self, one, places: dict[int, int]) -> tuple[int, int, list[int]]:
+    def read_try(self, one: Try, places: dict[int, int]) -> tuple[int, int, list[int]]:
         labels = [catch.target for catch in one.catches] + ([] if one.catch_all is None else [one.catch_all])
         handlers = [*dict.fromkeys(places[id(label.insn)] for label in labels)]
         return places[id(one.start.insn)], places[id(one.end.insn)], handlers
@@ -435,6 +444,6 @@ RULES = {
 }
 
 
-def check(classes: Classes, kinds: Kinds, one, method, code) -> list[Wrong]:
+def check(classes: Classes, kinds: Kinds, one: members.Class, method: members.Method, code: Code) -> list[Wrong]:
     """What is wrong in a method that has this code."""
     return Method(classes, kinds, one, method, code).check()

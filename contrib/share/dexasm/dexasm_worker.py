@@ -17,7 +17,6 @@ from dexasm_basis import MEMORY, Failed, reason
 TYPE_CHECKING = False  # (as in typing, which takes as long to read as all else here)
 if TYPE_CHECKING:
     import io
-    from collections.abc import Callable
     from typing import Any
 
 CLOCK = 10  # a file may take so many times its processor seconds by the clock
@@ -35,7 +34,7 @@ class Teller:
         signal.setitimer(signal.ITIMER_PROF, seconds)
         signal.setitimer(signal.ITIMER_REAL, CLOCK * seconds)
 
-    def tell(self, *found: object) -> None:
+    def tell(self, *found: Any) -> None:
         self.begin(0)
         marshal.dump(found, self.out)
         self.out.flush()
@@ -51,7 +50,7 @@ def opened_file(path: bytes) -> io.BufferedReader:
     return os.fdopen(at, "rb")
 
 
-def work(seconds: float, memory: int, kind: Callable[..., Any]) -> None:
+def work(seconds: float, memory: int, kind: type[Any]) -> None:
     """The worker: begins with what all jobs need (the keys of the files that are in, and the modules that the kind of
     job names, which take no file's time), ends with its input or when memory ran out.
     """
