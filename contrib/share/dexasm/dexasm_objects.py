@@ -8,32 +8,43 @@ from dexasm_classes import LISTED
 from dexasm_kinds import ANY, INT, OBJECT, WIDE
 from dexasm_rules import STATIC
 
+TYPE_CHECKING = False  # (as in typing)
+if TYPE_CHECKING:
+    from collections.abc import Sequence
+    from typing import Any
+
+    from dexasm.code import Insn
+    from dexasm_classes import Call
+    from dexasm_verify import Method
+
+    Named = Any  # an Insn whose name or target is asked for: by its class each may be None
+
 # The elements, or the fields, that an instruction of this ending takes.
 ELEMENTS = {"": "IF", "-wide": "JD", "-object": "L[", "-boolean": "Z", "-byte": "B", "-char": "C", "-short": "S"}
 FIELDS = ELEMENTS
 WIDTHS = {"Z": 1, "B": 1, "S": 2, "C": 2, "I": 4, "F": 4, "J": 8, "D": 8}
 
 
-def check_cast(method, insn, line: Line, place: int) -> None:
+def check_cast(method: Method, insn: Insn, line: Line, place: int) -> None:
     register = insn.registers[0]
     ask_reference(method, line, register, place)
     line[register] = cast_to(method, insn, place)
 
 
-def instance_of(method, insn, line: Line, place: int) -> None:
+def instance_of(method: Method, insn: Insn, line: Line, place: int) -> None:
     ask_reference(method, line, insn.registers[1], place)
     cast_to(method, insn, place)
     line[insn.registers[0]] = kinds.BOOLEAN
 
 
-def cast_to(method, insn, place: int) -> kinds.Kind:
+def cast_to(method: Method, insn: Named, place: int) -> kinds.Kind:
     if insn.name[0] in "L[":
         return method.kinds.ref(str(insn.name))
     method.tell(place, "cast-type", f"`{insn.name}` is no class and no array, so that no reference is of it")
     return ANY
 
 
-def new_instance(method, insn, line: Line, place: int) -> None:
+def new_instance(method: Method, insn: Insn, line: Line, place: int) -> None:
     type_ = str(insn.name)
     why = ""
     if type_[0] != "L":
@@ -46,32 +57,32 @@ def new_instance(method, insn, line: Line, place: int) -> None:
     line[insn.registers[0]] = ANY if why else method.new(place, type_)
 
 
-def array_length(method, insn, line: Line, place: int) -> None:
+def array_length(method: Method, insn: Insn, line: Line, place: int) -> None:
     to, register = insn.registers
     array_of(method, insn, line, register, place)
     line[to] = INT
 
 
-def new_array(method, insn, line: Line, place: int) -> None:
+def new_array(method: Method, insn: Insn, line: Line, place: int) -> None:
     to, register = insn.registers
     ask_int(method, line, register, place)
     line[to] = method.kinds.ref(str(insn.name)) if is_array(method, insn, place) else ANY
 
 
-def is_array(method, insn, place: int) -> bool:
+def is_array(method: Method, insn: Named, place: int) -> bool:
     if insn.name[0] == "[":
         return True
     method.tell(place, "array-type", f"`{insn.name}` is no array: an array of it is `=[{insn.name}`")
     return False
 
 
-def filled_new_array(method, insn, line: Line, place: int) -> None:
+def filled_new_array(method: Method, insn: Named, line: Line, place: int) -> None:
     if is_array(method, insn, place) and insn.name[1] not in "JD":
         for register in given(insn):
             ask_type(method, line, register, place, str(insn.name[1:]), "stored-type")
 
 
-def array_of(method, insn, line: Line, register: int, place: int) -> str:
+def array_of(method: Method, insn: Insn, line: Line, register: int, place: int) -> str:
     """The type of the elements of an array, "" where it isn't known."""
     kind = line[register]
     if not kind.is_ref:
@@ -83,7 +94,7 @@ def array_of(method, insn, line: Line, register: int, place: int) -> str:
     return ""
 
 
-def fill_array(method, insn, line: Line, place: int) -> None:
+def fill_array(method: Method, insn: Named, line: Line, place: int) -> None:
     register = insn.registers[0]
     element = array_of(method, insn, line, register, place)
     if element and (element not in WIDTHS or WIDTHS[element] != insn.target.insn.width):
@@ -93,7 +104,7 @@ def fill_array(method, insn, line: Line, place: int) -> None:
         method.tell(place, "array-data", said)
 
 
-def aget(method, insn, line: Line, place: int) -> None:
+def aget(method: Method, insn: Insn, line: Line, place: int) -> None:
     to, array, index = insn.registers
     element = element_of(method, insn, line, array, place, insn.mnemonic[4:])
     ask_int(method, line, index, place)
@@ -108,7 +119,7 @@ def aget(method, insn, line: Line, place: int) -> None:
         put_some(method, line, to, place, (ANY, ANY) if insn.mnemonic == "aget-wide" else (ANY,))
 
 
-def element_of(method, insn, line: Line, array: int, place: int, ending: str) -> str:
+def element_of(method: Method, insn: Insn, line: Line, array: int, place: int, ending: str) -> str:
     """The type of the elements of an array that the instruction takes, "" where it isn't known or another one."""
     element = array_of(method, insn, line, array, place)
     if element and element[0] not in ELEMENTS[ending]:
@@ -120,7 +131,7 @@ def element_of(method, insn, line: Line, array: int, place: int, ending: str) ->
     return element
 
 
-def aput(method, insn, line: Line, place: int) -> None:
+def aput(method: Method, insn: Insn, line: Line, place: int) -> None:
     value, array, index = insn.registers
     ending = insn.mnemonic[4:]
     element = element_of(method, insn, line, array, place, ending)
@@ -140,7 +151,7 @@ def aput(method, insn, line: Line, place: int) -> None:
 # ---- fields
 
 
-def field_of(method, insn, place: int, is_static: bool) -> tuple[str, str]:
+def field_of(method: Method, insn: Named, place: int, is_static: bool) -> tuple[str, str]:
     """Owner and type of the field, no type where it isn't the instruction's."""
     owner, type_, listed = method.classes.field(insn.name)
     ending = insn.mnemonic[4:]
@@ -154,7 +165,7 @@ def field_of(method, insn, place: int, is_static: bool) -> tuple[str, str]:
     return owner, type_
 
 
-def object_of(method, insn, line: Line, place: int, owner: str) -> None:
+def object_of(method: Method, insn: Insn, line: Line, place: int, owner: str) -> None:
     """Asks for the object that has the field."""
     register = insn.registers[1]
     kind = line[register]
@@ -163,7 +174,7 @@ def object_of(method, insn, line: Line, place: int, owner: str) -> None:
     ask_type(method, line, register, place, owner, "receiver-type")
 
 
-def got(method, insn, line: Line, place: int, type_: str) -> None:
+def got(method: Method, insn: Insn, line: Line, place: int, type_: str) -> None:
     to = insn.registers[0]
     if type_:
         put(method, line, to, place, type_)
@@ -171,24 +182,24 @@ def got(method, insn, line: Line, place: int, type_: str) -> None:
         put_some(method, line, to, place, (ANY, ANY) if insn.mnemonic.endswith("-wide") else (ANY,))
 
 
-def iget(method, insn, line: Line, place: int) -> None:
+def iget(method: Method, insn: Insn, line: Line, place: int) -> None:
     owner, type_ = field_of(method, insn, place, False)
     object_of(method, insn, line, place, owner)
     got(method, insn, line, place, type_)
 
 
-def iput(method, insn, line: Line, place: int) -> None:
+def iput(method: Method, insn: Insn, line: Line, place: int) -> None:
     owner, type_ = field_of(method, insn, place, False)
     object_of(method, insn, line, place, owner)
     if type_:
         ask_type(method, line, insn.registers[0], place, type_, "stored-type")
 
 
-def sget(method, insn, line: Line, place: int) -> None:
+def sget(method: Method, insn: Insn, line: Line, place: int) -> None:
     got(method, insn, line, place, field_of(method, insn, place, True)[1])
 
 
-def sput(method, insn, line: Line, place: int) -> None:
+def sput(method: Method, insn: Insn, line: Line, place: int) -> None:
     type_ = field_of(method, insn, place, True)[1]
     if type_:
         ask_type(method, line, insn.registers[0], place, type_, "stored-type")
@@ -197,14 +208,14 @@ def sput(method, insn, line: Line, place: int) -> None:
 # ---- calls
 
 
-def given(insn) -> tuple[int, ...] | range:
+def given(insn: Insn) -> tuple[int, ...] | range:
     """The registers that a call is given."""
     if insn.count is None:
         return insn.registers
     return range(insn.registers[0], insn.registers[0] + insn.count)
 
 
-def invoke(method, insn, line: Line, place: int) -> None:
+def invoke(method: Method, insn: Named, line: Line, place: int) -> None:
     kind = insn.mnemonic[7:].partition("/")[0]
     call = method.classes.call(insn.name)
     registers = given(insn)
@@ -226,7 +237,7 @@ def invoke(method, insn, line: Line, place: int) -> None:
         ask_type(method, line, registers[0], place, receiver, "receiver-type")
 
 
-def arguments(method, line: Line, place: int, call, registers) -> None:
+def arguments(method: Method, line: Line, place: int, call: Call, registers: Sequence[int]) -> None:
     at = 0
     for type_ in call.parameters:
         register = registers[at]
@@ -241,7 +252,7 @@ def arguments(method, line: Line, place: int, call, registers) -> None:
         ask_type(method, line, register, place, type_, "argument-type")
 
 
-def initialize(method, line: Line, register: int, place: int, call) -> None:
+def initialize(method: Method, line: Line, register: int, place: int, call: Call) -> None:
     """A constructor is called: its object is one in each register that has it."""
     kind = line[register]
     if kind is ANY:
@@ -255,14 +266,14 @@ def initialize(method, line: Line, register: int, place: int, call) -> None:
         else:
             method.wrong(line, register, place, "a new object")
         return
-    if method.classes.is_wrong(kind.type, call.owner):
+    if method.classes.is_wrong(kind.type, call.owner):  # type: ignore[arg-type]  # (what is new has a type)
         method.wrong_type(line, register, place, call.owner, "receiver-type")
         return
-    made = method.kinds.ref(kind.type)
+    made = method.kinds.ref(kind.type)  # type: ignore[arg-type]  # (as above)
     line[:] = [made if one is kind else one for one in line]
 
 
-def is_named(method, kind: str, call, place: int) -> bool:
+def is_named(method: Method, kind: str, call: Call, place: int) -> bool:
     """Whether code may name the method in such a call."""
     if call.name[0] != "<" or call.name == "<init>" and kind == "direct":
         return True
@@ -271,7 +282,7 @@ def is_named(method, kind: str, call, place: int) -> bool:
     return False
 
 
-def is_kind_right(method, insn, kind: str, call, place: int) -> None:
+def is_kind_right(method: Method, insn: Named, kind: str, call: Call, place: int) -> None:
     """Asks for the kind of call that the method is of, as far as the file has its class."""
     is_interface = method.classes.is_interface(call.owner)
     if is_interface is not None and is_interface != (kind == "interface"):

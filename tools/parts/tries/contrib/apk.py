@@ -8,16 +8,18 @@ import random
 import struct
 import warnings
 import zipfile
+from collections.abc import Callable
+from typing import Any
 
 from .close import resigned
 from .deliver import ACL, acl_of, listed
 from .split import fakes
-from .rooms import ESC, LISTING, assembled, check, dexasm, get, is_one_line, put, room, seen_in, shell, tool
+from .rooms import ESC, LISTING, Ended, assembled, check, dexasm, get, is_one_line, put, room, seen_in, shell, tool
 
 SECRET = b"secret"
 
 
-def archive(*entries, **options):
+def archive(*entries: tuple[str, bytes], **options: Any) -> bytes:
     """An archive of these names and bytes."""
     made = io.BytesIO()
     with warnings.catch_warnings(), zipfile.ZipFile(made, "w", **options) as zipped:
@@ -27,7 +29,7 @@ def archive(*entries, **options):
     return made.getvalue()
 
 
-def changed(zipped, name, place, form, number):
+def changed(zipped: bytes, name: str, place: int, form: str, number: int) -> bytes:
     """A field of an entry is another one, in its own header and in the directory; `place` is that in its own header."""
     out, text = bytearray(zipped), name.encode()
     for head, at_name, shift in ((b"PK\3\4", 30, 0), (b"PK\1\2", 46, 2)):
@@ -41,14 +43,14 @@ def changed(zipped, name, place, form, number):
 FLAGS, METHOD, CRC = (6, "<H"), (8, "<H"), (14, "<I")
 
 
-def says(what, want, *words, at, begins="", **options):
+def says(what: str, want: tuple[int, str], *words: str, at: str, begins: str = "", **options: Any) -> None:
     """Status, standard output, and one line on standard error, which begins so."""
     seen = tool("dexasm-apk", *words, at=at, **options)
     is_so = seen[:2] == want and (is_one_line(seen[2], begins) if begins else seen[2] == "")
     check(f"dexasm-apk, {what}", is_so, seen)
 
 
-def try_good():
+def try_good() -> None:
     at, file = room("apk good"), assembled(LISTING)
     damaged = file[:200] + bytes([file[200] ^ 1]) + file[201:]
     entries = (
@@ -86,8 +88,9 @@ def try_good():
     says("a name too long for a file", (3, ""), "strip", "long.apk", "out", at=at, begins="classes999")
 
 
-def try_close():
+def try_close() -> None:
     """--close: what D8 signed and what has a wrong checksum is closed, with a line; the others stand as they are."""
+    seen: Ended | dict[str, str | bytes]
     at, file = room("apk close"), assembled(LISTING)
     old = resigned(file, hashlib.sha1(file[32:-52]).digest())
     entries = (old, file, file[:8] + b"\x1b[31" + file[12:], b"no file")
@@ -115,7 +118,7 @@ def try_close():
     check("dexasm-apk without --close", "classes.dex: dexasm: refused 9 Signature at 12\n" in seen[2], seen)
 
 
-def try_wrong():
+def try_wrong() -> None:
     """Entries that can't be read: the others go on."""
     at, file = room("apk wrong"), assembled(LISTING)
     good = archive(("classes.dex", file), ("classes2.dex", file))
@@ -138,7 +141,7 @@ def try_wrong():
         check(f"dexasm-apk, {what}: it isn't written", os.listdir(os.path.join(at, f"out {what}")) == ["classes2.dex"])
 
 
-def try_none():
+def try_none() -> None:
     """No archive, or none that has such files."""
     at, file = room("apk none"), assembled(LISTING)
     put(at, "a.dex", file)
@@ -163,7 +166,7 @@ def try_none():
         says(f"the archive {what!r}", (3, ""), "check", what, at=at, begins=f"dexasm-apk: {shown}: {words}")
 
 
-def try_others():
+def try_others() -> None:
     """Names that look like others, and dexasm that isn't there."""
     at, file = room("apk others"), assembled(LISTING)
     put(at, "ok.apk", archive(("classes.dex", file)))
@@ -186,7 +189,7 @@ def try_others():
     check("dexasm-apk, nobody reads", seen[1] in ("0\n3\n", "3\n3\n") and "Traceback" not in seen[2], seen)
 
 
-def try_folder():
+def try_folder() -> None:
     """FOLDER: nothing outside it is written."""
     at, file = room("apk folder"), assembled(LISTING)
     names = (
@@ -214,7 +217,7 @@ def try_folder():
     check("dexasm-apk, a link isn't followed", get(at, "victim") == SECRET)
 
 
-def try_words():
+def try_words() -> None:
     """FOLDER looks like an option, or is wanted and isn't there."""
     at, file = room("apk words"), assembled(LISTING)
     put(at, "slip.apk", archive(("classes.dex", file)))
@@ -238,7 +241,7 @@ def try_words():
     )
 
 
-def try_random():
+def try_random() -> None:
     """Archives that are changed at random: a status, and no traceback."""
     at, random_, file = room("apk random"), random.Random(1), assembled(LISTING)
     good, wrong = archive(("classes.dex", file), ("classes2.dex", file), compression=zipfile.ZIP_DEFLATED), []
@@ -254,7 +257,7 @@ def try_random():
     check("dexasm-apk, archives changed at random", not wrong, wrong[:1])
 
 
-def try_no_answer():
+def try_no_answer() -> None:
     """A command that answers nothing, or what is no answer: nothing passes, and nothing is written."""
     at, file = room("apk no answer"), assembled(LISTING)
     put(at, "a.apk", archive(("classes.dex", file)))
@@ -267,19 +270,20 @@ def try_no_answer():
         check(f"dexasm-apk, a command that answers {name}: nothing is written", seen_in(at) == before, seen_in(at))
 
 
-def try_out():
+def try_out() -> None:
     """What stands in FOLDER: it is written by the command's rules, and nothing else through it."""
     at, file = room("apk out"), assembled(LISTING)
     put(at, "a.apk", archive(("classes.dex", file)))
     secret, out = put(at, "secret", SECRET), os.path.join(at, "out", "classes.dex")
     os.mkdir(os.path.dirname(out))
-    for what, make in (
+    makes: tuple[tuple[str, Callable[[], None]], ...] = (
         ("has another name too", lambda: os.link(secret, out)),
         ("is no file", lambda: os.mkfifo(out)),
         ("is no file", lambda: os.mkdir(out)),
         ("is a link", lambda: os.symlink("none", out)),
         ("is a link", lambda: os.symlink("/dev/null", out)),
-    ):
+    )
+    for what, make in makes:
         make()
         begins = f"classes.dex: dexasm-apk: out/classes.dex {what}, so it isn't written"
         says(f"a place that {what}", (3, ""), "strip", "a.apk", "out", at=at, begins=begins)

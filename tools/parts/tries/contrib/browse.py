@@ -11,6 +11,7 @@ import signal
 import subprocess
 import sys
 import time
+from typing import Any
 
 from .deliver import ACL, acl_of, listed, mode_of
 from .rooms import (
@@ -21,6 +22,7 @@ from .rooms import (
     NAMES,
     TOOLS,
     TOP,
+    Ended,
     Tries,
     assembled,
     calls_of,
@@ -93,13 +95,13 @@ PARTS = (
 SHOWN = {"\u3164": "\\u3164", "e\u0301": "e\\u0301"}
 
 
-def spelled(text):
+def spelled(text: str) -> bytes:
     """A text in a listing: every unit as an escape."""
     units = text.encode("utf-16-be", "surrogatepass")
     return "".join(f"\\u{units[at:at + 2].hex()}" for at in range(0, len(units), 2)).encode("ascii")
 
 
-def hostile():
+def hostile() -> bytes:
     """A file whose names and strings are meant to do harm. Each class calls the one before it."""
     classes = []
     for at, part in enumerate(PARTS):
@@ -120,8 +122,15 @@ class Page(html.parser.HTMLParser):
 
     VOID = {"meta", "link", "input", "rect", "polygon", "path"}
 
-    def __init__(self, text):
+    def __init__(self, text: str) -> None:
         super().__init__()
+        self.elements: list[str]
+        self.attributes: set[str]
+        self.ids: list[str]
+        self.links: list[str]
+        self.places: list[str]
+        self.lines: list[str]
+        self.texts: list[str]
         self.elements, self.attributes, self.ids, self.links, self.places = [], set(), [], [], []
         self.lines, self.texts = [], []
         self.depth = 0
@@ -129,9 +138,9 @@ class Page(html.parser.HTMLParser):
         self.feed(text)
         self.close()
 
-    def handle_starttag(self, tag, attributes):
+    def handle_starttag(self, tag: str, attributes: list[tuple[str, str | None]]) -> None:
         self.elements.append(tag)
-        given = dict(attributes)
+        given: dict[str, Any] = dict(attributes)
         self.attributes |= set(given)
         self.ids += [given["id"]] if "id" in given else []
         self.links += [given[name] for name in ("href", "src") if name in given]
@@ -141,11 +150,11 @@ class Page(html.parser.HTMLParser):
         elif tag == "li" and self.is_code:
             self.lines.append("")
 
-    def handle_endtag(self, tag):
+    def handle_endtag(self, tag: str) -> None:
         if tag == "ol":
             self.is_code = False
 
-    def handle_data(self, text):
+    def handle_data(self, text: str) -> None:
         self.texts.append(text)
         if self.is_code and self.lines:
             self.lines[-1] += text.rstrip("\n")
@@ -173,10 +182,10 @@ FILES = re.compile(
 )
 
 
-def pages(at):
+def pages(at: str) -> dict[str, Page]:
     """The pages below a folder by their paths; checks that each is only what it may be, and leads to what is there."""
-    files = {name: given for name, given in seen_in(at).items() if given != "folder"}
-    wrong = [name for name in files if not FILES.fullmatch(name)]
+    files: dict[str, Any] = {name: given for name, given in seen_in(at).items() if given != "folder"}
+    wrong: list[str | tuple[str, str]] = [name for name in files if not FILES.fullmatch(name)]
     found = {name: Page(given.decode("utf8")) for name, given in files.items() if name.endswith(".html")}
     ids = {name: set(page.ids) for name, page in found.items()}
     for name, page in found.items():
@@ -200,17 +209,17 @@ def pages(at):
     return found
 
 
-def code_lines(listing):
+def code_lines(listing: bytes) -> list[str]:
     """The lines of a listing that a member has."""
     heads = ("dex ", "class ", "super ", "implements ", "source ", "end class")
     return [line for line in listing.decode("ascii").splitlines() if not line.startswith(heads)]
 
 
-def numbers_of(name):
+def numbers_of(name: str) -> list[int]:
     return [int(number) for number in re.findall(r"\d+", name)]
 
 
-def says_listing(what, found, file):
+def says_listing(what: str, found: dict[str, Page], file: bytes) -> None:
     """Whether the pages of the classes have the lines of the listing; a page that is cut goes on in others."""
     names = sorted((name for name in found if name.startswith("class/")), key=numbers_of)
     lines = [line for name in names for line in found[name].lines]
@@ -219,12 +228,12 @@ def says_listing(what, found, file):
     check(f"dexasm-browse, {what}: the code is the listing's", lines == want and len(lines) > 0, wrong)
 
 
-def browse(at, file, *words, name="a.dex", **options):
+def browse(at: str, file: bytes, *words: str, name: str = "a.dex", **options: Any) -> Ended:
     put(at, name, file)
     return tool("dexasm-browse", *words, "--output", "out", "--", name, at=at, **options)
 
 
-def try_hostile():
+def try_hostile() -> None:
     at, file = room("browse hostile"), hostile()
     seen = browse(at, file)
     check("dexasm-browse, hostile names", seen == (0, "", ""), seen)
@@ -244,13 +253,17 @@ def try_hostile():
     check("dexasm-browse, the index is data", all(is_index(one) for one in index), index[0][:200])
 
 
-def is_index(script):
+def is_index(script: str) -> bool:
     """Whether a script is one call with two lists, in which nothing ends a script."""
     called = re.fullmatch(r"dexasmIndex\((.*)\);\n", script)
-    return bool(called) and "<" not in script and all(isinstance(one, list) for one in json.loads(f"[{called[1]}]"))
+    return (
+        called is not None
+        and "<" not in script
+        and all(isinstance(one, list) for one in json.loads(f"[{called[1]}]"))
+    )
 
 
-def try_names():
+def try_names() -> None:
     """Files and folders whose names are meant to do harm."""
     at = room("browse names")
     put(at, "a.dex", assembled(LISTING))
@@ -323,13 +336,13 @@ end class
 """
 
 
-def facts_of(page):
+def facts_of(page: bytes) -> dict[str, int]:
     """The names and the numbers of a page's facts."""
     rows = re.findall(r"<dt>(.*?)</dt><dd>(.*?)</dd>", page.decode("utf8"))
     return {name: int(said.replace(",", "")) for name, said in rows if re.fullmatch(r"[\d,]+", said)}
 
 
-def users_of(page):
+def users_of(page: bytes) -> dict[int, int]:
     """Of each member of a class, by its place, how many use it."""
     parts = re.split(r'<h3 id="(\d+)">', page.decode("utf8"))
     counts = (
@@ -338,10 +351,11 @@ def users_of(page):
     return {at: int(found[1].replace(",", "")) if found else 0 for at, found in counts}
 
 
-def beside_dexdump(what, found, numbers, file, at):
+def beside_dexdump(what: str, found: dict[str, bytes], numbers: dict[str, int], file: bytes, at: str) -> None:
     """(Its lines of instructions have an address behind a bar; those of members their class.)"""
     put(at, "dumped.dex", file)
     out = run(["dexdump", "-d", "dumped.dex"], at=at)[1]
+    members: dict[str, int]
     members, head = {}, ""
     for line in out.splitlines():
         # (a string may have any line, but hardly these)
@@ -360,7 +374,7 @@ def beside_dexdump(what, found, numbers, file, at):
     check(f"dexasm-browse, {what}: addresses as dexdump's", sorted(ours) == sorted(theirs), (ours[:9], theirs[:9]))
 
 
-def inherited(classes, method):
+def inherited(classes: dict[str, Any], method: str) -> str:
     """The method that a call leads to: superclasses first, then interfaces."""
     owner, _, name = method.partition("->")
     above = [owner] if owner in classes else []
@@ -371,17 +385,17 @@ def inherited(classes, method):
     return next((f"{one}->{name}" for one in above if name in classes[one]["methods"]), method)
 
 
-def beside_query(what, found, file, at):
+def beside_query(what: str, found: dict[str, bytes], file: bytes, at: str) -> None:
     """Classes, strings and calls as dexasm-query has them; a call of a method that is inherited leads to that."""
     put(at, "asked.dex", file)
     asked = {
         one: json.loads(tool("dexasm-query", one, "asked.dex", at=at)[1]) for one in ("classes", "strings", "calls")
     }
-    callers = {}
+    callers: dict[str, set[str]] = {}
     for method, called in asked["calls"].items():
         for one in called:
             callers.setdefault(inherited(asked["classes"], one), set()).add(method)
-    wrong = []
+    wrong: list[tuple[str, list[int]] | dict[str, int]] = []
     for row, (name, one) in enumerate(asked["classes"].items()):
         users = users_of(found[f"class/{row}.html"])
         methods = [f"{name}->{method}" for method in one["methods"]]
@@ -392,7 +406,7 @@ def beside_query(what, found, file, at):
     check(f"dexasm-browse, {what}: calls and strings as dexasm-query's", not wrong, wrong[:3])
 
 
-def try_numbers():
+def try_numbers() -> None:
     at = room("browse numbers")
     # (dexdump knows no arrays among values)
     files = {"a small program": assembled(re.sub(rb"static many .*\n", b"", CODE)), "the hostile names": hostile()}
@@ -403,7 +417,9 @@ def try_numbers():
     files["many users"] = assembled(HEAD + f"class LA; 0x1\n{''.join(methods)}end class\n".encode("ascii"))
     for what, file in files.items():
         check(f"dexasm-browse, {what}", browse(at, file) == (0, "", ""))
-        found = {name: given for name, given in seen_in(os.path.join(at, "out")).items() if name.endswith(".html")}
+        found: dict[str, Any] = {
+            name: given for name, given in seen_in(os.path.join(at, "out")).items() if name.endswith(".html")
+        }
         numbers = facts_of(found["index.html"])
         stripped = len(file) - len(dexasm("strip", given=file))
         check(
@@ -415,7 +431,7 @@ def try_numbers():
             beside_dexdump(what, found, numbers, file, at)
 
 
-def try_by_hand():
+def try_by_hand() -> None:
     """What is said of a small program, by hand."""
     at, file = room("browse by hand"), assembled(CODE)
     check("dexasm-browse, a small program", browse(at, file) == (0, "", ""))
@@ -465,7 +481,7 @@ ENDS = (
 )
 
 
-def try_folder():
+def try_folder() -> None:
     at, file = room("browse folder"), assembled(LISTING)
     put(at, "a.dex", file)
     put(at, "bad", file[:-1])
@@ -497,7 +513,7 @@ def try_folder():
         check(f"dexasm-browse {words!r}", seen[:2] == (2, "") and seen[2].startswith("usage: dexasm-browse "), seen)
 
 
-def try_again():
+def try_again() -> None:
     """A folder of an earlier run, and an empty one, are replaced; one that somebody put something into isn't."""
     at = room("browse again")
     os.mkdir(os.path.join(at, "out"))
@@ -520,7 +536,7 @@ def try_again():
     )
 
 
-def try_cut():
+def try_cut() -> None:
     """A run that is ended in the midst of it."""
     at = room("browse cut")
     put(at, "a.dex", assembled(LISTING))
@@ -543,14 +559,14 @@ def try_cut():
         check("dexasm-browse, nothing is left beside", left == [] or number == signal.SIGKILL, left)
 
 
-def ended(at, number):
+def ended(at: str, number: int) -> tuple[list[str], int, bytes]:
     """A run that is ended when its first page stands: the folders beside, its status, and what it told."""
     words = [os.path.join(TOOLS, "dexasm-browse"), "many.dex", "--output", "out"]
     # (a gate in the background ignores SIGINT, and what it starts would too)
     heeds = lambda: signal.signal(signal.SIGINT, signal.SIG_DFL)
     done = subprocess.Popen(words, cwd=at, env=Tries.env, stderr=subprocess.PIPE, preexec_fn=heeds)
     ends = time.monotonic() + LIMIT
-    parts = []
+    parts: list[str] = []
     while time.monotonic() < ends and not parts and done.poll() is None:
         parts = [name for name in os.listdir(at) if name.endswith(".part")]
         parts = [name for name in parts if os.path.exists(os.path.join(at, name, "class", "0.html"))]
@@ -559,10 +575,11 @@ def ended(at, number):
     return parts, done.returncode, said
 
 
-def try_looks():
+def try_looks() -> None:
     """The folder that replaces another one looks as that did, and what is in it is its owner's."""
     at = room("browse looks")
     file, out = assembled(LISTING), os.path.join(at, "out")
+    seen: Ended | tuple[Ended, Ended]
     for mode in (0o700, 0o750, 0o2770, 0o1777):
         os.makedirs(out, exist_ok=True)
         os.chmod(out, mode)
@@ -601,7 +618,7 @@ WITHOUT_STEP = (
 ENDED_BY = ("signal=SIGKILL", "signal=SIGTERM", "error=EIO")
 
 
-def ended_at(call, number, before, how):
+def ended_at(call: str, number: int, before: str, how: str) -> tuple[Ended, dict[str, str | bytes] | None, list[str]]:
     """A run that is ended at this call, or in which it fails: what it said, what is in FOLDER, and what is beside."""
     at = room(f"browse ended {call} {number} {before[:16]} {how}")
     for name in ("a.dex", "b.dex"):
@@ -613,7 +630,7 @@ def ended_at(call, number, before, how):
     return seen, seen_in(out) if os.path.isdir(out) else None, sorted(set(os.listdir(at)) - {"a.dex", "b.dex", "out"})
 
 
-def try_ended():
+def try_ended() -> None:
     """Ended at each call, or with each one failed, also where a system can't exchange two names: FOLDER is old or new."""
     if not can_trace():
         return
@@ -638,7 +655,7 @@ def try_ended():
         check(f"dexasm-browse, {what}: beside", not is_left, beside)
 
 
-def try_progress():
+def try_progress() -> None:
     """On a terminal there is a bar, by rich or as a line; elsewhere nothing."""
     at = room("browse progress")
     put(at, "a.dex", assembled(LISTING))
@@ -648,7 +665,7 @@ def try_progress():
         "print(ascii(said), os.waitpid(pid, 0)[1])\n"
     )
     put(at, "no/rich/__init__.py", b"raise ImportError\n")
-    for what, env in (("", {}), (", without rich", {"PYTHONPATH": os.path.join(at, "no")})):
+    for what, env in (("", dict[str, Any]()), (", without rich", {"PYTHONPATH": os.path.join(at, "no")})):
         words = [os.path.join(TOOLS, "dexasm-browse"), "a.dex", "--output", f"out{len(what)}"]
         seen = run([sys.executable, "-c", text, *words], at=at, **env, TERM="xterm")
         check(

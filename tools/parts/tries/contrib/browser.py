@@ -1,4 +1,6 @@
 """A browser that is driven through a pipe, by Python's standard library alone (Chrome DevTools Protocol)."""
+from __future__ import annotations
+
 import base64
 import json
 import os
@@ -6,14 +8,16 @@ import select
 import shutil
 import subprocess
 import time
+from typing import Any
 
 from .rooms import Tries, path
 
+Message = dict[str, Any]  # of the protocol, as JSON has it
 WAIT = 30  # seconds for an answer
 TOLD = ("Runtime.consoleAPICalled", "Runtime.exceptionThrown", "Log.entryAdded", "Page.javascriptDialogOpening")
 
 
-def found():
+def found() -> str | None:
     return shutil.which("chromium") or shutil.which("chromium-browser") or shutil.which("google-chrome")
 
 
@@ -22,10 +26,10 @@ class Browser:
     its log said.
     """
 
-    def __enter__(self):
+    def __enter__(self) -> Browser:
         (to_read, self.out), (self.into, to_write) = os.pipe(), os.pipe()
 
-        def place():
+        def place() -> None:
             # (the browser reads 3 and writes 4: what stands there is moved out of the way first)
             read, write = os.dup(to_read), os.dup(to_write)
             os.dup2(read, 3)
@@ -33,8 +37,10 @@ class Browser:
 
         words = ["--headless", "--no-sandbox", "--disable-gpu", "--remote-debugging-pipe", "--no-first-run"]
         words += [f"--user-data-dir={path('browser')}", "--disable-background-networking", "about:blank"]
+        program = found()
+        assert program is not None  # (where there is none, none is begun)
         self.process = subprocess.Popen(
-            [found(), *words],
+            [program, *words],
             stdin=subprocess.DEVNULL,
             stdout=subprocess.DEVNULL,
             stderr=subprocess.DEVNULL,
@@ -44,6 +50,9 @@ class Browser:
         )
         os.close(to_read)
         os.close(to_write)
+        self.asked: list[str]
+        self.told: list[Message]
+        self.session: str | None
         self.rest, self.number, self.asked, self.told, self.session = b"", 0, [], [], None
         target = self.call("Target.createTarget", url="about:blank")["targetId"]
         self.session = self.call("Target.attachToTarget", targetId=target, flatten=True)["sessionId"]
@@ -51,13 +60,13 @@ class Browser:
             self.call(f"{domain}.enable")
         return self
 
-    def __exit__(self, *_):
+    def __exit__(self, *_: object) -> None:
         self.process.kill()
         self.process.wait()
         os.close(self.into)
         os.close(self.out)
 
-    def read(self):
+    def read(self) -> Message:
         """The next message; what is told besides answers is noted."""
         while b"\0" not in self.rest:
             if not select.select([self.into], [], [], WAIT)[0]:
@@ -67,7 +76,7 @@ class Browser:
                 raise EOFError("the browser ended")
             self.rest += got
         one, _, self.rest = self.rest.partition(b"\0")
-        message = json.loads(one)
+        message: Message = json.loads(one)
         given = message.get("params", {})
         if message.get("method") == "Network.requestWillBeSent":
             self.asked.append(given["request"]["url"])
@@ -75,9 +84,9 @@ class Browser:
             self.told.append(given)
         return message
 
-    def call(self, method, **given):
+    def call(self, method: str, **given: Any) -> Any:
         self.number += 1
-        message = {"id": self.number, "method": method, "params": given}
+        message: Message = {"id": self.number, "method": method, "params": given}
         if self.session:
             message["sessionId"] = self.session
         os.write(self.out, json.dumps(message).encode() + b"\0")
@@ -88,19 +97,19 @@ class Browser:
                     raise RuntimeError(answer["error"])
                 return answer["result"]
 
-    def open(self, url):
+    def open(self, url: str) -> None:
         self.call("Page.navigate", url=url)
         if not self.until(f"document.readyState === 'complete' && location.href === {json.dumps(url)}"):
             raise TimeoutError(url)
 
-    def run(self, script):
+    def run(self, script: str) -> Any:
         """The value of an expression in the page."""
         result = self.call("Runtime.evaluate", expression=script, returnByValue=True)
         if "exceptionDetails" in result:
             raise RuntimeError(result["exceptionDetails"])
         return result["result"].get("value")
 
-    def until(self, script):
+    def until(self, script: str) -> Any:
         """Waits until an expression is true, also over the loading of another page; answers its value."""
         ends = time.monotonic() + WAIT
         while time.monotonic() < ends:
@@ -113,7 +122,7 @@ class Browser:
             time.sleep(0.05)
         return None
 
-    def key(self, key, code=None, text=None):
+    def key(self, key: str, code: str | None = None, text: str | None = None) -> None:
         given = {
             "key": key,
             "code": code or key,
@@ -122,21 +131,21 @@ class Browser:
         self.call("Input.dispatchKeyEvent", type="keyDown", **given, **({"text": text} if text else {}))
         self.call("Input.dispatchKeyEvent", type="keyUp", **given)
 
-    def type(self, text):
+    def type(self, text: str) -> None:
         self.call("Input.insertText", text=text)
 
-    def wheel(self, of, turns):
+    def wheel(self, of: str, turns: int) -> None:
         """Turns the wheel over the middle of an element, with Ctrl held."""
         script = f"(({{left, top, right, bottom}}) => [left + right, top + bottom])({of}.getBoundingClientRect())"
         x, y = self.run(f"{of}.scrollIntoView(), {script}")
         given = {"x": x / 2, "y": min(y / 2, 600), "deltaX": 0, "deltaY": turns, "modifiers": 2}
         self.call("Input.dispatchMouseEvent", type="mouseWheel", **given)
 
-    def scheme(self, is_dark):
+    def scheme(self, is_dark: bool) -> None:
         media = [{"name": "prefers-color-scheme", "value": "dark" if is_dark else "light"}]
         self.call("Emulation.setEmulatedMedia", features=media)
 
-    def keep(self, name):
+    def keep(self, name: str) -> None:
         """Keeps what the page looks like in light and in dark, as PNG, in the folder that TRY_PICTURES names."""
         folder = os.environ.get("TRY_PICTURES")
         if not folder:

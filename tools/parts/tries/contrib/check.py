@@ -18,12 +18,15 @@ import subprocess
 import sys
 import time
 import zipfile
+from collections.abc import Iterator
+from typing import Any
 from urllib.parse import unquote_to_bytes
 from xml.etree import ElementTree
 
+from ... import sought
 from .apk import CRC, FLAGS, archive, changed
 from .streams import answers, fake
-from .rooms import ESC, HEAD, LISTING, NAMES, TOOLS, TOP, Tries, assembled, check, dexasm, get, put, room, run
+from .rooms import ESC, HEAD, LISTING, NAMES, TOOLS, TOP, Ended, Tries, assembled, check, dexasm, get, put, room, run
 
 EVIL = (
     *(os.fsencode(name) for name in NAMES),
@@ -44,7 +47,7 @@ FORMS = ("", "--json", "--sarif", "--github", "--junit")
 # What GitHub's runner undoes (actions/runner, ActionCommand.cs), in its order.
 RUNNER = (("%0D", "\r"), ("%0A", "\n"), ("%3A", ":"), ("%2C", ","), ("%25", "%"))
 # Of the schema of SARIF 2.1.0, which takes no other properties: what an object has to have, and what else it may.
-SARIF = {
+SARIF: dict[str, tuple[set[str], set[str]]] = {
     "log": ({"version", "runs"}, {"$schema"}),
     "run": ({"tool"}, {"invocations", "columnKind", "results"}),
     "tool": ({"driver"}, set()),
@@ -65,7 +68,7 @@ URI = re.compile(r"(?:[A-Za-z0-9._~!$&'()*+,;=@/:-]|%[0-9A-F]{2})+")
 
 
 @functools.cache
-def alone():
+def alone() -> str:
     """The helpers without any library beside them: over the command."""
     at = room("check alone")
     for folder in ("contrib", "bindings/python/dexasm"):
@@ -75,22 +78,22 @@ def alone():
     return os.path.join(at, "contrib", "bin")
 
 
-def checked(*words, at, given=b"", **env):
+def checked(*words: str, at: str, given: bytes = b"", **env: Any) -> Ended:
     """Status, output and errors; by the library, where there is one."""
     if Tries.library:
         env = {"DEXASM_LIBRARY": Tries.library, **env}
     return run([os.path.join(TOOLS, "dexasm-check"), *words], given, at, **env)
 
 
-def by_command(*words, at, given=b"", **env):
+def by_command(*words: str, at: str, given: bytes = b"", **env: Any) -> Ended:
     return run([os.path.join(alone(), "dexasm-check"), *words], given, at, **env)
 
 
-def damaged(file, at=100):
+def damaged(file: bytes, at: int = 100) -> bytes:
     return file[:at] + bytes([file[at] ^ 1]) + file[at + 1 :]
 
 
-def is_safe(out):
+def is_safe(out: str) -> bool:
     """Lines that no terminal obeys, and no runner of GitHub."""
     lines = out.encode("latin1").decode("utf8").split("\n")
     return lines[-1] == "" and all(
@@ -101,7 +104,7 @@ def is_safe(out):
 # ---- verdicts
 
 
-def try_verdicts():
+def try_verdicts() -> None:
     """Each kind of input, its line and the status, by the library and by the command alike."""
     at, file = room("check verdicts"), assembled(LISTING)
     put(at, "a.dex", file)
@@ -113,7 +116,9 @@ def try_verdicts():
     put(at, "app.apk", archive(("classes2.dex", b"no file"), ("classes.dex", file), ("lib/classes3.dex", b"x")))
     put(at, "n.jar", archive(("a.class", b"x")))
     put(at, "n.APK", archive(("a.class", b"x")))
+    words: tuple[str, ...] | str
     words = ("a.dex", "f", "x.txt", "y.txt", "app.apk", "n.jar", "n.APK", "none")
+    want: str | int
     want = (
         "a.dex: ok\n"
         "f/B.DeX:0x08: error: 8 Checksum: the Adler-32 differs\n"
@@ -140,13 +145,14 @@ def try_verdicts():
     check("dexasm-check, a class", seen == (1, want, ""), seen)
 
 
-def try_places():
+def try_places() -> None:
     """Where in a listing a rule is broken: in words, and each part of it for machines."""
     at = room("check places")
     code = b"class LA; 0x1\ndirect m\\u0041 (I)V 0x8\ncode 2 1 0\n  const/4 v0 1\n  move v0 v9\nend code\nend class\n"
     put(at, "x.txt", HEAD + code)
     put(at, "w.txt", HEAD + code.replace(b"v9", b"v16"))
     where = " (in mA(I)V, instruction 1)\n"
+    want: str | dict[str, Any]
     want = f"x.txt:6:11: error: 118 Register: v9 of 2 registers{where}"
     want += f"w.txt:6:11: error: 102 Number: v16: v0 to v15 here; move/from16 or move/16 takes more{where}"
     for how, runs in (("the library", checked), ("the command", by_command)):
@@ -157,7 +163,7 @@ def try_places():
     check("dexasm-check --json, a place", {name: told[name] for name in want} == want, told)
 
 
-def try_names_decide():
+def try_names_decide() -> None:
     """A listing, an archive or no archive under the name of something else isn't accepted."""
     at, file = room("check kinds"), assembled(LISTING)
     zipped = archive(("classes.dex", file))
@@ -179,7 +185,7 @@ def try_names_decide():
     check("dexasm-check zip", checked("zip", at=at) == (0, "zip!classes.dex: ok\n", ""))
 
 
-def try_programs():
+def try_programs() -> None:
     """The program's sum, of a file, of one that isn't packed, and of a listing."""
     at, file = room("check programs"), assembled(LISTING)
     longer = file + b"\0\0\0\0"
@@ -219,7 +225,7 @@ IN_FILE = (
 IN_TEXT = (f": {IN_FILE[0]}", f":7:17: error: {USED.format('line 6')} (uninitialized-use, B6, B8)")
 
 
-def linted(at):
+def linted(at: str) -> tuple[tuple[str, ...], list[str]]:
     """Files of which some break rules of dexasm-lint, and what is told of them."""
     good = LINTED.replace(b"long", b"int").replace(b"v0 v0", b"v2 v2")
     bad = assembled(LINTED)
@@ -237,10 +243,11 @@ def linted(at):
     return ("a.txt", "b.txt", "c.txt", "d.dex", "e.dex", "f.apk", "none"), told
 
 
-def try_lint():
+def try_lint() -> None:
     """What dexasm accepts and a device would refuse, with each thing that is refused in its place."""
     at = room("check lint")
     names, told = linted(at)
+    want: tuple[int, str, str] | int
     for how, runs in (("the library", checked), ("the command", by_command)):
         for jobs in ("1", "4"):
             seen = runs("--lint", "--jobs", jobs, *names, at=at)
@@ -254,12 +261,13 @@ def try_lint():
     check("dexasm-check --lint on a terminal", f"LA;->n:I: {ESC}[1;31merror:{ESC}[0m a static" in shown, shown)
 
 
-def try_lint_forms():
+def try_lint_forms() -> None:
     """The same for machines."""
     at = room("check lint forms")
     linted(at)
     found = [*map(json.loads, checked("--lint", "--json", "--program", "a.txt", "d.dex", at=at)[1].splitlines())]
     place = ("status", "line", "column", "class", "member", "instruction", "address", "register", "rule", "number")
+    want: list[Any]
     want = [
         ("broken", None, None, "LA;", "n:I", None, None, None, "value-type", None),
         ("broken", 7, 17, "LA;", "m(I)V", 1, None, 0, "uninitialized-use", None),
@@ -293,7 +301,7 @@ def try_lint_forms():
     check("dexasm-check --lint --junit", cases == want, out)
 
 
-def try_lint_limits():
+def try_lint_limits() -> None:
     """A program that takes too long to be linted, and one at which the worker is killed: what was told stays, once."""
     at = room("check lint limits")
     linted(at)
@@ -341,7 +349,7 @@ print(*[one.status for one in Told(asked).judge([b"a", b"b", b"c", b"d"])])
 # ---- names
 
 
-def evil(name):
+def evil(name: str) -> str:
     """A room with a refused file of each name, in a folder f."""
     at = room(name)
     os.mkdir(os.path.join(at, "f"))
@@ -351,19 +359,19 @@ def evil(name):
     return at
 
 
-def listed():
+def listed() -> list[bytes]:
     """The names, as they are given: by themselves, without a folder before them."""
     return sorted(one + b".dex" for one in EVIL)
 
 
-def of_names(form, at):
+def of_names(form: str, at: str) -> Ended:
     """What is told of the names, each by itself, by standard input."""
     given = b"".join(name + b"\0" for name in listed())
     words = ["--quiet", *([form] if form else []), "-"]
     return checked(*words, at=os.path.join(at, "f"), given=given)
 
 
-def try_names():
+def try_names() -> None:
     """Names that a terminal, GitHub's runner, or a reader of JSON, XML or SARIF could take for something else."""
     at = evil("check names")
     names = listed()
@@ -386,14 +394,14 @@ def try_names():
         check(f"dexasm-check --github, {name!r}", is_same and is_exact and line.isprintable(), line)
     status, out, said = of_names("--junit", at)
     cases = ElementTree.fromstring(out).findall("testsuite/testcase")
-    is_so = len(cases) == len(names) and all(case.get("name").isprintable() for case in cases)
+    is_so = len(cases) == len(names) and all(case.attrib["name"].isprintable() for case in cases)
     check("dexasm-check --junit, names", (status, said) == (1, "") and is_so and out.isascii(), out)
 
 
-def properties(line):
+def properties(line: str) -> dict[str, str]:
     """The properties of a command, as GitHub's runner reads them; {} of what is none."""
     head = re.match(r"::error ([^\n]*?)::", line)
-    found = {}
+    found: dict[str, str] = {}
     for one in head[1].split(",") if head else ():
         name, _, value = one.partition("=")
         for said, is_meant in RUNNER:
@@ -402,7 +410,7 @@ def properties(line):
     return found
 
 
-def try_sarif():
+def try_sarif() -> None:
     """The document keeps the schema's rules, and says the very names; of an archive's entry it has no region."""
     at = evil("check sarif")
     status, out, said = of_names("--sarif", at)
@@ -431,7 +439,7 @@ def try_sarif():
     check("dexasm-check --sarif, all could", json.loads(seen[1])["runs"][0]["invocations"][0]["executionSuccessful"])
 
 
-def faults(document):
+def faults(document: dict[str, Any]) -> Iterator[str]:
     """What breaks a rule of the schema."""
     yield from wrong("log", document)
     if document["version"] != "2.1.0" or not document["$schema"].endswith("sarif-schema-2.1.0.json"):
@@ -454,13 +462,13 @@ def faults(document):
                 yield from located("notification", note)
 
 
-def wrong(kind, given):
+def wrong(kind: str, given: dict[str, Any]) -> Iterator[str]:
     must, may = SARIF[kind]
     if not must <= given.keys() <= must | may:
         yield f"{kind}: {sorted(given)}"
 
 
-def located(kind, given):
+def located(kind: str, given: dict[str, Any]) -> Iterator[str]:
     yield from wrong(kind, given)
     yield from wrong("message", given["message"])
     if given["level"] not in ("none", "note", "warning", "error"):
@@ -482,7 +490,7 @@ def located(kind, given):
 # ---- what can't be looked at
 
 
-def try_no_files():
+def try_no_files() -> None:
     """Pipes, devices, sockets, loops of links, what isn't there: a line each, and the others go on."""
     at, file = room("check no files"), assembled(LISTING)
     put(at, "a.dex", file)
@@ -506,7 +514,7 @@ def try_no_files():
     check("dexasm-check, links in a folder", checked("d", at=at) == (0, "d/x.DEX: ok\n", ""), checked("d", at=at))
 
 
-def try_folders():
+def try_folders() -> None:
     """A folder that can't be read: one that is too deep for a name, and one of no rights."""
     at, file = room("check folders"), assembled(LISTING)
     put(at, "f/a.dex", file)
@@ -532,7 +540,7 @@ def try_folders():
     os.chmod(os.path.join(at, "g", "b"), stat.S_IRWXU)
 
 
-def try_archives():
+def try_archives() -> None:
     """Archives that lie, and what is no archive: a line each, with the entry where it is known."""
     at, file = room("check archives"), assembled(LISTING)
     good, two = archive(("classes.dex", file)), archive(("classes.dex", file), ("classes2.dex", file))
@@ -550,7 +558,7 @@ def try_archives():
         check(f"dexasm-check {name}", (status, said) == (3, "") and is_so and is_safe(out), (status, out, said))
 
 
-def try_bombs():
+def try_bombs() -> None:
     """What grows past --memory, or says so, or is as large: told as that, fast, and the others go on."""
     at, file = room("check bombs"), assembled(LISTING)
     made = io.BytesIO()
@@ -570,7 +578,7 @@ def try_bombs():
         check(f"dexasm-check, bombs, --jobs {jobs}", seen == (4, want, ""), seen)
 
 
-def try_limits():
+def try_limits() -> None:
     """A file that takes too long, and one at which the worker is killed: the others go on, and nothing is left."""
     at, file = room("check limits"), assembled(LISTING)
     program = shlex.quote(Tries.program)
@@ -585,16 +593,16 @@ def try_limits():
     check("dexasm-check, nothing is left running", left == [], left)
 
 
-def try_interrupted():
+def try_interrupted() -> None:
     """Control-C while a file is looked at: its status, no line, and nothing is left running."""
     at = room("check interrupted")
     program, slow = shlex.quote(Tries.program), '[ "$1" != check ] && exec {} "$@"\n: >"$0.begun"\nsleep 617'
     command = fake(at, "fake/dexasm", slow.format(program))
     put(at, "a.dex", assembled(LISTING))
     env = {**Tries.env, "DEXASM_COMMAND": command}
-    streams = {"stdin": subprocess.DEVNULL, "stdout": subprocess.PIPE, "stderr": subprocess.PIPE}
+    streams: dict[str, Any] = {"stdin": subprocess.DEVNULL, "stdout": subprocess.PIPE, "stderr": subprocess.PIPE}
     # (a shell may have begun this test without that signal)
-    obeyed = {"preexec_fn": lambda: signal.signal(signal.SIGINT, signal.SIG_DFL)}
+    obeyed: dict[str, Any] = {"preexec_fn": lambda: signal.signal(signal.SIGINT, signal.SIG_DFL)}
     begun = subprocess.Popen([os.path.join(alone(), "dexasm-check"), "a.dex"], cwd=at, env=env, **streams, **obeyed)
     for _ in range(200):
         if os.path.exists(f"{command}.begun"):
@@ -613,7 +621,7 @@ def try_interrupted():
         os.kill(int(one), signal.SIGKILL)
 
 
-def words_of(process):
+def words_of(process: str) -> list[bytes]:
     try:
         return get("/proc", process, "cmdline").split(b"\0")[:-1]
     except OSError:
@@ -635,12 +643,12 @@ for one in judge_all(found, asked, lambda: None): print(one.path.decode(), one.s
 """
 
 
-def try_changes():
+def try_changes() -> None:
     """Files that become something else after they were found."""
     at = room("check changes")
     for name in "abcde":
         put(at, f"f/{name}.dex", assembled(LISTING))
-    env = {"DEXASM_LIBRARY": Tries.library} if Tries.library else {}
+    env: dict[str, Any] = {"DEXASM_LIBRARY": Tries.library} if Tries.library else {}
     share = os.path.join(TOP, "contrib", "share", "dexasm")
     seen = run([sys.executable, "-B", "-c", CHANGES, share], at=at, **env)
     want = (
@@ -650,7 +658,7 @@ def try_changes():
     check("dexasm-check, files that change", seen == (0, want, ""), seen)
 
 
-def try_many():
+def try_many() -> None:
     """100,000 paths on standard input, most of which aren't there; each has its line, in that order."""
     at, count = room("check many"), 100000
     put(at, "a.dex", assembled(LISTING))
@@ -680,14 +688,14 @@ print(count_workers([(b"a", 500)] * 1000, asked))
 """
 
 
-def try_workers():
+def try_workers() -> None:
     """A further worker is for what is worth one; the lines are the same (try_order)."""
     share = os.path.join(TOP, "contrib", "share", "dexasm")
     seen = run([sys.executable, "-B", "-c", WORKERS, share], at=room("check workers"))
     check("dexasm-check, how many workers", seen == (0, "1\n1\n4\n2\n4\n1\n1\n4\n", ""), seen)
 
 
-def try_order():
+def try_order() -> None:
     """Whatever the number of workers, and however long each file takes, the lines are the same."""
     at = room("check order")
     for number in range(40):
@@ -704,7 +712,7 @@ def try_order():
 # ---- commands, words, terminals
 
 
-def try_commands():
+def try_commands() -> None:
     """Over a command that answers what is none: nothing is accepted, and each has a line."""
     at = room("check commands")
     put(at, "a.dex", assembled(LISTING))
@@ -723,7 +731,7 @@ def try_commands():
         check(f"dexasm-check by a command that answers {name} later", is_so and is_safe(seen[1]), seen)
 
 
-def try_words():
+def try_words() -> None:
     at = room("check words")
     put(at, "a.dex", assembled(LISTING))
     for words in (
@@ -750,7 +758,7 @@ def try_words():
         check(f"dexasm-check {form}, nothing to look at", seen[::2] == (0, ""), seen)
 
 
-def try_terminal():
+def try_terminal() -> None:
     """Colours where they are asked for, and a line of progress that is gone at the end."""
     at, file = room("check terminal"), assembled(LISTING)
     put(at, "a.dex", file)
@@ -767,10 +775,10 @@ def try_terminal():
         check(f"dexasm-check on a terminal, {env}, the line goes", not re.search(r"of 2 files[^\r]*$", shown), shown)
 
 
-def on_terminal(at, *words, **env):
+def on_terminal(at: str, *words: str, **env: str) -> str:
     """What a terminal is sent."""
     ours, theirs = pty.openpty()
-    words = [os.path.join(TOOLS, "dexasm-check"), *words]
+    words = (os.path.join(TOOLS, "dexasm-check"), *words)
     env = {**Tries.env, "TERM": "xterm", **({"DEXASM_LIBRARY": Tries.library} if Tries.library else {}), **env}
     with subprocess.Popen(words, stdin=theirs, stdout=theirs, stderr=theirs, cwd=at, env=env) as running:
         os.close(theirs)
@@ -788,7 +796,7 @@ def on_terminal(at, *words, **env):
     return shown.decode("utf8")
 
 
-def try_hooks_file():
+def try_hooks_file() -> None:
     """The hook of pre-commit.com: which names it takes, and what it does with them."""
     text = get(TOP, ".pre-commit-hooks.yaml").decode()
     field = dict(re.findall(r"^[ -] (\w+): (.*)$", text, re.M))
@@ -809,9 +817,9 @@ def try_hooks_file():
     check(".pre-commit-hooks.yaml, refused", seen[0] == 1 and seen[1].startswith("-x.dex:0x07: error: 1 "), seen)
 
 
-def try_version():
+def try_version() -> None:
     """Each helper tells the version, which is the command's; a command that tells none is a line."""
-    want = re.search(r"dexasm (\S+)\n", dexasm("--version").decode())[1]
+    want = sought(r"dexasm (\S+)\n", dexasm("--version").decode())[1]
     for name in sorted(os.listdir(TOOLS)):
         seen = run([os.path.join(TOOLS, name), "--version"])
         check(f"{name} --version", seen == (0, f"{name} {want}\n", ""), seen)

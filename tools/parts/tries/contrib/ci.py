@@ -5,11 +5,13 @@ import os
 import re
 import shlex
 import shutil
+from collections.abc import Iterable
+from typing import Any
 
 from .apk import archive
 from .check import alone, properties
 from .recipes import EVIL, IDENTITY, TEXT, TURNED, many
-from .rooms import TOP, Tries, assembled, check, get, put, room, run, shell
+from .rooms import TOP, Ended, Tries, assembled, check, get, put, room, run, shell
 
 HOOK = os.path.join(TOP, "docs/ci/pre-commit")
 COMMIT = ("git", "commit", "-qm", "a")
@@ -17,7 +19,7 @@ COMMIT = ("git", "commit", "-qm", "a")
 LOOKED_AT = ("X.DEX", "x.dEx", "x.apk", "X.APK", "x.jar", "X.Jar", "x.zip", "X.ZIP")
 
 
-def repository(name, hooks=("pre-commit",)):
+def repository(name: str, hooks: Iterable[str] = ("pre-commit",)) -> str:
     """A folder with a repository that has the hook."""
     at = room(name)
     shell("git init -q . && mkdir -p .git/hooks", at)
@@ -26,26 +28,26 @@ def repository(name, hooks=("pre-commit",)):
     return at
 
 
-def staged(at, name, given):
+def staged(at: str, name: str, given: bytes) -> Ended:
     put(at, name, given)
     return run(["git", "add", "-A"], at=at)
 
 
-def committed(at, *words, **env):
+def committed(at: str, *words: str, **env: Any) -> Ended:
     return run([*COMMIT, *words], at=at, **IDENTITY, **env)
 
 
-def count(at):
+def count(at: str) -> str:
     """How many commits there are."""
     return run(["git", "rev-list", "--count", "--all"], at=at)[1].strip()
 
 
-def refused(given, name):
+def refused(given: bytes, name: str) -> bytes:
     """A file that is refused, as a name of its kind has it."""
     return given if name.lower().endswith(".dex") else archive(("classes.dex", given))
 
 
-def failing(name, program, *words):
+def failing(name: str, program: str, *words: str) -> str:
     """A folder with a program that fails where one of its words is one of these, or whatever they are."""
     path = os.path.join(room(name), os.path.basename(program))
     is_one = " || ".join(f'[ "$word" = {word} ]' for word in words) or "true"
@@ -55,15 +57,16 @@ def failing(name, program, *words):
     return os.path.dirname(path)
 
 
-def before(folder):
+def before(folder: str) -> dict[str, Any]:
     return {"PATH": os.pathsep.join([folder, Tries.env["PATH"]])}
 
 
 # ---- the hook
 
 
-def try_names():
+def try_names() -> None:
     """The hook looks at what is staged."""
+    seen: Ended | tuple[Ended, Ended]
     for name in ("a", EVIL, "-x", "0:a", "/b", "./c", ":(top)d", TURNED):
         at = repository(f"hook {name!r}".replace("/", "_"))
         path = name.lstrip("./") + ".dex" if name in ("./c", "/b") else f"{name}.dex"
@@ -81,8 +84,9 @@ def try_names():
         check(f"hook, {path!r} is refused as it is staged", is_so and "PWNED" not in os.listdir(at), seen)
 
 
-def try_kinds():
+def try_kinds() -> None:
     """A name in any case, archives too, and what is no file; what has no .dex file in it isn't kept out."""
+    seen: Ended | tuple[Ended, Ended]
     for number, name in enumerate(LOOKED_AT):
         at = repository(f"hook kind {number}")
         staged(at, name, refused(b"no file", name))
@@ -112,7 +116,7 @@ def try_kinds():
     check("hook, a link whose bytes are a file", seen[1][0] == 1 and count(at) == "0", seen)
 
 
-def try_merged():
+def try_merged() -> None:
     """What a merge brings, by the hook's other name."""
     at = repository("hook merge", ("pre-commit", "pre-merge-commit"))
     staged(at, "a.dex", assembled(TEXT))
@@ -126,11 +130,12 @@ def try_merged():
     check("hook, a merge", is_so and count(at) == "3" and [one[0] for one in seen[:-1]] == [0] * 5, seen)
 
 
-def try_hook_fails():
+def try_hook_fails() -> None:
     """Whatever git can't do, or dexasm or the disk, ends in failure."""
     at = repository("hook fails")
     staged(at, "a.dex", assembled(TEXT))
     hook, git = [os.path.join(at, ".git/hooks/pre-commit")], shutil.which("git")
+    assert git is not None  # (the repository was made by it)
     check("hook, by itself", run(hook, at=at) == (0, "", ""))
     for word in ("rev-parse", "hash-object", "diff-index", "cat-file"):
         seen = run(hook, at=at, **before(failing(f"hook git {word}", git, word)))
@@ -165,7 +170,7 @@ def try_hook_fails():
 # ---- the workflow
 
 
-def step_of():
+def step_of() -> str:
     """The step of the workflow that looks, as a file."""
     text = get(TOP, "docs/ci/github-actions.yml").decode()
     found = re.findall(r"^ {8}run: \|\n((?: {10}.*\n)+)", text, re.M)
@@ -174,12 +179,12 @@ def step_of():
     return put(room("workflow step"), "step", steps[1].encode())
 
 
-def worked(step, at, **env):
+def worked(step: str, at: str, **env: Any) -> Ended:
     """The step, as GitHub has bash run it."""
     return run(["bash", "--noprofile", "--norc", "-eo", "pipefail", step], at=at, **env)
 
 
-def try_workflow():
+def try_workflow() -> None:
     """The steps of the workflow, as bash runs them there, but the one that installs."""
     step, at = step_of(), room("workflow")
     bad = many(at) + 1  # (a link)
@@ -208,9 +213,10 @@ def try_workflow():
     try_workflow_fails(step, good)
 
 
-def try_workflow_fails(step, good):
+def try_workflow_fails(step: str, good: str) -> None:
     """What it couldn't look at ends in failure."""
     git = shutil.which("git")
+    assert git is not None  # (the repository was made by it)
     seen = worked(step, room("workflow nowhere"))
     check("workflow, no repository", seen[0] != 0, seen)
     seen = worked(step, good, GIT_TEST_ASSUME_DIFFERENT_OWNER="1")

@@ -9,13 +9,13 @@ from .rooms import ESC, LISTING, NAMES, assembled, can_trace, check, get, is_one
 SHORT = 0x70  # bytes of a header
 
 
-def resigned(given, signature):
+def resigned(given: bytes, signature: bytes) -> bytes:
     """The file with this signature, its checksum mended, as a tool leaves it that signs otherwise."""
     given = given[:12] + signature + given[32:]
     return given[:8] + zlib.adler32(given[12:]).to_bytes(4, "little") + given[12:]
 
 
-def try_sums():
+def try_sums() -> None:
     """What is closed is what assemble wrote; what D8 before 1.6.20 signed is told apart from what was changed."""
     at = room("close")
     good = assembled(LISTING)
@@ -41,7 +41,7 @@ def try_sums():
     check("dexasm-close, standard input and output", piped == (0, good.decode("latin1"), ""), piped[0])
 
 
-def try_refused():
+def try_refused() -> None:
     """What is no .dex file of its length stays as it is."""
     at = room("close refused")
     good = assembled(LISTING)
@@ -64,7 +64,7 @@ def try_refused():
             check(f"dexasm-close {' '.join(words)}", is_so, got)
 
 
-def try_names():
+def try_names() -> None:
     """Names that a shell or a terminal could take for something else, links, and wrong words."""
     at = room("close names")
     good = assembled(LISTING)
@@ -88,7 +88,7 @@ def try_names():
     check("dexasm-close, a full disk", got[0] == 3 and "out" not in left and not any("part" in it for it in left), got)
 
 
-def try_out():
+def try_out() -> None:
     """OUT is written by the command's rules: its names, its owner, its ACL, and what may not be written."""
     at = room("close out")
     good = assembled(LISTING)
@@ -123,7 +123,7 @@ def try_out():
         try_ended(good, wrong)
 
 
-def try_root(at, good):
+def try_root(at: str, good: bytes) -> None:
     """As root: another's file, a closed folder, a full disk."""
     out = made(at, "theirs", b"old", 0o600, 65534, 12345)
     got = tool("dexasm-close", "in.dex", "--output", "theirs", at=at)
@@ -143,7 +143,7 @@ def try_root(at, good):
         check("dexasm-close, two names, a full disk", told and is_so and len(os.listdir(small)) == 3, got)
 
 
-def try_ended(good, wrong):
+def try_ended(good: bytes, wrong: bytes) -> None:
     """Ended by a signal at a call: FILE is old or new, and nothing is beside it."""
     for number, one in enumerate(("write", "fsync", "fchmod", "rename")):
         for name in ("SIGTERM", "SIGHUP", "SIGINT"):

@@ -1,6 +1,7 @@
 """The completions of shells: the words of each helper, and names of files that stay names."""
 import os
 import shutil
+from collections.abc import Sequence
 
 from .rooms import NAMES, TOP, check, put, room, run, shell
 
@@ -11,7 +12,7 @@ printf '%s\\0' "${{COMPREPLY[@]}}"
 """
 
 
-def completed(at, words, function="_dexasm_helper"):
+def completed(at: str, words: Sequence[str], function: str = "_dexasm_helper") -> list[str] | tuple[int | str, str]:
     """What bash offers for the last one of these words, as a shell has them."""
     file = f"'{TOP}/contrib/completion/dexasm.bash'"
     text = BASH.format(file=file, words=" ".join(words), at=len(words) - 1, function=function)
@@ -19,7 +20,7 @@ def completed(at, words, function="_dexasm_helper"):
     return sorted(out.split("\0")[:-1]) if (status, said) == (0, "") else (status, said)
 
 
-def try_bash():
+def try_bash() -> None:
     at = room("completion")
     for words, want in (
         (("dexasm-apk", "''"), ["check", "list", "strip"]),
@@ -49,7 +50,7 @@ def try_bash():
     check("bash runs no name", "PWNED" not in os.listdir(at))
 
 
-def try_others():
+def try_others() -> None:
     """zsh and fish take their files."""
     at = room("completion others")
     file = f"{TOP}/contrib/completion"

@@ -9,7 +9,10 @@ import os
 import re
 import sqlite3
 import sys
+from collections.abc import Callable
+from typing import Any
 
+from ... import sought
 from .apk import archive
 from .recipes import TEXT, blocks
 from .rooms import ESC, HEAD, LISTING, NAMES, TOP, Tries, assembled, check, dexasm, get, is_one_line, put, room, shell
@@ -52,25 +55,25 @@ WIDE = "\uff1d1"  # (some spreadsheets take the wide forms of =1 too)
 ALL = ("name", "string", "program", "file", "path", "unread", "class", "has", "member", "call", "use")
 
 
-def asked(at, job, *words, **options):
+def asked(at: str, job: str, *words: str, **options: Any) -> Any:
     """What a query answers, as JSON."""
     status, out, said = tool("dexasm-corpus", job, "--json", *words, at=at, **options)
     return json.loads(out) if (status, said) == (0, "") else (status, said)
 
 
-def added(what, at, *words, want=0, says=None, **options):
+def added(what: str, at: str, *words: str, want: int = 0, says: str | None = None, **options: Any) -> str:
     seen = tool("dexasm-corpus", "add", *words, at=at, **options)
     is_so = seen[0] == want and (seen[2] == "" if says is None else is_one_line(seen[2], says))
     check(f"dexasm-corpus, add {what}", is_so and "Traceback" not in seen[2], seen)
     return seen[1]
 
 
-def sums(at, file="c.db"):
+def sums(at: str, file: str = "c.db") -> Any:
     found = asked(at, "sum", file)
     return {row["table"]: (row["rows"], row["sum"]) for row in found} if isinstance(found, list) else found
 
 
-def rows(at, words, file="c.db"):
+def rows(at: str, words: str, file: str = "c.db") -> list[Any]:
     db = sqlite3.connect(os.path.join(at, file))
     try:
         return db.execute(words).fetchall()
@@ -79,13 +82,13 @@ def rows(at, words, file="c.db"):
 
 
 @functools.cache
-def bomb():
+def bomb() -> bytes:
     """An archive that is small until it is unpacked."""
     entries = ("classes.dex", assembled(LISTING)), ("classes2.dex", bytes(400 << 20)), ("classes3.dex", b"")
     return archive(*entries, compression=8)
 
 
-def strange(at):
+def strange(at: str) -> None:
     """A folder of files that are meant to do harm."""
     file = assembled(LISTING)
     for name in (*NAMES, "'; drop table file; --"):
@@ -110,7 +113,7 @@ def strange(at):
         sparse.truncate(1 << 40)
 
 
-def try_strangers():
+def try_strangers() -> None:
     """Each ends as a row, and nothing in a name is obeyed."""
     at = room("corpus strangers")
     strange(at)
@@ -150,14 +153,14 @@ def try_strangers():
 
 
 @functools.cache
-def slow(classes=16000):
+def slow(classes: int = 16000) -> bytes:
     """A file of so many classes, which takes a second for 15,000 to 40,000."""
     one = b"class LA%d; 0x1\ndirect m ()V 0x9\ncode 0 0 0\ninvoke-static { } LA;->m()V\nreturn-void\n"
     one += b"end code\nend class\n"
     return assembled(HEAD + b"".join(one % number for number in range(classes)))
 
 
-def write_shape(made, at, name):
+def write_shape(made: str | shapes.File, at: str, name: str) -> None:
     """What bench/hostile makes, as a file: a listing is assembled, if it can be."""
     if isinstance(made, str):
         put(at, name, assembled(made.encode("ascii")))
@@ -166,10 +169,11 @@ def write_shape(made, at, name):
     made.write(os.path.join(at, name))
 
 
-def try_shapes():
+def try_shapes() -> None:
     """What is meant to be slow, in small: each ends as a row."""
     at = room("corpus shapes")
     os.mkdir(os.path.join(at, "d"))
+    shape: Callable[[int], Any]  # (it makes a listing's text, or a File)
     for shape, many in shapes.SHAPES:
         write_shape(shape(many // 16), os.path.join(at, "d"), f"{shape.__name__}.dex")
     added("what is meant to be slow", at, "--seconds", "2", "--memory", "400M", "c.db", "d")
@@ -177,7 +181,7 @@ def try_shapes():
     check("dexasm-corpus, shapes", set(found) == {f"d/{shape.__name__}.dex" for shape, _ in shapes.SHAPES}, found)
 
 
-def try_limits():
+def try_limits() -> None:
     """Time and memory: of each file, and of those in an archive the others go on. Then once more."""
     at, file = room("corpus limits"), assembled(LISTING)
     put(at, "slow.apk", archive(("classes.dex", slow()), ("classes2.dex", file)))
@@ -197,7 +201,7 @@ def try_limits():
     check("dexasm-corpus, --again", found == {**want, "slow.apkclasses.dex": "ok"}, found)
 
 
-def programs(at):
+def programs(at: str) -> tuple[bytes, bytes]:
     """Three programs in five files, one of them refused besides, and an archive."""
     first, second = assembled(HEAD + LIBRARY % 1), assembled(HEAD + LIBRARY % 2)
     put(at, "f/a.dex", first)
@@ -209,12 +213,13 @@ def programs(at):
     return first, second
 
 
-def try_answers():
+def try_answers() -> None:
     at = room("corpus answers")
     first, second = programs(at)
     added("a folder", at, "c.db", "f")
-    sha = lambda given: hashlib.sha256(given).hexdigest()
+    sha: Callable[[bytes], str] = lambda given: hashlib.sha256(given).hexdigest()
     files = dict(rows(at, "select lower(hex(sha256)), status from file"))
+    want: dict[str, str] | list[tuple[Any, ...]]
     want = {sha(one): "ok" for one in (first, second, get(at, "f/d.dex"))}
     want |= {sha(one): "refused" for one in (first[:-1], second[:40])}
     check("dexasm-corpus, files", files == want, files)
@@ -256,7 +261,7 @@ def try_answers():
     check("dexasm-corpus, same", sorted(found) == ["f/a.dex", "f/b.dex", "f/x.apkclasses.dex", "g.dex"], found)
 
 
-def try_same():
+def try_same() -> None:
     """Copies to the byte are one program at several paths, whatever these are called, in each form; what stands at one
     path, or is refused, isn't there.
     """
@@ -269,10 +274,11 @@ def try_same():
     put(at, "cut1.dex", copy[:-1])
     put(at, "cut2.dex", copy[:-1])
     shell("printf '%s\\0' * | dexasm-corpus add --processes 1 c.db - && dexasm-corpus merge m.db c.db", at)
-    sha = lambda given: hashlib.sha256(given).hexdigest()
+    sha: Callable[[bytes], str] = lambda given: hashlib.sha256(given).hexdigest()
     program, entries = sha(dexasm("strip", given=copy)), [("two.apk", "classes.dex"), ("two.apk", "classes2.dex")]
     want = [(program, sha(copy), len(copy), *place) for place in [*((f"{name}.dex", "") for name in names), *entries]]
     want.append((program, sha(get(at, "other.dex")), len(copy) + 4, "other.dex", ""))
+    found: list[Any]
     for file in ("c.db", "m.db"):
         found = [tuple(row.values()) for row in asked(at, "same", file)]
         check(f"dexasm-corpus, same, copies in {file}", sorted(found) == sorted(want), set(found) ^ set(want))
@@ -295,7 +301,7 @@ def try_same():
     check("dexasm-corpus, same, a path that is added twice", found == ["./copy.dex", "alone.dex", "copy.dex"], found)
 
 
-def padded(file):
+def padded(file: bytes) -> bytes:
     """The same program in another file: an unused string makes it longer; without a tool for that its link data do."""
     made = bytearray(file + bytes(4))
     made[32:36] = len(made).to_bytes(4, "little")
@@ -306,7 +312,7 @@ def padded(file):
     return get(path)
 
 
-def try_order():
+def try_order() -> None:
     """The same content in whatever order, by however many workers, in parts that are merged."""
     at = room("corpus order")
     programs(at)
@@ -339,7 +345,7 @@ def try_order():
     )
 
 
-def try_libraries():
+def try_libraries() -> None:
     """Classes of a known library that stayed the same, that changed, and that aren't there."""
     at = room("corpus libraries")
     other = (LIBRARY % 5).replace(b"Ll/", b"Lk/")
@@ -350,7 +356,9 @@ def try_libraries():
     put(at, "apps/none.dex", assembled(HEAD + APP))
     added("libraries", at, "known.db", "known")
     added("apps", at, "c.db", "apps")
+    found: list[Any]
     found = [tuple(row.values()) for row in asked(at, "libraries", "--known", "known.db", "c.db")]
+    want: list[tuple[Any, ...]]
     want = [
         ("apps/one.dex", "", "known/l.dex", "", 1, 1, 0, 50.0),
         ("apps/two.dex", "", "known/l.dex", "", 2, 0, 0, 100.0),
@@ -364,13 +372,14 @@ def try_libraries():
     check("dexasm-corpus, libraries by class", found == [(f"apps/{one}.dex", *rest) for one, *rest in want], found)
 
 
-def try_wrong():
+def try_wrong() -> None:
     """Other programs' databases, files that are none, and words."""
     at = room("corpus wrong")
     put(at, "a.dex", assembled(LISTING))
     put(at, "text.db", b"no database, but long enough to be looked at as if it were one " * 40)
     newer = "pragma application_id = 1685611361; pragma user_version = 99; create table t(x)"
     empty = "pragma application_id = 7"
+    words: str | tuple[str, ...]
     for file, words in (("other.db", "create table t(x)"), ("newer.db", newer), ("empty.db", empty)):
         db = sqlite3.connect(os.path.join(at, file))
         db.executescript(words)
@@ -427,7 +436,7 @@ def try_wrong():
         )
 
 
-def try_page():
+def try_page() -> None:
     """Each query of RECIPES runs as it stands, over a corpus that has something for it."""
     at = room("corpus page")
     programs(at)
@@ -437,14 +446,16 @@ def try_page():
     check("RECIPES: queries of a corpus", len(found) == 12, len(found))
     for words in found:
         check(f"RECIPES: {words[:60]}", len(rows(at, words, "corpus.db")) > 0)
-    schema = re.search(r"```sql\n(.*?)```", get(TOP, "docs/CORPUS.md").decode(), re.S)[1]
+    schema = sought(r"```sql\n(.*?)```", get(TOP, "docs/CORPUS.md").decode(), re.S)[1]
     made = sorted(words for words, in rows(at, "select sql from sqlite_master where sql is not null", "corpus.db"))
-    plain = lambda words: sorted(re.sub(r"\s+", " ", one).strip().lower() for one in words if one.strip())
+    plain: Callable[[list[str]], list[str]] = lambda words: sorted(
+        re.sub(r"\s+", " ", one).strip().lower() for one in words if one.strip()
+    )
     told = plain(re.sub(r"--.*", "", schema).split(";"))
     check("CORPUS: its tables are those of a database", told == plain(made), (told, plain(made)))
 
 
-def try_recipes():
+def try_recipes() -> None:
     """The commands of RECIPES as they stand there, in a folder of evil names; those for Slurm by a sbatch of ours."""
     at, recipes = os.path.join(room("corpus recipes"), "d"), blocks("docs/RECIPES.md")["A corpus"]
     put(at, "build1.dex", assembled(TEXT))

@@ -11,12 +11,14 @@ import re
 import shlex
 import shutil
 import sqlite3
+from collections.abc import Iterable, Iterator
 
+from ... import sought
 from .apk import archive
 from .corpus import WIDE, added, padded, programs, rows, sums
 from .recipes import blocks
 from .streams import each, is_line
-from .rooms import ESC, HEAD, TOOLS, assembled, can_trace, check, get, is_one_line, put, room, run, shell, tool
+from .rooms import ESC, HEAD, TOOLS, Ended, assembled, can_trace, check, get, is_one_line, put, room, run, shell, tool
 
 # What a stranger adds to a database, and what becomes of whoever obeys it.
 SCHEMAS = {
@@ -53,7 +55,7 @@ ROWS = {
 }
 
 
-def changed(at, name, words):
+def changed(at: str, name: str, words: str) -> None:
     """A database that has what somebody else wrote into it."""
     shutil.copy(os.path.join(at, "c.db"), os.path.join(at, name))
     db = sqlite3.connect(os.path.join(at, name))
@@ -62,19 +64,19 @@ def changed(at, name, words):
     db.close()
 
 
-def prepared(name):
+def prepared(name: str) -> str:
     at = room(name)
     programs(at)
     added("for strangers", at, "--processes", "1", "c.db", "f")
     return at
 
 
-def limited(texts, at):
+def limited(texts: Iterable[str], at: str) -> Iterator[tuple[str, Ended]]:
     """Each with a few seconds of the processor."""
     yield from each([f"ulimit -t 20; {text}" for text in texts], at)
 
 
-def try_schemas():
+def try_schemas() -> None:
     """Triggers and views aren't obeyed: what has any is refused, whatever is asked of it, and stays as it is."""
     at = prepared("hostile schemas")
     others = ("refused e.db", "sum e.db", "merge e.db c.db", "merge m.db e.db", "libraries --known e.db c.db")
@@ -89,11 +91,11 @@ def try_schemas():
         check(f"dexasm-corpus, a database with {name} stays", get(at, "e.db") == before and not here(at, "m.db"))
 
 
-def here(at, name):
+def here(at: str, name: str) -> bool:
     return os.path.exists(os.path.join(at, name))
 
 
-def try_rows():
+def try_rows() -> None:
     """Rows that dexasm-corpus doesn't write."""
     at = prepared("hostile rows")
     for number, (name, words) in enumerate(ROWS.items()):
@@ -107,7 +109,7 @@ def try_rows():
             check(f"{text}, a database with {name}", is_so, seen)
 
 
-def try_damages():
+def try_damages() -> None:
     """Bytes that were changed: a line that names the damaged database, or an answer."""
     at = prepared("hostile damages")
     changed(at, "plain.db", "vacuum")
@@ -128,7 +130,7 @@ def try_damages():
         check(f"{text}, damaged", is_told or seen[0] == 0 and seen[2] == "", seen)
 
 
-def try_names():
+def try_names() -> None:
     """A message names the database that it is about."""
     at = prepared("hostile names")
     changed(at, "less.db", "drop table path")
@@ -141,7 +143,7 @@ def try_names():
             check(f"dexasm-corpus {words}", seen[0] == 3 and is_one_line(seen[2], f"dexasm-corpus: {bad}: "), seen)
 
 
-def try_only_asked():
+def try_only_asked() -> None:
     """What only asks opens its databases to be read."""
     at = prepared("hostile asked")
     if not can_trace():
@@ -160,7 +162,7 @@ def try_only_asked():
 CELLS = {"=1+1": "'=1+1", "+1+1": "'+1+1", "-1": "'-1", "@SUM(1)": "'@SUM(1)", "'=1": "'=1", "1=1": "1=1"}
 
 
-def try_cells():
+def try_cells() -> None:
     """What a spreadsheet takes for a formula begins with an apostrophe, in each column; --csv-raw has it as it is."""
     at = room("hostile cells")
     for number, name in enumerate((*CELLS, "\t=1", "\r=1", WIDE)):
@@ -176,7 +178,7 @@ def try_cells():
         check(f"dexasm-corpus {form}", got == want, (got ^ want, seen))
 
 
-def try_sqlite():
+def try_sqlite() -> None:
     """RECIPES' queries by SQLite's own program: a path is obeyed by no terminal and looks like no other row."""
     if not shutil.which("sqlite3"):
         return
@@ -191,7 +193,7 @@ def try_sqlite():
     head, *queries = re.split(r"^# .*\n", blocks("docs/RECIPES.md")["A corpus"][1], flags=re.M)
     for query in queries:
         status, out, said = shell(f"{head}{query}", at)
-        words = re.search(r"\"([^\"]*)\"", query)[1]
+        words = sought(r"\"([^\"]*)\"", query)[1]
         is_so = (status, said) == (0, "") and out.isascii() and all(line.isprintable() for line in out.splitlines())
         is_so = is_so and out.count("\n") == len(rows(at, words, "corpus.db")) > 0
         check(f"RECIPES by sqlite3: {words[:60]}", is_so, (status, out, said))
@@ -200,7 +202,7 @@ def try_sqlite():
 # ---- what others say of files
 
 
-def try_believed():
+def try_believed() -> None:
     """A row that tells of one file what another one has: merge believes it, and merge --verify looks itself."""
     at = room("hostile rows of files")
     for name in "ab":
@@ -232,7 +234,7 @@ def try_believed():
     try_at_hand(at)
 
 
-def try_at_hand(at):
+def try_at_hand(at: str) -> None:
     """Another file stands at the place of one; then several databases at once."""
     put(at, "b.dex", get(at, "a.dex"))
     seen = tool("dexasm-corpus", "merge", "--verify", "--processes", "1", "less.db", "true.db", at=at)
@@ -272,7 +274,7 @@ OTHERS = (
 OURS = ("tcp://127.0.0.1:1", "127.0.0.1:1", "localhost:1", "tcp://[::1]:1", "tls://10.0.0.1:1")
 
 
-def try_addresses():
+def try_addresses() -> None:
     """Who answers at another machine's address could run programs here: nobody is asked there without --trust."""
     at = room("hostile addresses")
     put(at, "a.dex", assembled(HEAD))

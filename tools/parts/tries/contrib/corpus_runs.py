@@ -1,6 +1,8 @@
 """How runs of dexasm-corpus end: killed, interrupted, without room or memory, beside another one, on a terminal, over
 Dask. Whatever happens, the database is whole, and the same command goes on.
 """
+from __future__ import annotations
+
 import fcntl
 import functools
 import json
@@ -17,6 +19,8 @@ import subprocess
 import sys
 import termios
 import time
+from collections.abc import Callable
+from typing import Any, TypeVar
 
 from .corpus import APP, LIBRARY, added, asked, programs, rows, slow, strange, sums
 from .rooms import ESC, HEAD, LISTING, TOOLS, TOP, Tries, assembled, check, get, is_one_line, put, room, run, tool
@@ -25,22 +29,23 @@ CORPUS = os.path.join(TOOLS, "dexasm-corpus")
 PATIENCE = 60  # seconds for what a run does meanwhile
 BAR = re.compile(r"\d+ files, \d+\.\d MB/s, \d+ refused(, \d+ s left)?")
 GONE = "dexasm-corpus: the scheduler is gone: "
+Seen = TypeVar("Seen")
 
 
-def begun(at, *words, python=sys.executable, **streams):
+def begun(at: str, *words: str, python: str = sys.executable, **streams: Any) -> subprocess.Popen[bytes]:
     """A run that goes on beside the test."""
     streams = {"stdout": subprocess.DEVNULL, "stderr": subprocess.PIPE, **streams}
     return subprocess.Popen([python, CORPUS, *words], cwd=at, env=Tries.env, **streams)
 
 
-def kill(process, by=signal.SIGKILL):
+def kill(process: int, by: int = signal.SIGKILL) -> None:
     try:
         os.kill(process, by)
     except ProcessLookupError:
         pass
 
 
-def waited(seen):
+def waited(seen: Callable[[], Seen]) -> Seen | None:
     """What is seen first, within the patience."""
     for _ in range(PATIENCE * 20):
         if found := seen():
@@ -49,17 +54,17 @@ def waited(seen):
     return None
 
 
-def is_whole(at, file="c.db"):
+def is_whole(at: str, file: str = "c.db") -> bool:
     return rows(at, "pragma integrity_check", file) == [("ok",)] and not rows(at, "pragma foreign_key_check", file)
 
 
 @functools.cache
-def file_of(number):
+def file_of(number: int) -> bytes:
     """A file that shares a class with those of other numbers."""
     return assembled(HEAD + LIBRARY % number + APP * (number % 2))
 
 
-def many(at, count):
+def many(at: str, count: int) -> Any:
     """A folder of so many files that share classes, and what they make."""
     for number in range(count):
         put(at, f"d/{number}.dex", file_of(number))
@@ -67,7 +72,7 @@ def many(at, count):
     return sums(at, "whole.db")
 
 
-def workers():
+def workers() -> list[int]:
     """The workers of this test, by what their command line says."""
     found = []
     for one in filter(str.isdigit, os.listdir("/proc")):
@@ -81,7 +86,7 @@ def workers():
     return found
 
 
-def is_alive(process):
+def is_alive(process: int) -> bool:
     for _ in range(50):
         try:
             if get("/proc", str(process), "stat").rpartition(b")")[2].split()[0] == b"Z":
@@ -92,7 +97,7 @@ def is_alive(process):
     return True
 
 
-def try_killed():
+def try_killed() -> None:
     """Workers and the writer are killed at random moments; the same command goes on."""
     at, random_ = room("corpus killed"), random.Random(3)
     want = many(at, 120)
@@ -112,7 +117,7 @@ def try_killed():
     check("dexasm-corpus, no worker stays", not [one for one in workers() if is_alive(one)])
 
 
-def try_beside():
+def try_beside() -> None:
     """Two commands make and fill one database."""
     at = room("corpus beside")
     want = many(at, 70)
@@ -123,7 +128,7 @@ def try_beside():
     check("dexasm-corpus, two at once, their sum", sums(at) == want and is_whole(at), (sums(at), want))
 
 
-def try_held():
+def try_held() -> None:
     """Another command has the database, which is still empty: this one waits."""
     at = room("corpus held")
     put(at, "a.dex", assembled(LISTING))
@@ -139,14 +144,16 @@ def try_held():
     check("dexasm-corpus, while another one has the database", is_so, (waits, running.returncode, said))
 
 
-def try_interrupted():
+def try_interrupted() -> None:
     """Control-C while it looks at a file, and while it waits for paths."""
     at = room("corpus interrupted")
     put(at, "slow.dex", slow())
     for what, path in (("a file", b"slow.dex\0"), ("paths", b"")):
         # (a shell may have begun this test without that signal)
+        obeyed: dict[str, Any]
         obeyed = {"stdin": subprocess.PIPE, "preexec_fn": lambda: signal.signal(signal.SIGINT, signal.SIG_DFL)}
         running = begun(at, "add", "--processes", "1", "c.db", "-", **obeyed)
+        assert running.stdin is not None  # (a pipe)
         running.stdin.write(path * 200)
         running.stdin.flush()
         waited(lambda: workers() if path else os.path.exists(os.path.join(at, "c.db-wal")))
@@ -158,7 +165,7 @@ def try_interrupted():
         check("dexasm-corpus, interrupted, no worker stays", not [one for one in workers() if is_alive(one)])
 
 
-def try_no_room():
+def try_no_room() -> None:
     """A database that can't grow: what is in it stays, and with room the same command goes on."""
     at = room("corpus no room")
     want = many(at, 120)
@@ -172,7 +179,7 @@ def try_no_room():
     check("dexasm-corpus, with room", sums(at) == want and is_whole(at))
 
 
-def try_memory():
+def try_memory() -> None:
     """An answer that memory doesn't suffice for ends with status 4 and a line."""
     at = room("corpus memory")
     put(at, "a.dex", assembled(LISTING))
@@ -188,9 +195,10 @@ def try_memory():
         check(f"dexasm-corpus, no memory {form}", seen == (4, "", "dexasm-corpus: out of memory\n"), seen)
 
 
-def try_names():
+def try_names() -> None:
     """A database is the file of that very name."""
     at = room("corpus names")
+    names: tuple[str, ...]
     names = ":memory:", "file:c.db?mode=memory", "%41?mode=memory#.db", f"new\nline{ESC}[31m.db"
     names += (os.fsdecode(b"b\xff.db"),)
     put(at, "a.dex", assembled(LISTING))
@@ -215,7 +223,7 @@ def try_names():
 # ---- a terminal
 
 
-def seen_on(master, running, is_closed):
+def seen_on(master: int, running: subprocess.Popen[bytes], is_closed: bool) -> bytes:
     """What a terminal got until the run ended, or until its first bar, after which it is closed."""
     got = b""
     while True:
@@ -230,12 +238,12 @@ def seen_on(master, running, is_closed):
             return got
 
 
-def on_terminal(at, columns, *words, is_closed=False, **env):
+def on_terminal(at: str, columns: int, *words: str, is_closed: bool = False, **env: str) -> tuple[int, str, str]:
     """Status, standard output, and what a terminal so wide got of a run."""
     master, slave = pty.openpty()
     fcntl.ioctl(slave, termios.TIOCSWINSZ, struct.pack("HHHH", 24, columns, 0, 0))
     everything = {**Tries.env, "TERM": "xterm", **env}
-    words = [sys.executable, CORPUS, "add", *words]
+    words = (sys.executable, CORPUS, "add", *words)
     running = subprocess.Popen(words, cwd=at, env=everything, stdout=subprocess.PIPE, stderr=slave)
     os.close(slave)
     got = seen_on(master, running, is_closed)
@@ -244,12 +252,13 @@ def on_terminal(at, columns, *words, is_closed=False, **env):
     return running.returncode, out.decode("latin1"), got.decode("latin1")
 
 
-def try_terminal():
+def try_terminal() -> None:
     """The bar has numbers alone, is no wider than the terminal, and is gone in the end."""
     at = room("corpus terminal")
     for name in (f"{ESC}[31mred\n", *range(130)):  # (more than two batches, so that the bar is there before they end)
         put(at, f"d/{name}.dex", b"")
     none = f"{ESC}]0;none\a"
+    got: str | tuple[int, str, str]
     status, out, got = on_terminal(at, 100, "--processes", "1", "c.db", "d", none)
     *lines, last = got.split("\r\n")
     bars = [bar for bar in re.split(r"\r\x1b\[K", got.replace("\r\n", "")) if bar]
@@ -272,7 +281,7 @@ def try_terminal():
 # ---- Dask
 
 
-def dask():
+def dask() -> str | None:
     """The Python that has Dask, or None."""
     for python in (sys.executable, "/usr/bin/python3"):
         if shutil.which(python) and run([python, "-c", "import distributed"])[0] == 0:
@@ -283,7 +292,8 @@ def dask():
 class Cluster:
     """A scheduler of Dask and its workers, each with a nanny, in a folder."""
 
-    def __init__(self, python, at, workers, protocol="tcp", **env):
+    def __init__(self, python: str, at: str, workers: int, protocol: str = "tcp", **env: str) -> None:
+        self.begun: list[subprocess.Popen[bytes]]
         self.python, self.at, self.begun = python, at, []
         self.env = {**Tries.env, "PYTHONPATH": os.path.join(TOP, "bindings", "python"), **env}
         file = os.path.join(at, "address.json")
@@ -295,19 +305,19 @@ class Cluster:
         waited(lambda: os.path.exists(file) and get(file).endswith(b"}"))
         self.address = json.loads(get(file))["address"]
 
-    def begin(self, who, *words):
-        words = [*words, "--no-dashboard", "--scheduler-file", "address.json"]
-        quiet = {"stdout": subprocess.DEVNULL, "stderr": subprocess.DEVNULL, "start_new_session": True}
-        words = [self.python, "-m", f"distributed.cli.dask_{who}", *words]
+    def begin(self, who: str, *words: str) -> None:
+        words = (*words, "--no-dashboard", "--scheduler-file", "address.json")
+        quiet: dict[str, Any] = {"stdout": subprocess.DEVNULL, "stderr": subprocess.DEVNULL, "start_new_session": True}
+        words = (self.python, "-m", f"distributed.cli.dask_{who}", *words)
         self.begun.append(subprocess.Popen(words, cwd=self.at, env=self.env, **quiet))
 
-    def add(self, *words, **streams):
+    def add(self, *words: str, **streams: Any) -> subprocess.Popen[bytes]:
         return begun(self.at, "add", "--scheduler", self.address, *words, python=self.python, **streams)
 
-    def __enter__(self):
+    def __enter__(self) -> Cluster:
         return self
 
-    def __exit__(self, *_):
+    def __exit__(self, *_: object) -> None:
         for one in self.begun:
             try:
                 os.killpg(one.pid, signal.SIGKILL)
@@ -316,12 +326,12 @@ class Cluster:
             one.wait()
 
 
-def nannied(looker):
+def nannied(looker: int) -> int:
     """The worker of Dask that has a worker of ours."""
     return int(get("/proc", str(looker), "stat").rpartition(b")")[2].split()[1])
 
 
-def try_dask():
+def try_dask() -> None:
     """Scheduler and two workers of Dask: the same content, with the folder and without."""
     python = dask()
     if python is None:
@@ -340,7 +350,7 @@ def try_dask():
             check(f"dexasm-corpus, by Dask {words}", is_so, (running.returncode, said, sums(at, file), want))
 
 
-def try_dask_tls():
+def try_dask_tls() -> None:
     """Over TLS, with the certificates of Dask's own configuration; who has none isn't let in."""
     python = dask()
     if python is None or not shutil.which("openssl"):
@@ -356,6 +366,7 @@ def try_dask_tls():
     added("here", at, "here.db", "f")
     with Cluster(python, at, 1, "tls", **has) as cluster:
         check("Dask over TLS", cluster.address.startswith("tls://"), cluster.address)
+        env: Any  # (mypy joins the dictionaries to object)
         for what, env, status, says in (("them", has, 0, ""), ("none", {}, 3, f"dexasm-corpus: {cluster.address}: ")):
             words = [python, CORPUS, "add", "--scheduler", cluster.address, f"{what}.db", "f"]
             seen = run(words, at=at, **env)
@@ -364,7 +375,7 @@ def try_dask_tls():
         check("dexasm-corpus, Dask over TLS, the sum", sums(at, "them.db") == sums(at, "here.db"))
 
 
-def try_dask_killed():
+def try_dask_killed() -> None:
     """A worker of Dask is killed, then the scheduler, each while it looks at a file and others wait."""
     python = dask()
     if python is None:
@@ -372,6 +383,7 @@ def try_dask_killed():
     at = room("corpus dask killed")
     put(at, "d/slow.dex", slow(8000))
     want = many(at, 70)
+    said: bytes | str
     with Cluster(python, at, 1) as cluster:
         running = cluster.add("--seconds", "600", "c.db", "d")
         looker = waited(workers)

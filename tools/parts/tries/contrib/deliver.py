@@ -17,6 +17,9 @@ import struct
 import subprocess
 import threading
 import time
+from collections.abc import Callable, Iterator, Sequence
+from types import ModuleType
+from typing import Any
 
 from .rooms import ESC, TOP, check, get, put, room, seen_in
 
@@ -25,17 +28,29 @@ NOBODY, SOMEBODY = 65534, 12345
 ACL, DEFAULT = "system.posix_acl_access", "system.posix_acl_default"
 MODULE = os.path.join(TOP, "bindings/python/dexasm/deliver.py")
 LATE = 20  # seconds
+Out = str | bytes | os.PathLike[str]
 
 
 @functools.cache
-def loaded():
+def loaded() -> ModuleType:
     spec = importlib.util.spec_from_file_location("dexasm_deliver", MODULE)
+    assert spec is not None and spec.loader is not None
     made = importlib.util.module_from_spec(spec)
     spec.loader.exec_module(made)
     return made
 
 
-def ran(out, given=NEW, user=0, groups=(), mask=0o022, most=None, before=None, at=None, **words):
+def ran(
+    out: Out,
+    given: bytes = NEW,
+    user: int = 0,
+    groups: Sequence[int] = (),
+    mask: int = 0o022,
+    most: int | None = None,
+    before: Callable[[], Any] | None = None,
+    at: str | None = None,
+    **words: Any,
+) -> str:
     """How deliver ends in a process of its own, as this user: "done", the name of an error, or how it was ended."""
     loaded()  # (another user may not read it)
     reads, writes = os.pipe()
@@ -65,7 +80,7 @@ def ran(out, given=NEW, user=0, groups=(), mask=0o022, most=None, before=None, a
     return said if not os.WIFSIGNALED(status) else f"signal {os.WTERMSIG(status)}"
 
 
-def outcome(out, given, words):
+def outcome(out: Out, given: bytes, words: dict[str, Any]) -> str:
     module = loaded()
     try:
         module.deliver(out, given, **words)
@@ -77,23 +92,25 @@ def outcome(out, given, words):
     return "done"
 
 
-def made(at, name="out", given=OLD, mode=0o644, user=None, group=None):
+def made(
+    at: str, name: str = "out", given: bytes = OLD, mode: int = 0o644, user: int | None = None, group: int | None = None
+) -> str:
     path = put(at, name, given)
     os.chown(path, *(0 if one is None else one for one in (user, group)))
     os.chmod(path, mode)
     return path
 
 
-def mode_of(path):
+def mode_of(path: str) -> int:
     return stat.S_IMODE(os.lstat(path).st_mode)
 
 
-def acl(*entries):
+def acl(*entries: tuple[int, int, int]) -> bytes:
     """An access control list: (tag, rights, whose)."""
     return struct.pack("<I", 2) + b"".join(struct.pack("<HHI", *entry) for entry in entries)
 
 
-def acl_of(path, name=ACL):
+def acl_of(path: str, name: str = ACL) -> bytes | None:
     try:
         return os.getxattr(path, name)
     except OSError:
@@ -104,17 +121,17 @@ NO_ONE = 0xFFFFFFFF
 U, NAMED, G, NAMED_GROUP, MASK, O = 1, 2, 4, 8, 16, 32
 
 
-def listed(user, named, group, mask, other, whose=NOBODY):
+def listed(user: int, named: int, group: int, mask: int, other: int, whose: int = NOBODY) -> bytes:
     """An ACL with one named user."""
     return acl((U, user, NO_ONE), (NAMED, named, whose), (G, group, NO_ONE), (MASK, mask, NO_ONE), (O, other, NO_ONE))
 
 
-def shut(path, sign, flag):
+def shut(path: str, sign: str, flag: str) -> None:
     subprocess.run(["chattr", sign + flag, path], check=True, capture_output=True)
 
 
 @contextlib.contextmanager
-def shut_by(flag, *paths):
+def shut_by(flag: str, *paths: str) -> Iterator[None]:
     """With this attribute of the file system: i lets nothing change, a lets only grow."""
     try:
         for path in paths:
@@ -126,7 +143,7 @@ def shut_by(flag, *paths):
 
 
 @contextlib.contextmanager
-def mounted(at, *words):
+def mounted(at: str, *words: str) -> Iterator[None]:
     subprocess.run(["mount", *words, at], check=True, capture_output=True)
     try:
         yield
@@ -134,23 +151,23 @@ def mounted(at, *words):
         subprocess.run(["umount", "-l", at], capture_output=True)
 
 
-def says(what, seen, want, *truths):
+def says(what: str, seen: object, want: object, *truths: object) -> None:
     check(f"deliver, {what}", seen == want and all(truth is True for truth in truths), (seen, want, truths))
 
 
-def only(at, *names):
+def only(at: str, *names: str) -> bool | list[str]:
     return sorted(os.listdir(at)) == sorted(names) or sorted(os.listdir(at))
 
 
-def holds(path, *wanted):
+def holds(path: str, *wanted: bytes) -> bool | bytes:
     return get(path) in wanted or get(path)[:60]
 
 
-def is_root():
+def is_root() -> bool:
     return os.geteuid() == 0
 
 
-def try_plain():
+def try_plain() -> None:
     """A new file, one that is there, links, names, and what is given."""
     at = room("deliver plain")
     for mask in (0o022, 0, 0o027, 0o077, 0o777):
@@ -191,6 +208,7 @@ def try_plain():
     for given in (b"", bytearray(NEW), memoryview(NEW), NEW * 500):
         out = made(at)
         says(f"{type(given).__name__} of {len(given)}", ran(out, given), "done", holds(out, bytes(given)))
+    path: Any  # (mypy joins these two to object)
     for path in (os.fsencode(f"{at}/out"), pathlib.Path(at, "out")):
         says(f"a path that is {type(path).__name__}", ran(path), "done", holds(f"{at}/out", NEW))
     with open(f"{at}/out", "rb") as reader:
@@ -198,7 +216,7 @@ def try_plain():
         says("OUT that is being read", ran(f"{at}/out"), "done", len(reader.read()) == 7)
 
 
-def try_links():
+def try_links() -> None:
     """A link stays and what it leads to is written; what others put beside OUT isn't touched."""
     at = room("deliver links")
     made(at, "d/real", mode=0o640)
@@ -267,7 +285,7 @@ def try_links():
         )
 
 
-def try_names():
+def try_names() -> None:
     """Two names stay two names of one file; the answer stands beside before it is written there."""
     at = room("deliver names")
     out = made(at, mode=0o640)
@@ -304,13 +322,13 @@ def try_names():
 
 
 @contextlib.contextmanager
-def full(name, size):
+def full(name: str, size: int) -> Iterator[str]:
     at = room(name)
     with mounted(at, "-t", "tmpfs", "-o", f"size={size}k", "none"):
         yield at
 
 
-def try_rights():
+def try_rights() -> None:
     """What an ACL, a mode or an owner didn't let somebody do, they may not do afterwards."""
     at = room("deliver rights")
     out = made(at)
@@ -353,7 +371,7 @@ def try_rights():
         os.remove(f"{at}/as any")
 
 
-def try_users():
+def try_users() -> None:
     """Other users' files and folders, as somebody who isn't root."""
     if not is_root():
         return
@@ -419,7 +437,7 @@ def try_users():
     says("a folder that isn't entered", ran(out, user=NOBODY), "EACCES", holds(out, NEW), only(folder, "out"))
 
 
-def try_shut():
+def try_shut() -> None:
     """Files and folders that the system keeps from changing, and mount points."""
     at = room("deliver shut")
     out = made(at)
@@ -433,6 +451,7 @@ def try_shut():
     with shut_by("i", at):
         says("an immutable folder", ran(out), "done", holds(out, NEW), only(at, "out"))
         says("an immutable folder, no room", ran(out, OLD * 9, most=70000), "EFBIG", holds(out, NEW), only(at, "out"))
+    seen: str | tuple[str, str]
     with shut_by("a", at):
         seen = ran(out, OLD), ran(f"{at}/new", NEW)
         says("a folder that only grows", seen, ("done", "done"), holds(out, OLD), holds(f"{at}/new", NEW))
@@ -450,14 +469,15 @@ def try_shut():
         says("read only", (ran(f"{at}/ro/out"), ran(f"{at}/ro/new")), ("EROFS", "EROFS"), only(f"{at}/ro", "out"))
 
 
-def try_devices():
+def try_devices() -> None:
     """Devices, pipes and sockets are written as they are."""
     at = room("deliver devices")
     says(
         "a device", (ran("/dev/null"), ran("/dev/full")), ("done", "ENOSPC"), stat.S_ISCHR(os.stat("/dev/null").st_mode)
     )
     os.mkfifo(f"{at}/pipe")
-    took = []
+    took: list[bytes] = []
+    reader: Any  # (a thread, and then the number of a file)
     reader = threading.Thread(target=lambda: took.append(get(at, "pipe")))
     reader.start()
     seen = ran(f"{at}/pipe")
@@ -496,7 +516,7 @@ def try_devices():
     says("a pipe that nobody reads is left by a signal", ended, -signal.SIGTERM)
 
 
-def wait_for(child):
+def wait_for(child: int) -> int | str:
     """How it ended, within a time."""
     for _ in range(LATE * 20):
         found, status = os.waitpid(child, os.WNOHANG)
@@ -508,16 +528,16 @@ def wait_for(child):
     return "late"
 
 
-def try_signals():
+def try_signals() -> None:
     """What a signal finds is whole; the mask and the handlers are afterwards what they were."""
     at = room("deliver signals")
     out, module = made(at), loaded()
-    came = []
+    came: list[bytes] = []
     before = signal.signal(signal.SIGTERM, lambda *_: came.append(get(out)))
     try:
         real_write = os.write
 
-        def write(file, given):
+        def write(file: int, given: Any) -> int:
             os.kill(os.getpid(), signal.SIGTERM)
             return real_write(file, given[:1000])
 
@@ -537,7 +557,7 @@ def try_signals():
     says("a limit that kills", ran(out, most=1000), "EFBIG", holds(out, OLD), only(at, "out", "limited"))
 
 
-def change(at):
+def change(at: str) -> None:
     """OUT is a link, a file or a pipe, and another one each time."""
     for turn in range(1 << 30):
         with contextlib.suppress(OSError):
@@ -550,7 +570,7 @@ def change(at):
             os.replace(f"{at}/next", f"{at}/out")
 
 
-def try_changing():
+def try_changing() -> None:
     """Somebody changes OUT all the time: nothing is written through it, and nothing waits."""
     at = room("deliver changing")
     precious = put(at, "precious", b"precious")

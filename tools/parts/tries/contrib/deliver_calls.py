@@ -11,6 +11,8 @@ import stat
 import subprocess
 import sys
 import tempfile
+from collections.abc import Iterator
+from typing import NamedTuple
 
 from .deliver import ACL, MODULE, NEW, NOBODY, OLD, acl_of, listed, shut
 from .rooms import LIMIT, Tries, can_trace, check, get, put
@@ -47,8 +49,16 @@ try:
 except OSError as error:
     sys.exit(3)
 """
+
+
 # Whether OUT can be replaced in one step, whether its bytes stand beside before it is written, and who writes it.
-Setting = collections.namedtuple("Setting", "in_one_step beside user old", defaults=(True, True, 0, OLD))
+class Setting(NamedTuple):
+    in_one_step: bool = True
+    beside: bool = True
+    user: int = 0
+    old: bytes | None = OLD
+
+
 SETTINGS = {
     "one name": Setting(),
     "no file": Setting(old=None),
@@ -69,7 +79,7 @@ LISTED = listed(6, 6, 0, 6, 0)
 class Room:
     """A folder in which OUT stands as a setting has it."""
 
-    def __init__(self, name):
+    def __init__(self, name: str) -> None:
         self.name, self.setting = name, SETTINGS[name]
         self.home = tempfile.mkdtemp(dir=Tries.folder)
         os.chmod(self.home, 0o711)
@@ -84,7 +94,7 @@ class Room:
         self.known = {os.path.basename(self.out), os.path.basename(self.real)}
         self.set_up()
 
-    def set_up(self):
+    def set_up(self) -> None:
         if "a link" in self.name:
             os.symlink("real", self.out)
         elif self.name == "an ACL":
@@ -102,14 +112,14 @@ class Room:
         elif self.name == "an immutable folder":
             shut(self.at, "+", "i")
 
-    def end(self):
+    def end(self) -> None:
         if self.name == "a mount point":
             subprocess.run(["umount", "-l", self.out], capture_output=True)
         elif self.name == "an immutable folder":
             shut(self.at, "-", "i")
         shutil.rmtree(self.home, ignore_errors=True)
 
-    def run(self, injected=None):
+    def run(self, injected: str | None = None) -> tuple[int, list[str], str]:
         """How it ended, and its calls."""
         words = ["strace", "-qq", "-f", "-s", "0", "-o", f"{self.home}/log", "-e", f"trace={CALLS}"]
         words += [] if "signal" in (injected or "") else ["--seccomp-bpf"]  # (no signal comes by that)
@@ -122,13 +132,13 @@ class Room:
         status = done.returncode if done.returncode < 128 else 128 - done.returncode
         return status, get(self.home, "log").decode("utf8", "replace").splitlines(), told
 
-    def wrong(self, status, injected, told):
+    def wrong(self, status: int, injected: str | None, told: str) -> str | None:
         """What is wrong with what a run left, or None."""
         parts = {name: get(self.at, name) for name in os.listdir(self.at) if name not in self.known}
         out = get(self.out) if os.path.exists(self.out) else None
         signal_of = re.search("signal=(SIG[A-Z]+)", injected or "")
-        is_killed = bool(signal_of) and signal_of[1] == "SIGKILL"
-        is_unlink = bool(injected) and injected.startswith("unlink")
+        is_killed = signal_of is not None and signal_of[1] == "SIGKILL"
+        is_unlink = injected is not None and injected.startswith("unlink")
         whole = NEW in parts.values()
         is_lost = out not in (self.setting.old, NEW) and not (whole and not self.setting.in_one_step)
         if is_lost and not (is_killed and not self.setting.beside):
@@ -136,7 +146,7 @@ class Room:
         if status not in (0, 3) and not signal_of or "Traceback" in told:
             return f"status {status} {told[-300:]}"
         if status == 0 and (out != NEW or parts and not is_unlink):
-            return f"status 0, {out and len(out)} bytes, beside {[*parts]}"
+            return f"status 0, {out and len(out)!r} bytes, beside {[*parts]}"
         if any(
             not name.startswith(f"{os.path.basename(self.real)}.") for name in parts if self.real.startswith(self.at)
         ):
@@ -145,7 +155,7 @@ class Room:
             return f"left beside: {[*parts]}"
         return self.wrong_rights(parts)
 
-    def wrong_rights(self, parts):
+    def wrong_rights(self, parts: dict[str, bytes]) -> str | None:
         old = 0o666 if self.setting.user or self.setting.old is None else MODE
         paths = [self.out] * os.path.exists(self.out) + [f"{self.at}/{name}" for name in parts]
         for path in paths:
@@ -167,7 +177,7 @@ class Room:
         return None
 
 
-def tried(name, injected=None):
+def tried(name: str, injected: str | None = None) -> tuple[str | None, list[str]]:
     """What is wrong, and the calls."""
     one = Room(name)
     try:
@@ -179,8 +189,9 @@ def tried(name, injected=None):
         one.end()
 
 
-def faults_of(log):
+def faults_of(log: list[str]) -> Iterator[str]:
     """Each call after the answer was read, failed and ended."""
+    counts: collections.Counter[str]
     counts, begun = collections.Counter(), False
     for line in log:
         call = re.match(r"\d+ +([a-z_0-9]+)\(", line)
@@ -193,7 +204,7 @@ def faults_of(log):
         begun = begun or BEGINS in line
 
 
-def order_wrong(name, log):
+def order_wrong(name: str, log: list[str]) -> str | None:
     """What is wrong with the order of the calls of a run that was left alone: the part is nobody else's when it is
     made, and it is whole and on the disk before it takes OUT's place.
     """
@@ -211,7 +222,7 @@ def order_wrong(name, log):
     return None
 
 
-def try_calls():
+def try_calls() -> None:
     if not can_trace():
         print("tools/try contrib: no strace here, or it may not trace: no calls are failed", file=sys.stderr)
         return

@@ -3,19 +3,20 @@ import hashlib
 import os
 import pty
 import subprocess
+from typing import Any
 
-from .rooms import ESC, HEAD, LISTING, NAMES, TOOLS, Tries, assembled, check, is_one_line, put, room, shell, tool
+from .rooms import ESC, HEAD, LISTING, NAMES, TOOLS, Ended, Tries, assembled, check, is_one_line, put, room, shell, tool
 
 # A method of 73 labels, and the same with one instruction more at its begin.
 LABELS = "".join(f":L{2 * n}\nif-eqz v0 :L{(14 * n + 2) % 144}\nnop\n" for n in range(73))
 METHOD = b"class LA; 0x1\ndirect m ()V 0x9\ncode 1 0 0\n%sreturn-void\nend code\nend class\n"
 
 
-def diff(at, *words, **options):
+def diff(at: str, *words: str, **options: Any) -> Ended:
     return tool("dexasm-diff", *words, at=at, **options)
 
 
-def terminal(at, env, *words):
+def terminal(at: str, env: dict[str, str], *words: str) -> str:
     """What is shown on a terminal."""
     reads, writes = pty.openpty()
     subprocess.run(
@@ -27,7 +28,7 @@ def terminal(at, env, *words):
     return shown
 
 
-def try_programs():
+def try_programs() -> None:
     at = room("diff")
     put(at, "a.dex", assembled(LISTING))
     put(at, "a.txt", LISTING)
@@ -57,8 +58,9 @@ def try_programs():
     )
 
 
-def try_labels():
+def try_labels() -> None:
     """Labels are numbered one after the other; a text stays as it is."""
+    out: Ended | str
     at = room("diff labels")
     put(at, "labels", HEAD + METHOD % LABELS.encode())
     put(at, "nop", HEAD + METHOD % (b"nop\n" + LABELS.encode()))
@@ -80,7 +82,7 @@ def try_labels():
     check("dexasm-diff, its labels", '":L7 \\u001b[31m"\n:L0\nnop\ngoto :L0\n' in out, out)
 
 
-def try_order():
+def try_order() -> None:
     """Another order, other flags, colours."""
     at = room("diff order")
     put(at, "order", HEAD + b"class LB; 0x1\nend class\nclass LA; 0x1\nend class\n")
@@ -102,11 +104,13 @@ def try_order():
         f"{ESC}[31m-class LB; 0x1{ESC}[0m\n" in colors and ESC not in diff(at, "order", "flags")[1],
         colors,
     )
-    on_terminal, without = (terminal(at, {**Tries.env, **env}, "order", "flags") for env in ({}, {"NO_COLOR": "1"}))
+    on_terminal, without = (
+        terminal(at, {**Tries.env, **env}, "order", "flags") for env in (dict[str, str](), {"NO_COLOR": "1"})
+    )
     check("dexasm-diff, colours on a terminal", f"{ESC}[31m-class" in on_terminal and ESC not in without, on_terminal)
 
 
-def try_trouble():
+def try_trouble() -> None:
     """Whatever goes wrong is 2, and never 'the same'."""
     at, file = room("diff trouble"), assembled(LISTING)
     put(at, "a.dex", file)
@@ -132,7 +136,7 @@ def try_trouble():
         check(f"dexasm-diff {words!r}", seen[:2] == (2, "") and is_one_line(seen[2], "dexasm-diff: "), seen)
 
 
-def try_usage():
+def try_usage() -> None:
     """Words that it doesn't take."""
     at = room("diff usage")
     put(at, "a.dex", assembled(LISTING))
@@ -152,7 +156,7 @@ def try_usage():
         )
 
 
-def try_commands():
+def try_commands() -> None:
     """Where dexasm isn't there, or is killed."""
     at, file = room("diff commands"), assembled(LISTING)
     put(at, "a.dex", file)
@@ -175,7 +179,7 @@ def try_commands():
     )
 
 
-def try_names():
+def try_names() -> None:
     """Names of files that a terminal or a parser of words could take for something else."""
     at, file = room("diff names"), assembled(LISTING)
     put(at, "a.dex", file)

@@ -4,6 +4,8 @@ import json
 import re
 import struct
 import zlib
+from collections.abc import Iterable
+from typing import Any
 
 from .lint import replaced, stricter_files
 from .rooms import ESC, HEAD, LISTING, TOP, assembled, check, get, is_one_line, put, room, run, shell, tool, Tries
@@ -13,7 +15,7 @@ NUMBERS = sorted({int(number) for number in re.findall(r"^\| (\d+) \| [A-Z]\w+ \
 CLASS = b"class LA; 0x1\nsuper Ljava/lang/Object;\n"
 
 
-def explained(at, words, given):
+def explained(at: str, words: Iterable[str], given: bytes) -> str:
     """What is told of a file by the line that dexasm told."""
     put(at, "file", given)
     told = run([Tries.program, *words, "file"], at=at)[2]
@@ -22,17 +24,17 @@ def explained(at, words, given):
     return out
 
 
-def says(what, at, words, given, *wants):
+def says(what: str, at: str, words: Iterable[str], given: bytes, *wants: str) -> None:
     out = explained(at, words, given)
     check(f"dexasm-explain, {what}", all(want in out for want in wants), out)
 
 
-def closed(file):
+def closed(file: bytes) -> bytes:
     file = file[:12] + hashlib.sha1(file[32:]).digest() + file[32:]
     return file[:8] + struct.pack("<I", zlib.adler32(file[12:])) + file[12:]
 
 
-def try_files():
+def try_files() -> None:
     at, file = room("explain files"), assembled(LISTING)
     for what, given, words in (
         ("nothing", b"", "the file is empty"),
@@ -65,7 +67,7 @@ def try_files():
     says("the bytes there", at, ["check"], file[:-1], "    00000020  d8 02 00 00 70", "\n              ^^\n")
 
 
-def try_rows():
+def try_rows() -> None:
     """The class of a row, and the method of a code."""
     at, text = (
         room("explain rows"),
@@ -86,7 +88,7 @@ def try_rows():
         says(what, at, ["check"], closed(bytes(changed)), f"refused {want} at ", f"\n  In {where}.\n")
 
 
-def try_members():
+def try_members() -> None:
     """The character that a name can't have, the member that stands twice, the number that is spelled too far."""
     at, stricter = room("explain members"), {what.split(": ")[1]: file for what, file, _ in stricter_files()}
     space = "the name a b has U+0020 at its character 2, which names can have since version 040 alone"
@@ -108,7 +110,7 @@ def try_members():
             check(f"dexasm-explain, {name}, other places, {end} bytes", seen[0] == 0 and seen[2] == "", seen)
 
 
-def try_lines():
+def try_lines() -> None:
     """The causes of 100, and the words of 102."""
     at, line = room("explain lines"), b"direct m ()V 0x9\ncode 2 0 0\n"
     for what, text, words in (
@@ -169,7 +171,7 @@ MEMBERS = (
 )
 
 
-def try_classes():
+def try_classes() -> None:
     """The line of a class, and of the member that is at fault, which stands between others."""
     at, good = room("explain classes"), b"direct a ()V 0x9\ncode 1 0 0\nreturn-void\nend code\nstatic f I 0x9\n"
     other = b"# first\nclass LZ; 1\ndirect m ()V 0x9\ncode 1 0 0\nreturn-void\nend code\nend class\n\n"
@@ -187,7 +189,7 @@ def try_classes():
     )
 
 
-def try_words():
+def try_words() -> None:
     """The line, the word and why: of lines and of classes, of a file that is listed, and of a text that isn't it."""
     at, line = room("explain words"), b"direct m ()V 0x9\ncode 2 0 0\n%b\nend code\nend class\n"
     for what, text, number, says_line, hint in (
@@ -212,7 +214,7 @@ def try_words():
     says("a branch by --align", at, ["assemble", "--align"], given, *wants)
 
 
-def try_other_classes():
+def try_other_classes() -> None:
     """Classes that the file doesn't have, those of a .dex file, and without dexasm."""
     at = room("explain other classes")
     check(
@@ -235,7 +237,7 @@ def try_other_classes():
     )
 
 
-def try_input():
+def try_input() -> None:
     """Lines that are none of dexasm's."""
     at = room("explain input")
     put(at, "file", LISTING)
@@ -261,7 +263,7 @@ def try_input():
     check("dexasm-explain, a name that looks like a refusal", "\n  8: " in out[1] and "\n  1: " not in out[1], out)
 
 
-def try_names():
+def try_names() -> None:
     """Names of files, and pipes that nobody reads."""
     at = room("explain names")
     put(at, "file", LISTING)
@@ -288,9 +290,10 @@ def try_names():
     )
 
 
-def try_json():
+def try_json() -> None:
     at = room("explain json")
     put(at, "file", HEAD + CLASS + b"nop, x\n")
+    told: bytes | tuple[Any, ...] | list[Any]
     told = f"{ESC}x: dexasm: refused 100 Word at 4\nok\ndexasm: refused 8 Checksum at 8\n".encode()
     status, out, said = tool("dexasm-explain", "--json", "file", given=told, at=at)
     first, second = (json.loads(line) for line in out.splitlines())
@@ -310,7 +313,7 @@ def try_json():
     check("dexasm-explain --json, a class", told == [7, 9, "LA;", "b()V", 1, "v9", ["v9 of 1 register"]], out)
 
 
-def try_others():
+def try_others() -> None:
     """Refusals of another file than the one that is named: an answer, whatever stands there."""
     at, file = room("explain others"), assembled(LISTING)
     told = "".join(
@@ -331,7 +334,7 @@ def try_others():
         check(f"dexasm-explain, another file: {name}", is_so, seen[2])
 
 
-def try_pages():
+def try_pages() -> None:
     """Each fault of the pages has a sentence that stands alone."""
     at = room("explain pages")
     told = "".join(f"dexasm: refused {number} Name at 0\n" for number in NUMBERS)

@@ -7,11 +7,12 @@ import os
 import re
 import shutil
 
+from ... import sought
 from .browse import CODE, PARTS, hostile, pages
 from .rooms import ESC, assembled, check, is_one_line, put, room, run, tool
 
 
-def try_graph():
+def try_graph() -> None:
     """The flow of a method, by hand."""
     at = room("graph")
     put(at, "a.dex", assembled(CODE))
@@ -37,7 +38,7 @@ def try_graph():
     check("dexasm-graph, the edges", edges == want, edges ^ want)
 
 
-def try_calls():
+def try_calls() -> None:
     at = room("graph calls")
     put(at, "a.dex", assembled(CODE))
     calls = json.loads(tool("dexasm-graph", "--calls", "--format", "json", "a.dex", at=at)[1])
@@ -58,7 +59,7 @@ def try_calls():
         check(f"dexasm-graph --calls --depth {depth}", len(found) == count, found)
 
 
-def try_words():
+def try_words() -> None:
     at, method = room("graph words"), "Lp/q/Hello;->get(Z)I"
     put(at, "a.dex", assembled(CODE))
     for words in (
@@ -78,8 +79,9 @@ def try_words():
         )
 
 
-def try_pictures():
+def try_pictures() -> None:
     """What graphviz makes of names and strings, where it is."""
+    texts: list[str] | str
     at = room("graph pictures")
     put(at, "a.dex", hostile())
     methods = [f"L{part};->{part}" for part in PARTS if len(part) < 256]
@@ -92,7 +94,7 @@ def try_pictures():
         texts = [html.unescape(text) for text in re.findall(r"<text[^>]*>(.*?)</text>", svg)]
         want = [
             html.unescape(line).replace('\\"', '"').replace("\\\\", "\\")
-            for line in re.search(r'n0 \[label="(.*)\\l"\]', dot)[1].split("\\l")
+            for line in sought(r'n0 \[label="(.*)\\l"\]', dot)[1].split("\\l")
         ]
         check(f"dexasm-graph, a picture of {method!r}", texts == want and "<script" not in svg, (texts, want))
     put(at, "b.dex", assembled(CODE))

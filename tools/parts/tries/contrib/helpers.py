@@ -6,6 +6,8 @@ No helper needs --library; the module for Python is tried with it and without. W
 isn't.
 TRY_PICTURES=FOLDER in the environment keeps what Chromium shows of pages, as PNG.
 """
+import argparse
+
 from ..trying import check, last_line
 from .rooms import begin, end
 from . import apk
@@ -42,7 +44,7 @@ PARTS = (
 )
 
 
-def main(given):
+def main(given: argparse.Namespace) -> int:
     begin(given.program, f"{given.library}/libdexasm.so" if given.library else "")
     try:
         for one in (one for part in PARTS for one in part.TRIES):

@@ -8,11 +8,13 @@ import struct
 import sys
 import threading
 import time
+from collections.abc import Iterable
 
-from .rooms import ESC, HEAD, LISTING, NAMES, TOP, assembled, check, dexasm, is_one_line, put, room, shell, tool
+from .rooms import ESC, HEAD, LISTING, NAMES, TOP, Ended, assembled, check, dexasm, is_one_line, put, room, shell, tool
 
 sys.path.append(os.path.join(TOP, "contrib/share/dexasm"))
 from ..oracle import examples
+from ..oracle import making
 from ..oracle import mutating
 from dexasm_dump import Dump, dump
 from dexasm_info import Readable, rows_read, sections, tables
@@ -21,8 +23,9 @@ ROW = re.compile(r"([0-9a-f]{8})  ((?:[0-9a-f]{2} )*[0-9a-f]{2})(?:  |$)")
 LARGE = 4000  # bytes of an example that takes no time
 
 
-def bytes_in(lines):
+def bytes_in(lines: Iterable[str]) -> tuple[bytes | None, int | None]:
     """The bytes that the lines of --hex have, if each begins where the one before ends, and where the first begins."""
+    first: int | None
     found, first = b"", None
     for line in lines:
         row = ROW.match(line)
@@ -34,12 +37,12 @@ def bytes_in(lines):
     return found, first
 
 
-def of_examples():
+def of_examples() -> list[tuple[str, bytes, tuple[str, int] | None]]:
     """Each worked example: what it shows, its bytes, and its fault or None."""
     return [(said, data, answer) for said, data, answer in examples.examples()]
 
 
-def try_page():
+def try_page() -> None:
     """The fields of a small file, as the page "Dalvik Executable format" names them, and what stands in it."""
     at = room("info")
     put(at, "one.dex", examples.ONE_METHOD)
@@ -74,10 +77,10 @@ def try_page():
           == sum(told["bytes"].values()) == told["file"]["size"] == 376, told)
 
 
-def try_program():
+def try_program() -> None:
     """Two files of one program have one hash, that of what strip writes."""
     at, one = room("info program"), examples.ONE_METHOD
-    other = examples.closed(one + bytes(8))
+    other = making.closed(one + bytes(8))
     other = examples.changed(other, (0x20, struct.pack("<I", len(other)).hex()))
     stripped = hashlib.sha256(dexasm("strip", given=one)).hexdigest()
     for name, data in (("one", one), ("other", other)):
@@ -90,7 +93,7 @@ def try_program():
     check("dexasm-info, what strip takes", "  strip    takes 8 bytes away (2.1 %), leaves 376\n" in out, out)
 
 
-def try_limits():
+def try_limits() -> None:
     """What can still be named, with as many rows as there may be: the counts of the header are all that is asked."""
     data = bytearray(examples.NO_CLASSES)
     for place, count in ((56, 65537), (64, 65535), (72, 0), (80, 65536), (88, 65000)):
@@ -100,7 +103,7 @@ def try_limits():
     check("dexasm-info, what can still be named", left == want, left)
 
 
-def try_each_byte():
+def try_each_byte() -> None:
     """Of each example and of random programs every byte once, whatever is shared, cut or left over."""
     given = [(said, data) for said, data, fault in of_examples() if fault is None and len(data) < LARGE]
     rng = random.Random(5)
@@ -122,7 +125,7 @@ def try_each_byte():
               and bytes_in(seen[1].splitlines())[0] == data, seen[2])
 
 
-def try_faults():
+def try_faults() -> None:
     """A refused file of every fault: its bytes once, the fault marked at its place, and no word of a program."""
     at, asked = room("info faults"), set()
     for said, data, fault in of_examples():
@@ -145,7 +148,7 @@ def try_faults():
         check(f"dexasm-info, {name}", is_so and line and json.loads(told[1])["refused"]["name"] == name, plain)
 
 
-def try_rows():
+def try_rows() -> None:
     """Which rows of a refused file can be read: those that lie in it and lead to what they name."""
     one = examples.ONE_METHOD
     for said, data, table, want in (
@@ -166,8 +169,9 @@ def try_rows():
     check("dexasm-info, the class list", row == [want], row)
 
 
-def try_cut():
+def try_cut() -> None:
     """Cut at each length, and each number of a small file as large as it can be: nothing but what can be read."""
+    wrong: list[int | tuple[int, str]]
     file, wrong = examples.ONE_METHOD, []
     large = [file[:at] + b"\xff" * 4 + file[at + 4 :] for at in range(0, len(file) - 3, 4)]
     for data in (*(file[:length] for length in range(len(file))), *large):
@@ -181,7 +185,7 @@ def try_cut():
     check("dexasm-info, cut and changed anywhere", not wrong, wrong[:5])
 
 
-def try_overlap():
+def try_overlap() -> None:
     """Tables that lie on each other, on the header and on the map: each byte is said once."""
     file = assembled(LISTING)
     for place in (60, 68, 76, 84, 92, 100, 52, 108):
@@ -191,7 +195,7 @@ def try_overlap():
             check(f"dexasm-info --hex, the offset at {place} is {to}", found == data, len(found or b""))
 
 
-def strings(count, at=None):
+def strings(count: int, at: int | None = None) -> bytes:
     """A file of so many strings; with `at` all are one text, which is as long as the file."""
     rows = 112 + 4 * count
     texts = [b"\4" + b"%04x" % n + b"\0" for n in range(count)] if at is None else [b"\xff\xff\x03" + b"x" * 8 * count]
@@ -201,7 +205,7 @@ def strings(count, at=None):
     return head + bytes(112 - len(head)) + data
 
 
-def try_linear():
+def try_linear() -> None:
     """60,000 strings, also all of them one text without an end: the time grows with the file."""
     for said, at, want in (("strings", None, 60000), ("one text", 112 + 4 * 60000, 0)):
         data, begin = strings(60000, at), time.process_time()
@@ -215,9 +219,10 @@ def try_linear():
     check("dexasm-info, a long text 20,000 times is let be", 0 < read < 1000, read)
 
 
-def try_names():
+def try_names() -> None:
     """What a terminal obeys, in names of files and in what is read."""
     at, value = room("info names"), b'string "\\u001b[31m\\u202e\\u000a"'
+    seen: Ended | str
     text = assembled(HEAD + b"class LA; 1\nstatic s I 1 = " + value + b"\nend class\n")
     bad = text.replace(b"LA;", b"L\x1b\n")
     put(at, "good.dex", text)
@@ -239,7 +244,7 @@ def try_names():
     check("dexasm-info, a refused file of such a name", seen[0] == 1 and told, seen)
 
 
-def try_ends():
+def try_ends() -> None:
     at, file = room("info ends"), assembled(LISTING)
     put(at, "a.dex", file)
     put(at, "a.apk", b"PK\3\4" + bytes(300))
@@ -269,7 +274,7 @@ def try_ends():
         check(f"dexasm-info, dexasm that does {dies}", seen[:2] == (status, "") and told, seen)
 
 
-def try_streams():
+def try_streams() -> None:
     """Standard input, with and without -, a FIFO, and a pipe that nobody reads."""
     at, file = room("info streams"), assembled(LISTING)
     put(at, "a.dex", file)
@@ -288,7 +293,7 @@ def try_streams():
     check("dexasm-info, nobody reads, a full disk", seen[1] == "0\n3\n" and seen[2].count("\n") == 1, seen)
 
 
-def try_range():
+def try_range() -> None:
     """A range has exactly its bytes."""
     at, file = room("info range"), assembled(LISTING)
     put(at, "a.dex", file)

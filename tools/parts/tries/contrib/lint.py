@@ -9,6 +9,7 @@ import itertools
 import os
 import re
 import struct
+from collections.abc import Callable, Iterator
 
 from .close import resigned
 from .rooms import ESC, HEAD, NAMES, TOP, assembled, check, dexasm, get, is_one_line, put, room, shell, tool
@@ -25,8 +26,11 @@ IGNORED_OF_METHODS = 0xFFFF & ~0x1DFF
 IGNORED_OF_FIELDS = 0xFFFF & ~(0xDF | SYNTHETIC | ENUM)
 ALL = 165  # cases of ART's test
 
+Body = tuple[int, str]  # a class's flags and its members
+Flags = int | tuple[int, None]  # of a method, which with None has no code
 
-def methods(flags=PUBLIC, **changed):
+
+def methods(flags: int = PUBLIC, /, **changed: Flags) -> Body:
     """The class MethodFlags: a change is a method's flags, or these and None where it has no code."""
     of = {"clinit": CONSTRUCTOR | STATIC, "init": CONSTRUCTOR | PUBLIC, "foo": PRIVATE, "bar": PUBLIC} | changed
     lines = []
@@ -38,26 +42,26 @@ def methods(flags=PUBLIC, **changed):
     return flags, "".join(lines)
 
 
-def interface(foo, has_code=False):
+def interface(foo: int, has_code: bool = False) -> Body:
     """The interface InterfaceMethodFlags."""
     clinit = f"direct <clinit> ()V {CONSTRUCTOR | STATIC:#x}\n{CODE.replace('1 1', '1 0')}"
     return PUBLIC | INTERFACE | ABSTRACT, f"{clinit}virtual foo ()V {foo:#x}\n{CODE * has_code}"
 
 
-def fields(foo=PUBLIC, bar=PUBLIC | STATIC):
+def fields(foo: int = PUBLIC, bar: int = PUBLIC | STATIC) -> Body:
     """The class FieldFlags."""
     return PUBLIC, f"instance foo I {foo:#x}\nstatic bar I {bar:#x}\n"
 
 
-def interface_field(flags, kind="static"):
+def interface_field(flags: int, kind: str = "static") -> Body:
     return PUBLIC | INTERFACE | ABSTRACT, f"{kind} foo I {flags:#x}\n"
 
 
-def named(kind, name, proto, flags, code=CODE):
+def named(kind: str, name: str, proto: str, flags: int, code: str = CODE) -> Body:
     return PUBLIC, f"{kind} {name} {proto} {flags:#x}\n{code}"
 
 
-def sums(*bits):
+def sums(*bits: int) -> list[int]:
     """Each sum of some of the bits."""
     return [sum(some) for count in range(1, len(bits) + 1) for some in itertools.combinations(bits, count)]
 
@@ -65,7 +69,7 @@ def sums(*bits):
 BOTH = ("clinit", "init")
 FIXED = {"clinit": CONSTRUCTOR | STATIC, "init": CONSTRUCTOR | PUBLIC, "foo": PRIVATE, "bar": PUBLIC}
 INTERFACE_FIELD = PUBLIC | STATIC | FINAL
-ROWS = (
+ROWS: tuple[tuple[str, str, int, str | None, list[Body]], ...] = (
     ("InitCachingWithUnicode", "OK", 1, None,
      [named("direct", r"\u00e9\ud83d\ude00", "()V", STATIC, CODE.replace("1 1", "1 0"))]),
     ("MethodAccessFlagsBase", "OK", 1, None, [methods(), methods(foo=PRIVATE | DECLARED_SYNCHRONIZED)]),
@@ -173,17 +177,18 @@ ROWS = (
 )  # fmt: skip
 
 
-def lines_by_class(out):
+def lines_by_class(out: str) -> dict[str | None, set[str | None]]:
     """The rules that were told of each class."""
-    told = {}
+    told: dict[str | None, set[str | None]] = {}
     for line in out.splitlines():
         found = re.fullmatch(r"cases\.dex: (L\w+;)(?:->\S+)?: ([a-z-]+): .* \(dex-format, \w+\)", line)
-        told.setdefault(found and found[1], set()).add(found and found[2])
+        told.setdefault(found[1] if found else None, set()).add(found[2] if found else None)
     return told
 
 
-def try_cases():
+def try_cases() -> None:
     """Each case alone is refused where ART refuses it, for its reason, and not where ART takes it."""
+    wants: dict[str, tuple[str, str | None]]
     at, text, wants = room("lint cases"), [HEAD.decode()], {}
     for number, (test, about, count, rule, cases) in enumerate(ROWS):
         check(f"dexasm-lint, as many cases of {test}: {about}", len(cases) >= count, len(cases))
@@ -238,13 +243,14 @@ MAP_OFF, STRINGS, TYPES, PROTOS, FIELDS, METHODS, CLASSES = 52, 60, 68, 76, 84, 
 class Patched:
     """A file that is changed in place and closed anew."""
 
-    def __init__(self):
+    def __init__(self) -> None:
         self.file = bytearray(assembled(TEXT))
 
-    def offset(self, field):
-        return struct.unpack_from("<I", self.file, field)[0]
+    def offset(self, field: int) -> int:
+        at: int = struct.unpack_from("<I", self.file, field)[0]
+        return at
 
-    def type_of(self, name):
+    def type_of(self, name: bytes) -> int:
         """The index of a type: strings and types are few, so their rows are walked."""
         for index in range(self.offset(TYPES - 4)):
             string = struct.unpack_from("<I", self.file, self.offset(TYPES) + 4 * index)[0]
@@ -253,19 +259,22 @@ class Patched:
                 return index
         raise KeyError(name)
 
-    def closed(self):
+    def closed(self) -> bytes:
         file = bytes(self.file)
         return resigned(file, hashlib.sha1(file[32:]).digest())
 
 
-def with_number(place, form, number):
+Place = Callable[[Patched], int]  # in a file
+
+
+def with_number(place: int | Place, form: str, number: int) -> bytes:
     """The file with another number at a place, which may depend on the file."""
     one = Patched()
     struct.pack_into(form, one.file, place(one) if callable(place) else place, number)
     return one.closed()
 
 
-def swapped(field, row, size):
+def swapped(field: int, row: int, size: int) -> bytes:
     """The file with two rows of a table in the other order."""
     one = Patched()
     at = one.offset(field) + row * size
@@ -273,14 +282,14 @@ def swapped(field, row, size):
     return one.closed()
 
 
-def with_super(name):
+def with_super(name: bytes) -> bytes:
     """LA with another superclass."""
     one = Patched()
     struct.pack_into("<I", one.file, one.offset(CLASSES) + 8, one.type_of(name))
     return one.closed()
 
 
-def with_interface(name):
+def with_interface(name: bytes) -> bytes:
     """LA with another interface than LZ."""
     one = Patched()
     list_ = struct.unpack_from("<I", one.file, one.offset(CLASSES) + 12)[0]
@@ -288,7 +297,7 @@ def with_interface(name):
     return one.closed()
 
 
-def replaced(old, new):
+def replaced(old: bytes, new: bytes) -> bytes:
     """The file with other bytes, which it has once."""
     one = Patched()
     check(f"dexasm-lint, {old!r} is there once", one.file.count(old) == 1, one.file.count(old))
@@ -296,18 +305,18 @@ def replaced(old, new):
     return one.closed()
 
 
-def map_entry(number):
+def map_entry(number: int) -> Place:
     return lambda one: one.offset(MAP_OFF) + 4 + 12 * number
 
 
-def code(one):
+def code(one: Patched) -> int:
     """Where the only code is."""
     return one.file.index(struct.pack("<HHHHII", 2, 0, 0, 0, 0, 21))
 
 
-def changed_files():
+def changed_files() -> Iterator[tuple[str, bytes, int | None]]:
     """Of each file that a listing can't say: its test or rule, its bytes, and dexasm's fault of it, or None."""
-    row = lambda field, by: lambda one: one.offset(field) + by
+    row: Callable[[int, int], Place] = lambda field, by: lambda one: one.offset(field) + by
     plain = Patched().closed()
     yield from ((f"Checksum {number}", plain, None) for number in range(4))
     # (neither looks at debug information, which ART refuses)
@@ -328,7 +337,7 @@ def changed_files():
     yield from stricter_files()
 
 
-def stricter_files():
+def stricter_files() -> Iterator[tuple[str, bytes, int]]:
     """The rules in which dexasm is stricter than ART 14."""
     plain = Patched().closed()
     yield "stricter: order of classes", swapped(CLASSES, 0, 32), 42
@@ -342,7 +351,7 @@ def stricter_files():
     yield "stricter: a signature of zeros", resigned(plain, bytes(20)), 9
 
 
-def try_changed():
+def try_changed() -> None:
     """Files that a listing can't say: with dexasm's own refusal, or fine."""
     at, wants = room("lint files"), []
     for number, (what, file, fault) in enumerate(changed_files()):
@@ -359,7 +368,7 @@ def try_changed():
         check(f"dexasm-lint, {what}", seen == ((str(fault), False) if fault else (None, True)), seen)
 
 
-def try_hostile():
+def try_hostile() -> None:
     """Texts that look like lines, names as long as they can be, marks that turn a terminal's direction."""
     at, long = room("lint hostile"), "m" * 65535
     evil = r"\u2066\u061c"
@@ -392,20 +401,21 @@ end code
     check("dexasm-lint, names of files", (status, said) == (0, "") and is_so, (status, out, said))
 
 
-def try_words():
+def try_words() -> None:
     """What can't be read, and words that are wrong; the other files go on."""
     at = room("lint words")
     put(at, "ok.txt", HEAD)
     put(at, "four", b"#!/bin/sh\nexit 4\n")
     os.chmod(os.path.join(at, "four"), 0o755)
     four, none = {"DEXASM_COMMAND": os.path.join(at, "four")}, {"DEXASM_COMMAND": "no/ne"}
-    for words, status, env in (
+    rows: tuple[tuple[tuple[str, ...], int, dict[str, str]], ...] = (
         (("none", "ok.txt"), 3, {}),
         ((".", "ok.txt"), 3, {}),
         (("", "ok.txt"), 3, {}),
         (("ok.txt",), 4, four),
         (("ok.txt",), 3, none),
-    ):
+    )
+    for words, status, env in rows:
         got = tool("dexasm-lint", *words, at=at, **env)
         is_so = got[0] == status and got[1] == "ok.txt: ok\n" * (len(words) - 1)
         check(f"dexasm-lint {words} {env}", is_so and is_one_line(got[2], "dexasm-lint: "), got)
@@ -419,7 +429,7 @@ def try_words():
     check("dexasm-lint, nobody to tell", got[1] == "3\n" and is_one_line(got[2], "dexasm-lint: "), got)
 
 
-def try_page():
+def try_page() -> None:
     """docs/VERIFIERS.md and the help have each rule, and no other, and a case of each is tried."""
     own = tool("dexasm-lint", "--help")[1].partition("With --code")[0]
     rules = re.findall(r"^  ([a-z][a-z-]+)  ", own, re.M)

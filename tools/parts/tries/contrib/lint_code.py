@@ -5,11 +5,15 @@ A row of ROWS has the rule, the method and its code, a line between two slashes.
 breaks the rule and what stands there in the code that keeps it, maybe nothing. A method is static, but `<init>` and one
 with `this` before it. LT; is its class, a subclass of LB;; classes LX; aren't in the file.
 """
+from __future__ import annotations
+
 import itertools
 import json
 import os
 import re
 import sys
+from collections.abc import Iterable, Iterator
+from typing import TYPE_CHECKING, Any
 
 from .rooms import ESC, HEAD, TOP, Tries, assembled, check, dexasm, get, put, room, tool
 
@@ -21,8 +25,13 @@ from dexasm_classes import Classes
 from dexasm_contrib import module
 from dexasm_steps import step_of
 
+if TYPE_CHECKING:
+    from dexasm.code import Insn
+    from dexasm_asks import Line
+
+Row = tuple[Any, ...]  # rule, method, code, and of some the number of the instruction that is told of
 PUBLIC, STATIC, CONSTRUCTOR = 0x1, 0x8, 0x10001
-ROWS = (
+ROWS: tuple[Row, ...] = (
     ("register-kind", "(ILjava/lang/String;)V 3 2 0", "add-int v0 v1 v2 => add-int v0 v1 v1 / return-void"),
     ("register-kind", "(F)V 2 1 0", "neg-int v0 v1 => neg-float v0 v1 / return-void"),
     ("register-kind", "(JD)V 6 4 0", "add-long v0 v2 v4 => add-long v0 v2 v2 / return-void"),
@@ -262,17 +271,17 @@ end class
 """
 
 
-def side(text, at):
+def side(text: str, at: int) -> str:
     """The wrong code of a row's text, or the right one."""
     return " / ".join(part.split(" => ")[at] if " => " in part else part for part in text.split(" / "))
 
 
-def listing(at, rows=ROWS):
+def listing(at: int, rows: Iterable[tuple[int, Row]] = ROWS) -> str:  # type: ignore[assignment]  # (all give theirs)
     """A class for each row, with its code that is wrong (at 0) or right (at 1)."""
     return HEAD.decode() + WORLD + "".join(class_of(number, head, code, at) for number, (_, head, code, *_) in rows)
 
 
-def class_of(number, head, code, at):
+def class_of(number: int, head: str, code: str, at: int) -> str:
     words = head.partition(" => ")
     sizes = words[2] if at and words[1] else " ".join(words[0].split()[-3:])
     names = words[0].split()[:-3]
@@ -286,27 +295,28 @@ def class_of(number, head, code, at):
     return CLASS.format(f"T{number}", text)
 
 
-def place_of(row):
+def place_of(row: Row) -> int | None:
     """The number of the instruction of a row that is told of."""
     if len(row) > 3:
-        return row[3]
+        place: int = row[3]
+        return place
     lines = [line for line in row[2].split(" / ") if not line.startswith((":", "try", "catch"))]
     return next((at for at, line in enumerate(lines) if " => " in line), None)
 
 
-def lint(text, *words, at):
+def lint(text: str, *words: str, at: str) -> tuple[int | str, list[dict[str, Any]], str]:
     """What --json tells of a listing."""
     put(at, "a.txt", text.encode())
     status, out, said = tool("dexasm-lint", "--code", "--json", *words, "a.txt", at=at)
     return status, [json.loads(line) for line in out.splitlines()], said
 
 
-def try_rows():
+def try_rows() -> None:
     """Each rule: what breaks it is told, at its place and once, and what keeps it isn't."""
     at, rows = room("lint code"), [*enumerate(ROWS)]
     status, told, said = lint(listing(0, rows), at=at)
     check("dexasm-lint --code, wrong codes", (status, said) == (1, ""), (status, said))
-    found = {}
+    found: dict[str, list[tuple[str, int]]] = {}
     for one in told:
         found.setdefault(one["class"], []).append((one["rule"], one["instruction"]))
     for number, row in rows:
@@ -322,7 +332,7 @@ def try_rows():
 END = " / return-void"
 
 
-def try_loops():
+def try_loops() -> None:
     """What is wrong is told in a loop too, to whose beginning the register comes back as one that was told of."""
     rows = [
         (number, (rule, head, f":again / {text[: -len(END)]} / goto/32 :again", *more))
@@ -330,7 +340,7 @@ def try_loops():
         if text.endswith(END) and text[0] != ":" and rule != "constructor-return"
     ]
     _, told, said = lint(listing(0, rows), at=room("lint loops"))
-    found = {}
+    found: dict[str, set[int]] = {}
     for one in told:
         found.setdefault(one["class"], set()).add(one["instruction"])
     check("dexasm-lint --code, loops", len(rows) > 60 and said == "", (len(rows), said))
@@ -338,7 +348,7 @@ def try_loops():
         check(f"dexasm-lint --code, a loop of {row}", place_of(row) in found.get(f"LT{number};", ()), found)
 
 
-def try_fine():
+def try_fine() -> None:
     """What a device takes isn't told of."""
     rows = [(number, ("", head, text)) for number, (head, text) in enumerate(FINE)]
     status, told, said = lint(listing(1, rows), at=room("lint fine"))
@@ -349,11 +359,11 @@ def try_fine():
 # ---- what an instruction takes, by its name
 
 TYPES = {"int": (kinds.INT,), "float": (kinds.FLOAT,), "long": kinds.LONG, "double": kinds.DOUBLE}
-GIVEN = {**TYPES, "object": (kinds.REFERENCE,), "nothing": (kinds.UNSET,)}
+GIVEN: dict[str, tuple[kinds.Kind, ...]] = {**TYPES, "object": (kinds.REFERENCE,), "nothing": (kinds.UNSET,)}
 NARROW = {"byte": kinds.BYTE, "char": kinds.CHAR, "short": kinds.SHORT}
 
 
-def named_insns():
+def named_insns() -> Iterator[tuple[str, tuple[str, ...], str]]:
     """Each instruction of arithmetic on "Dalvik bytecode", the types that it takes, and the type that it answers."""
     for type_ in TYPES:
         for name in ("add", "sub", "mul", "div", "rem"):
@@ -379,7 +389,7 @@ def named_insns():
     yield from ((f"{name}-switch", ("int",), "") for name in ("packed", "sparse"))
 
 
-def try_named():
+def try_named() -> None:
     """Each such instruction takes the types that its name says, and no other ones, and answers that of its name."""
     made, count = all_kinds()[0], 0
     for mnemonic, takes, answers in named_insns():
@@ -390,8 +400,9 @@ def try_named():
     check("dexasm-lint --code, instructions of arithmetic", count == 119, count)
 
 
-def is_taken(made, mnemonic, given, answers):
+def is_taken(made: kinds.Kinds, mnemonic: str, given: tuple[str, ...], answers: str) -> bool:
     """Whether an instruction takes these types, and then answers that one."""
+    told: list[Any]
     line, told = [kinds.ZERO] * 9 + [kinds.ANY], []
     for at, type_ in enumerate(given):
         line[2 * at : 2 * at + len(GIVEN[type_])] = GIVEN[type_]
@@ -404,7 +415,7 @@ def is_taken(made, mnemonic, given, answers):
     return not told and (not answers or tuple(line[at : at + len(want)]) == want)
 
 
-def of_name(mnemonic, *registers, **more):
+def of_name(mnemonic: str, *registers: int, **more: Any) -> Insn:
     sys.path.insert(0, os.path.join(TOP, "bindings/python"))
     from dexasm.code import Insn
 
@@ -416,14 +427,14 @@ def of_name(mnemonic, *registers, **more):
 PARENTS = {"LA;": "LB;", "LB;": "LC;", "LC;": None, "LD;": "LB;", "LE;": None, "[I": None, kinds.OBJECT: None}
 
 
-def all_kinds():
+def all_kinds() -> tuple[kinds.Kinds, list[kinds.Kind]]:
     """Kinds of a small program, all there are of them but for more types and more new objects."""
     made = kinds.Kinds(PARENTS.get)
     objects = [kinds.Kind("new", "", "LA;", place) for place in (1, 2)] + [kinds.Kind("this", "", "LA;")]
     return made, [*kinds.BASE, *map(made.ref, PARENTS), *objects]
 
 
-def try_laws():
+def try_laws() -> None:
     """The join is that of a lattice: no order of ways makes a difference, and a loop comes to an end."""
     made, every = all_kinds()
     join = made.join
@@ -456,11 +467,11 @@ def try_laws():
     check("kinds, ranges", [*ranges.values()] == told and kinds.constant(0) is kinds.ZERO, ranges)
 
 
-def longest(one, ups):
+def longest(one: kinds.Kind, ups: dict[kinds.Kind, list[kinds.Kind]]) -> int:
     return 1 + max((longest(up, ups) for up in ups[one] if up is not one), default=0)
 
 
-def try_monotone():
+def try_monotone() -> None:
     """What an instruction leaves only rises where what it takes does, unless something was told of the lower."""
     made, every = all_kinds()
     below = [(one, two) for one in every for two in every if made.join(one, two) is two]
@@ -472,7 +483,7 @@ def try_monotone():
         check(f"kinds, {insn} is monotone", not wrong, wrong[:3])
 
 
-def insns():
+def insns() -> Iterator[Insn]:
     """Instructions over a line of v0, and v1 and v2 that are given."""
     moves = ("move", "move-object", "move-wide", "neg-int", "neg-long", "neg-float", "neg-double", "int-to-long")
     for mnemonic in (*moves, "add-int/2addr", "xor-int/2addr", "array-length", "if-eq"):
@@ -484,7 +495,10 @@ def insns():
     yield of_name("check-cast", 1, name="LA;")
 
 
-def rises(made, insn, low, high):
+def rises(made: kinds.Kinds, insn: Insn, low: Iterable[kinds.Kind], high: Iterable[kinds.Kind]) -> bool:
+    before: list[kinds.Kind]
+    after: list[kinds.Kind]
+    is_told: list[Any]
     before, after, is_told = [], [], []
     for given, left, told in ((low, before, is_told), (high, after, [])):
         left += [kinds.ZERO, *given, kinds.ZERO, kinds.ZERO, kinds.ANY]
@@ -497,17 +511,17 @@ class Nothing:
 
     registers = 9
 
-    def __init__(self, made, told):
-        self.kinds, self.told, self.classes = made, told, Classes(Program())
+    def __init__(self, made: kinds.Kinds, told: list[Any]) -> None:
+        self.kinds, self.told, self.classes = made, told, Classes(Program())  # type: ignore[arg-type]  # (a stand-in)
 
-    def tell(self, *what):
+    def tell(self, *what: Any) -> None:
         self.told.append(what)
 
-    def wrong(self, line, register, *_):
+    def wrong(self, line: Line, register: int, *_: object) -> None:
         self.told.append(register)
         line[register] = kinds.ANY
 
-    def wrong_pair(self, line, register, *_):
+    def wrong_pair(self, line: Line, register: int, *_: object) -> None:
         self.told.append(register)
         line[register] = line[register + 1] = kinds.ANY
 
@@ -544,7 +558,7 @@ end class
 """
 
 
-def try_places():
+def try_places() -> None:
     """Line and column of a listing as somebody wrote it, in both forms; of a file the instruction and its address."""
     at = room("lint places")
     put(at, "a.txt", LISTED)
@@ -568,14 +582,14 @@ def try_places():
     check("dexasm-lint --code, the first form", got[0] == 1 and got[1].startswith("standard input:6:16: error: "), got)
 
 
-def try_forms():
+def try_forms() -> None:
     """JSON, SARIF, workers: each tells the same."""
     at = room("lint forms")
     status, told, said = lint(listing(0, [*enumerate(ROWS)]), at=at)
     plain = tool("dexasm-lint", "--code", "a.txt", at=at)[1].splitlines()
     lines = [f"a.txt:{one['line']}:{one['column']}: error: {one['why']} ({one['rule']}, {one['page']})" for one in told]
     check("dexasm-lint --code, JSON and lines", plain == lines, plain[:2])
-    seen = [one for one in told if one["page"] != dexasm_lint_code.RULES[one["rule"]] or not one["sentence"]]
+    seen: list[Any] = [one for one in told if one["page"] != dexasm_lint_code.RULES[one["rule"]] or not one["sentence"]]
     check("dexasm-lint --code, JSON's pages", told and not seen, seen[:2])
     sarif = json.loads(tool("dexasm-lint", "--code", "--sarif", "a.txt", at=at)[1])["runs"][0]
     rules = [one["id"] for one in sarif["tool"]["driver"]["rules"]]
@@ -584,14 +598,14 @@ def try_forms():
             for one, region in zip(sarif["results"], regions)]
     check("dexasm-lint --code, SARIF", seen == [(one["rule"], one["line"], one["column"], one["why"]) for one in told])
     check("dexasm-lint --code, SARIF's name", sarif["tool"]["driver"]["name"] == "dexasm-lint", sarif["tool"])
-    for env in ({}, {"DEXASM_LIBRARY": os.path.abspath(Tries.library)} if Tries.library else {}):
+    for env in (dict[str, str](), {"DEXASM_LIBRARY": os.path.abspath(Tries.library)} if Tries.library else {}):
         got = tool("dexasm-lint", "--code", "--jobs", "3", "a.txt", "a.txt", at=at, **env)
         check(f"dexasm-lint --code --jobs 3 {env}", (got[0], got[1].splitlines()) == (1, plain * 2), got[2])
     put(at, "a.dex", assembled(listing(0, [*enumerate(ROWS)]).encode()))
     sarif = json.loads(tool("dexasm-lint", "--code", "--sarif", "a.dex", at=at)[1])["runs"][0]["results"]
     names = [one["locations"][0]["logicalLocations"][0]["fullyQualifiedName"] for one in sarif]
     seen = [(name, one["message"]["text"].partition(" (0x")[0]) for name, one in zip(names, sarif)]
-    want = [("t(ILjava/lang/String;)V", "instruction 0"), ("t(F)V", "instruction 0")]
+    want: list[tuple[str | None, ...]] = [("t(ILjava/lang/String;)V", "instruction 0"), ("t(F)V", "instruction 0")]
     check("dexasm-lint --code, SARIF of a file", seen[:2] == want and len(seen) == len(ROWS), seen[:2])
     put(at, "b.txt", HEAD + b"class LA; 0x10000\nend class\n")
     put(at, "c.txt", HEAD + b"class LA; 0x1\nend class\n")
@@ -607,15 +621,15 @@ def try_forms():
 # ---- hostile files
 
 
-def code(proto, sizes, body, name="m"):
+def code(proto: str, sizes: str, body: str, name: str = "m") -> str:
     return f"direct {name} {proto} 0x9\ncode {sizes}\n{body}end code\n"
 
 
-def of_class(text, name="LA;"):
+def of_class(text: str, name: str = "LA;") -> str:
     return f"dex 035 listing 2\nclass {name} 0x1\n{text}end class\n"
 
 
-def hostile():
+def hostile() -> Iterator[tuple[str, str, int | None, str]]:
     """What, a listing, the status, and the beginning of what is told."""
     far = (min((n * 7919 + 13) % 16000 + n // 16000 * 16000, 65535) for n in range(65535))
     many = "".join(f":L{n}\nif-eqz v0 :L{to if to != n else n + 1}\n" for n, to in enumerate(far))
@@ -654,7 +668,7 @@ def hostile():
           "return-void\n")), 1, "(a.$touch, a parameter)"
 
 
-def try_hostile():
+def try_hostile() -> None:
     """None takes long, and no line has what a terminal obeys."""
     at = room("lint hostile code")
     for what, text, wanted, begin in hostile():
@@ -678,7 +692,7 @@ def try_hostile():
     check("dexasm-lint --code, a file that is refused", is_so, (status, out, said))
 
 
-def try_bounds():
+def try_bounds() -> None:
     """A method beyond what is looked at isn't called right."""
     os.environ.setdefault("DEXASM_COMMAND", Tries.program)
     program = module().Program.of_listing(dexasm("list", given=assembled(LISTED)).decode("ascii"))
@@ -692,7 +706,7 @@ def try_bounds():
         check(f"dexasm-lint --code, bounds {bounds}", told == [dexasm_lint_code.UNREAD], told)
 
 
-def try_page():
+def try_page() -> None:
     """docs/VERIFIERS.md and the help have each rule of code, the page with its numbers, and no other; each is tried."""
     helped = re.findall(r"^  ([a-z][a-z-]+)  ", tool("dexasm-lint", "--help")[1].partition("With --code")[2], re.M)
     rows = re.findall(r"^\| ([AB]\d.*?|code_item) \| `([a-z-]+)` \| ", get(TOP, "docs/VERIFIERS.md").decode(), re.M)

@@ -7,13 +7,14 @@ import os
 import random
 import shutil
 import sys
+from collections.abc import Iterator
 
 from .rooms import HEAD, TOP, Tries, assembled, check, dexasm, put, room, run
 
 sys.path.insert(0, os.path.join(TOP, "contrib/share/dexasm"))
 from dexasm_classes import Classes
 from dexasm_contrib import module
-from dexasm_kinds import Kinds
+from dexasm_kinds import Kind, Kinds
 from dexasm_verify import Method
 
 JARS = [f"/usr/share/java/{name}.jar" for name in ("dexlib2", "guava", "jsr305", "smali-util")]
@@ -50,13 +51,13 @@ INSNS = (
 )
 
 
-def words_of(insn, chance):
+def words_of(insn: str, chance: random.Random) -> str:
     """An instruction with registers at random."""
     kinds = {"A": REGISTERS, "B": REGISTERS, "C": REGISTERS, "W": REGISTERS - 1}
     return " ".join(f"v{chance.randrange(kinds[word])}" if word in kinds else word for word in insn.split(" "))
 
 
-def body(chance):
+def body(chance: random.Random) -> str:
     """A code of instructions at random, of which some are covered."""
     lines = []
     for at in range(LENGTH):
@@ -69,7 +70,7 @@ def body(chance):
     return "".join(f"{line}\n" for line in lines)
 
 
-def listing(seed):
+def listing(seed: int) -> bytes:
     chance = random.Random(seed)
     protos = [("()V", 0), ("(IF)V", 2), ("(JLX;)V", 3), ("([ID)V", 3)]
     text = ""
@@ -79,12 +80,14 @@ def listing(seed):
     return HEAD + f"class LT; 0x1\nsuper Ljava/lang/Object;\n{text}end class\n".encode()
 
 
-def theirs(at, file):
+def theirs(at: str, file: bytes) -> tuple[dict[str, list[list[int]]], set[str]]:
     """Of each method what each register holds before each instruction, and whether it is refused."""
     put(at, "a.dex", file)
     way = os.pathsep.join([*JARS, at])
     source = os.path.join(TOP, "tools/parts/tries/contrib/Registers.java")
     run(["javac", "-nowarn", "-cp", way, "-d", at, source], at=at)
+    found: dict[str, list[list[int]]]
+    lines: list[list[int]]
     found, lines, refused = {}, [], set()
     for line in run(["java", "-cp", way, "Registers", "a.dex"], at=at)[1].splitlines():
         if line[0] == "M":
@@ -97,16 +100,17 @@ def theirs(at, file):
     return found, refused
 
 
-def states(method):
+def states(method: Method) -> Iterator[tuple[int, list[Kind]]]:
     """The kinds of the registers before each instruction that a way leads to."""
     for block, line in enumerate(method.before):
         for place in range(method.starts[block], method.starts[block + 1]) if line else ():
+            assert line is not None  # (what no way leads to has no places here)
             yield place, line
             line = [*line]
             method.steps[place].run(method, method.insns[place], line, place)
 
 
-def differences(method, rows):
+def differences(method: Method, rows: list[list[int]]) -> Iterator[tuple[str, int] | None]:
     """Where two differ: kind and dexlib2's number, None where they agree. What was told of, and what dexlib2 doesn't
     know, isn't compared, nor a conflict there that comes of what was told.
     """
@@ -117,7 +121,7 @@ def differences(method, rows):
             yield (kind.base, number) if number not in NUMBERS[kind.base] else None
 
 
-def try_beside():
+def try_beside() -> None:
     if not all(map(os.path.exists, JARS)) or not shutil.which("javac") or not shutil.which("java"):
         print("tools/try contrib: dexlib2 isn't tried here: no javac, or no libsmali-java", file=sys.stderr)
         return
@@ -125,6 +129,8 @@ def try_beside():
     file = assembled(listing(20))
     found, refused = theirs(room("lint dexlib2"), file)
     program = module().Program.of_listing(dexasm("list", given=file).decode("ascii"))
+    seen: collections.Counter[tuple[str, int] | None]
+    alone: list[str]
     classes, seen, alone = Classes(program), collections.Counter(), []
     kinds = Kinds(classes.parents)
     for one in program["LT;"].directs:

@@ -4,6 +4,8 @@ twice or fits no file is refused by name, and then nothing is written.
 import os
 import re
 import sys
+from collections.abc import Iterator
+from typing import Any
 
 from .recipes import TEXT
 from .rooms import (
@@ -12,6 +14,7 @@ from .rooms import (
     LISTING,
     NAMES,
     TOP,
+    Ended,
     assembled,
     can_trace,
     check,
@@ -32,23 +35,23 @@ STRANGE = r"L\u2067a\u2060;"  # it turns what follows, and has what nobody sees
 ORDER = "@ the classes that both have stand in another order\n"
 
 
-def below(name, *above):
+def below(name: str, *above: str) -> bytes:
     """A class that needs others: the first is its superclass, the rest are interfaces."""
     words = [b"super %s\n" % above[0].encode()] if above else []
     words += [b"implements %s\n" % one.encode() for one in above[1:]]
     return b"class %s 0x1\n%send class\n" % (name.encode("ascii"), b"".join(words))
 
 
-def listing(*parts):
+def listing(*parts: bytes) -> bytes:
     return HEAD + b"".join(parts)
 
 
-def order_of(file):
+def order_of(file: bytes | None) -> list[str]:
     """The classes of a file, in their order."""
-    return re.findall(r"^class (\S+)", dexasm("list", given=file).decode(), re.M)
+    return re.findall(r"^class (\S+)", dexasm("list", given=file or b"").decode(), re.M)
 
 
-def merged(at, *texts, same=False):
+def merged(at: str, *texts: bytes, same: bool = False) -> tuple[bytes | None, Ended]:
     """What dexasm-merge makes of these listings as .dex files, and how it ended."""
     names = [f"{number}.dex" for number, _ in enumerate(texts)]
     for name, text in zip(names, texts):
@@ -59,7 +62,7 @@ def merged(at, *texts, same=False):
     return get(at, "out") if os.path.exists(os.path.join(at, "out")) else None, seen
 
 
-def refused(what, says, *texts, at, same=False):
+def refused(what: str, says: str, *texts: bytes, at: str, same: bool = False) -> None:
     """These listings are refused in this line, and nothing is written."""
     out, seen = merged(at, *texts, same=same)
     is_so = seen == (1, "", f"dexasm-merge: {says}\n") and is_one_line(seen[2], "dexasm-merge: ")
@@ -69,7 +72,7 @@ def refused(what, says, *texts, at, same=False):
 # ---- cut and joined
 
 
-def cut(at, file):
+def cut(at: str, file: bytes) -> list[bytes]:
     """The texts of a file's classes, as dexasm-split cuts it."""
     put(at, "whole.dex", file)
     seen = tool("dexasm-split", "whole.dex", "classes", at=at)
@@ -78,7 +81,7 @@ def cut(at, file):
     return [get(at, "classes", name) for name in names]
 
 
-def wholes(at):
+def wholes(at: str) -> Iterator[tuple[str, bytes]]:
     """Files to be cut, by what they are."""
     yield "as somebody wrote it", assembled(LISTING)
     yield "a recipe's", assembled(TEXT)
@@ -94,7 +97,7 @@ def wholes(at):
         yield f"the shape {shape}", get(at, "shape")
 
 
-def try_joined():
+def try_joined() -> None:
     """In runs of classes, in their order, it is the bytes of the whole file's `strip`."""
     for number, (what, file) in enumerate(wholes(room("merge shapes"))):
         at, want = room(f"merge joined {number}"), dexasm("strip", given=file)
@@ -107,7 +110,7 @@ def try_joined():
     check("dexasm-merge, on standard output", (seen[0], seen[1].encode("latin1"), seen[2]) == (0, want, ""), seen[2])
 
 
-def try_another_order():
+def try_another_order() -> None:
     """Where the cut kept no order the classes are the same, each after what it needs, and nothing else moves."""
     at = room("merge order")
     file = assembled(listing(*(below(f"Lc{n};", f"Lc{n - 1};") for n in range(60)), *classes("La;", "Lz;").split(HEAD)))
@@ -120,15 +123,16 @@ def try_another_order():
     ):
         out, seen = merged(at, *(listing(*one) for one in parts))
         differs = tool("dexasm-diff", "--names", "whole.dex", "out", at=at)
-        is_so = differs[1] == (ORDER if differs[0] else "") and dexasm("check", given=out) == b"ok\n"
+        is_so = differs[1] == (ORDER if differs[0] else "") and dexasm("check", given=out or b"") == b"ok\n"
         check(f"dexasm-merge, {what}", seen == (0, "", "") and is_so, (seen, differs))
         again, _ = merged(at, *(listing(*one) for one in parts))
         check(f"dexasm-merge, {what}, the same again", out == again)
 
 
-def try_order():
+def try_order() -> None:
     """The order by hand: as the classes are given, but what a class needs before it, superclass first."""
     at = room("merge order by hand")
+    want: str | list[str]
     for texts, want in (
         ((below("LA;", "LB;"), below("LC;") + below("LB;")), "LB; LA; LC;"),
         ((below("LA;", "LX;", "LI;", "LJ;"), below("LJ;") + below("LI;", "LJ;") + below("LK;")), "LJ; LI; LA; LK;"),
@@ -154,7 +158,7 @@ def try_order():
 # ---- refused
 
 
-def try_twice():
+def try_twice() -> None:
     """A class of two files: by name, or with --same once where it is the same."""
     at = room("merge twice")
     one, other = below("LA;"), b"class LA; 0x11\nend class\n"
@@ -183,7 +187,7 @@ def try_twice():
     check("dexasm-merge --same, a file twice", is_so, seen[2])
 
 
-def try_cycles():
+def try_cycles() -> None:
     """Superclasses and interfaces that go round over several files: by name."""
     at, says = room("merge cycles"), "a cycle of superclasses or interfaces: "
     a, b = listing(below("LA;", "LB;")), listing(below("LB;", "LA;"))
@@ -203,7 +207,7 @@ def try_cycles():
     refused("a cycle of a strange name", says, listing(below(STRANGE, "LB;")), listing(below("LB;", STRANGE)), at=at)
 
 
-def many_types(name, count):
+def many_types(name: bytes, count: int) -> bytes:
     """A class that needs so many types besides its own and V, as parameters of one method."""
     types = b"".join(b"L%s%d;" % (name, n) for n in range(count))
     return b"class L%s; 0x1\nvirtual m (%s)V 0x401\nend class\n" % (name, types)
@@ -220,7 +224,7 @@ runpy.run_path(program, run_name="__main__")
 """
 
 
-def try_limits():
+def try_limits() -> None:
     """As many types as a file can have, over two files, and one more; a string that no instruction reaches."""
     at = room("merge limits")
     out, seen = merged(at, listing(many_types(b"a", 32766)), listing(many_types(b"b", 32766)))
@@ -245,7 +249,7 @@ def try_limits():
     check("dexasm-merge, a string out of reach that isn't looked for", seen == (1, "", says), seen)
 
 
-def try_ends():
+def try_ends() -> None:
     """What is no .dex file, isn't there or can't be written: one line, and all stays as it is."""
     at = room("merge ends")
     put(at, "a.dex", assembled(classes("LA;")))
@@ -259,6 +263,7 @@ def try_ends():
     put(at, "fake", b"#!/bin/sh\nkill -11 $$\n")
     os.chmod(os.path.join(at, "fake"), 0o755)
     before = seen_in(at)
+    words: tuple[str, ...]
     for words, status, says in (
         (("a.dex", "bad.dex"), 1, "bad.dex: dexasm: refused 4 FileSize at 32"),
         (("empty", "a.dex"), 1, "empty: dexasm: refused 1 TooShort at 0"),
@@ -289,13 +294,14 @@ def try_ends():
         check(f"dexasm-merge {words!r}", is_so and seen_in(at) == before, seen)
 
 
-def try_out():
+def try_out() -> None:
     """OUT may be one of the files, a link to one, a file of several names, a pipe; names stay names."""
     at = room("merge out")
     a, b, both = (assembled(classes(*names)) for names in (("LA;",), ("LB;",), ("LA;", "LB;")))
     for out in ("a.dex", "b.dex", "link", "other"):
         put(at, "a.dex", a)
         put(at, "b.dex", b)
+        make: Any  # (mypy joins these two to what can't be called)
         for name, make in (("link", os.symlink), ("other", os.link)):
             if os.path.lexists(os.path.join(at, name)):
                 os.remove(os.path.join(at, name))
@@ -333,7 +339,7 @@ def try_out():
     check("dexasm-merge, nobody reads its answer", seen == (0, "3\n", ""), seen)
 
 
-def try_listings():
+def try_listings() -> None:
     """Listings are merged as the files that they are; debug information and annotations aren't."""
     at = room("merge listings")
     put(at, "a.txt", b"# mine\n" + classes("LA;"))
@@ -348,7 +354,7 @@ def try_listings():
     check("dexasm-merge, OUT keeps its mode", seen == (0, "", "") and mode == 0o640, (seen, oct(mode)))
 
 
-def try_ended():
+def try_ended() -> None:
     """Ended by a signal, or refused by the system, at a call: OUT is old or new, and nothing is beside it."""
     if not can_trace():
         return

@@ -9,7 +9,10 @@ import shutil
 import subprocess
 import sys
 import unicodedata
+from collections.abc import Callable, Sequence
+from typing import Any
 
+from ... import sought
 from . import browser
 from .browse import browse, numbers_of, pages, says_listing, spelled
 from .rooms import HEAD, LISTING, TOP, assembled, check, get, put, room, seen_in, tool
@@ -28,25 +31,25 @@ MOST = 2_000_000  # bytes of a page
 LETTER = 10  # pixels: the least height of letters that are read
 
 
-def class_of(name, *members):
+def class_of(name: str, *members: str) -> bytes:
     lines = "".join(f"direct {member} ()V 0x9\ncode 0 0 0\nreturn-void\nend code\n" for member in members)
     return b"class %s 0x1\n%send class\n" % (spelled(name), lines.encode("ascii"))
 
 
-def deceiving():
+def deceiving() -> bytes:
     """A file of names that look like nothing, like one another, or turned."""
     text = HEAD + class_of(HEBREW, r"\u05d6\u05d7", r"\u05d6\u06f1", r"\u06f1\u05d6")
     text += b"".join(class_of(f"Lx{char};", spelled(f"y{char}").decode()) for char in UNSEEN)
     return assembled(text + b"".join(class_of(f"L{name};") for name in ("caf\u00e9", "cafe\u0301", PILE, "w/\u0335w")))
 
 
-def shown(char):
+def shown(char: str) -> str:
     return ascii(char)[1:-1]
 
 
-def try_escaped():
+def try_escaped() -> None:
     """What is printed of a name, by the standard's own list where perl has it."""
-    wrong = [char for char in UNSEEN if escaped(f"x{char}y") != f"x{shown(char)}y"]
+    wrong: list[str] | list[int] = [char for char in UNSEEN if escaped(f"x{char}y") != f"x{shown(char)}y"]
     check("names, what nobody sees is an escape", not wrong, ascii(wrong))
     words = "for (0..0x10ffff) { print qq($_ ) if ($_ < 0xd800 || $_ > 0xdfff) && chr =~ /\\p{DI}/ }"
     if shutil.which("perl"):
@@ -62,31 +65,38 @@ class Turned(html.parser.HTMLParser):
 
     KEPT = ("bdi", "tspan", "title", "code")
 
-    def __init__(self, text):
+    def __init__(self, text: str) -> None:
         super().__init__()
+        self.inner: list[str]
+        self.found: list[str]
         self.inner, self.found = [], []
         self.feed(text)
 
-    def handle_starttag(self, tag, _):
+    def handle_starttag(self, tag: str, _: object) -> None:
         self.inner += [tag] if tag in self.KEPT else []
 
-    def handle_endtag(self, tag):
+    def handle_endtag(self, tag: str) -> None:
         if tag in self.KEPT:
             self.inner.pop()
 
-    def handle_data(self, text):
+    def handle_data(self, text: str) -> None:
         # (what is in <code> but no <bdi> is a string, which is a text and no name)
         if not self.inner and any(unicodedata.bidirectional(char) in ("R", "AL", "AN") for char in text):
             self.found.append(text)
 
 
-def try_names():
+def try_names() -> None:
     """Names that deceive, on each page and in the table."""
     at = room("pages names")
     seen = browse(at, deceiving(), name="names.dex"), tool("dexasm-size", "--html", "s.html", "names.dex", at=at)
     check("pages, names that deceive", seen[0] == (0, "", "") and seen[1][0] == 0, seen)
     pages(os.path.join(at, "out"))
-    files = {name: given.decode("utf8") for name, given in seen_in(at).items() if name.endswith((".html", ".js"))}
+    files = {
+        name: given.decode("utf8")  # type: ignore[union-attr]  # (each is a file)
+        for name, given in seen_in(at).items()
+        if name.endswith((".html", ".js"))
+    }
+    wrong: list[tuple[str, str]] | list[str]
     wrong = [(name, shown(char)) for name, text in files.items() for char in UNSEEN if char in text]
     check("pages, what nobody sees is on none", not wrong, wrong[:5])
     overview, size = files["out/index.html"], files["s.html"]
@@ -109,7 +119,7 @@ def try_names():
 # ---- pages that are cut
 
 
-def large():
+def large() -> bytes:
     """A class of 500 methods, another one that has a method of 25,000 lines, and 900 packages; names have 1,100 bytes
     on a page.
     """
@@ -126,17 +136,17 @@ def large():
     return assembled(HEAD + text.encode("ascii"))
 
 
-def listed(at):
+def listed(at: str) -> list[tuple[str, str, str]]:
     """The entries of the index: each member's name, and where it leads."""
-    found = []
+    found: list[tuple[str, str, str]] = []
     for name in os.listdir(os.path.join(at, "search")):
-        rows, _ = json.loads(f"[{re.fullmatch(r'dexasmIndex.(.*).;', get(at, 'search', name).decode().strip())[1]}]")
+        rows, _ = json.loads(f"[{sought(r'^dexasmIndex.(.*).;$', get(at, 'search', name).decode().strip())[1]}]")
         for _, page, first, names in rows:
             found += [(one, f"class/{page}", str(first + n)) for n, one in enumerate(names)]
     return found
 
 
-def try_cut():
+def try_cut() -> None:
     """Pages are cut where they would be large, each name is on one, and each link leads to the right one."""
     at, file = room("pages cut"), large()
     out = os.path.join(at, "out")
@@ -152,7 +162,7 @@ def try_cut():
     text = get(out, "class/1-1.html").decode()
     starts = re.findall(r'<ol class="code" start="(\d+)">(?:<li class="l">:L\d+\n)?<li id="0\.(\d+)"', text)
     check("dexasm-browse, lines go on by their numbers", len(starts) == 1 and starts[0][0] == starts[0][1], starts)
-    on = {}
+    on: dict[str, list[tuple[str, str]]] = {}
     for name in sorted(found, key=numbers_of):
         if name.startswith("class/0"):
             for one in re.findall(r'<h3 id="(\d+)">[^<]* (m\d{4})', get(out, name).decode("utf8")):
@@ -170,7 +180,7 @@ def try_cut():
     check("dexasm-browse, cut pages are replaced", again == (0, "", "") and not left, (again, left[:5]))
 
 
-def search_cut(out, place):
+def search_cut(out: str, place: tuple[str, str]) -> None:
     """A browser finds what is on a page that goes on, and a link there leads to another one of them."""
     top = f"file://{out.replace(' ', '%20')}"
     with browser.Browser() as page:
@@ -192,7 +202,7 @@ def search_cut(out, place):
         check("in a browser, a number of five digits stands in one line", 0 < high < 30, high)
 
 
-def try_hint():
+def try_hint() -> None:
     """How a picture is asked for is said where there is none of it, and something to draw."""
     at, file = room("pages hint"), assembled(LISTING)
     hint, method = "--graphs METHOD", ("--graphs", "LA;->m()V")
@@ -207,7 +217,7 @@ def try_hint():
 # ---- in a browser
 
 
-def many():
+def many() -> bytes:
     """A file of 340 classes with long names, of which one has a method of 59 blocks and one of three."""
     flow = "".join(f":b{n}\ninvoke-static {{ }} La/b;->c()V\nif-eqz v0 :b{n // 9 * 7}\n" for n in range(1, 60))
     text = f"class La/b; 0x1\ndirect c ()V 0x9\ncode 1 0 0\n:b0\nnop\n{flow}return-void\nend code\n"
@@ -218,7 +228,7 @@ def many():
     return assembled(HEAD + text.encode("ascii"))
 
 
-def try_sights():
+def try_sights() -> None:
     """What is seen of the pages at 400 and at 1280 pixels, in light and in dark."""
     if not browser.found():
         return
@@ -253,7 +263,7 @@ def try_sights():
         check("the pages, the console is empty", page.told == [], page.told[:3])
 
 
-def size_to(page, width):
+def size_to(page: browser.Browser, width: int) -> None:
     page.call("Emulation.setDeviceMetricsOverride", width=width, height=800, deviceScaleFactor=1, mobile=False)
 
 
@@ -284,7 +294,7 @@ SCROLLS = """(() => {
 })()"""
 
 
-def fits(page, top, name, width):
+def fits(page: browser.Browser, top: str, name: str, width: int) -> None:
     """Whether a page of tables is no wider than the window, and their names are in sight."""
     size_to(page, width)
     page.open(f"{top}/{name}.html")
@@ -299,7 +309,7 @@ def fits(page, top, name, width):
     page.keep(f"{name}-{width}")
 
 
-def sorts(page, top, name):
+def sorts(page: browser.Browser, top: str, name: str) -> None:
     """A click on a head puts the numbers in their order, the greatest first, and another one turns it."""
     page.open(f"{top}/{name}.html")
     for head, is_turned in ((0, False), (0, True), (7, False)):
@@ -309,7 +319,7 @@ def sorts(page, top, name):
         check(f"{name}, sorted by column {head}", numbers == sorted(numbers, reverse=not is_turned), numbers[:9])
 
 
-def look(page, top, name, width):
+def look(page: browser.Browser, top: str, name: str, width: int) -> None:
     fits(page, top, name, width)
     high = page.run("document.documentElement.scrollHeight")
     check(f"{name} at {width}, no higher than its rows need", high < 60_000, high)
@@ -326,7 +336,7 @@ def look(page, top, name, width):
         check(f"{name}, {'dark' if is_dark else 'light'}", (lights[0] < lights[1]) == is_dark, (ground, ink))
 
 
-def within(box, place):
+def within(box: Sequence[float], place: Sequence[float]) -> bool:
     """Whether something is within a box, but for a pixel: left, top, right, bottom."""
     inner, outer = (*place[:2], *box[2:]), (*box[:2], *place[2:])
     return all(one - two >= -1 for one, two in zip(inner, outer))
@@ -335,15 +345,15 @@ def within(box, place):
 RECT = "(({left, top, right, bottom}) => [left, top, right, bottom])"
 
 
-def flows(page, url, width):
+def flows(page: browser.Browser, url: str, width: int) -> None:
     """A flow opens in sight, and buttons, keys and the wheel make it larger and smaller."""
     size_to(page, width)
     page.open(url)
-    box = lambda at: f"document.querySelectorAll('.flow')[{at}]"
-    rect = lambda of: page.run(f"{RECT}({of}.getBoundingClientRect())")
-    wide = lambda: page.run(f"{box(0)}.querySelector('svg').getBoundingClientRect().width")
+    box: Callable[[int], str] = lambda at: f"document.querySelectorAll('.flow')[{at}]"
+    rect: Callable[[str], Any] = lambda of: page.run(f"{RECT}({of}.getBoundingClientRect())")
+    wide: Callable[[], Any] = lambda: page.run(f"{box(0)}.querySelector('svg').getBoundingClientRect().width")
     block = f"{box(0)}.querySelector('.node')"
-    press = lambda said: page.run(
+    press: Callable[[str], Any] = lambda said: page.run(
         f"[...document.querySelectorAll('button')].find((one) => one.textContent === '{said}').click()"
     )
     is_so = within(rect(box(0)), rect(block)) or rect(block)[2] - rect(block)[0] > width * 0.8
@@ -353,13 +363,14 @@ def flows(page, url, width):
     page.keep(f"flow-{width}")
     was = [wide()]
     page.run(f"{box(0)}.focus()")
-    for act in (
+    acts: tuple[Callable[[], Any], ...] = (
         lambda: page.key("+", "Equal", "+"),
         lambda: page.key("-", "Minus", "-"),
         lambda: press("Larger"),
         lambda: page.wheel(f"{box(0)}", -100),
         lambda: page.key("0", "Digit0", "0"),
-    ):
+    )
+    for act in acts:
         act()
         was.append(wide())
     larger, smaller, button, wheel, whole = was[1:]
@@ -385,7 +396,7 @@ PLACES = """(of) => [...document.querySelectorAll(of)].flatMap((one) => {
 })"""
 
 
-def order(page, top):
+def order(page: browser.Browser, top: str) -> None:
     """Names with letters from right to left: their parts stand from left to right."""
     size_to(page, 1280)
     page.open(f"{top}/class/0.html")

@@ -4,9 +4,26 @@ import re
 import shlex
 import shutil
 import sys
+from typing import Any
 
 from .deliver import full
-from .rooms import HEAD, LISTING, TOP, Tries, assembled, check, dexasm, get, is_one_line, put, room, run, seen_in, shell
+from .rooms import (
+    HEAD,
+    LISTING,
+    TOP,
+    Ended,
+    Tries,
+    assembled,
+    check,
+    dexasm,
+    get,
+    is_one_line,
+    put,
+    room,
+    run,
+    seen_in,
+    shell,
+)
 
 CALLS = """
 import dexasm
@@ -43,11 +60,11 @@ end class
 """
 
 
-def python(at, *words, **env):
+def python(at: str, *words: str, **env: Any) -> Ended:
     return run([sys.executable, "-B", *words], at=at, PYTHONPATH=os.path.join(at, "modules"), **env)
 
 
-def tries():
+def tries() -> None:
     at = room("python")
     shutil.copytree(os.path.join(TOP, "bindings/python/dexasm"), os.path.join(at, "modules", "dexasm"))
     file = assembled(LISTING)
@@ -81,7 +98,7 @@ def tries():
     )
 
 
-def try_itself(at):
+def try_itself(at: str) -> None:
     """Where the command is the module again, as that of a wheel is, one doesn't run the other without end."""
     itself = put(at, "itself", f'#!/bin/sh\nexec {shlex.quote(sys.executable)} -B -m dexasm "$@"\n'.encode())
     os.chmod(itself, 0o755)
@@ -139,7 +156,7 @@ WORDS = (
 )
 
 
-def try_streams():
+def try_streams() -> None:
     """Streams that are closed or full, and words that are wrong: the command's lines and its status."""
     at = room("python streams")
     file = dexasm("strip", given=assembled(LISTING))
@@ -167,7 +184,7 @@ def try_streams():
             check(f"python -m dexasm {words}, {env}", seen[:2] == (3, "") and is_said, seen)
 
 
-def try_out():
+def try_out() -> None:
     """OUT by the command's rules: what stands there afterwards is what the command leaves there."""
     file = dexasm("strip", given=assembled(LISTING))
     path = os.path.join(TOP, "bindings/python")
@@ -206,7 +223,7 @@ def try_out():
         check(f"python -m dexasm, OUT after {text}", found[0] == found[1], found)
 
 
-def try_full():
+def try_full() -> None:
     """A full disk: OUT is as it was, or has the answer, or that stands beside it."""
     if os.geteuid():
         return

@@ -20,7 +20,7 @@ end class
 """
 
 
-def try_answers():
+def try_answers() -> None:
     at = room("query")
     put(at, "a.dex", assembled(LISTING))
     put(at, "a.txt", LISTING)
@@ -55,7 +55,7 @@ def try_answers():
     check("dexasm-query, standard input", one == tool("dexasm-query", "calls", "a.dex", at=at) and one[0] == 0, one)
 
 
-def try_names():
+def try_names() -> None:
     """Names and strings that aren't ASCII."""
     at = room("query names")
     put(at, "names.dex", assembled(HEAD + NAMED))
@@ -85,7 +85,7 @@ def try_names():
     )
 
 
-def try_ends():
+def try_ends() -> None:
     at, file = room("query ends"), assembled(LISTING)
     put(at, "damaged.dex", file[:-1])
     put(at, "a.dex", file)
@@ -104,7 +104,7 @@ def try_ends():
         check(f"dexasm-query, {what!r}", seen[:2] == (status, "") and is_one_line(seen[2], begins), seen)
 
 
-def try_commands():
+def try_commands() -> None:
     """Where dexasm isn't there, is killed or fails; and pipes that nobody reads."""
     at, file = room("query commands"), assembled(LISTING)
     put(at, "a.dex", file)
@@ -203,7 +203,7 @@ end class
 """
 
 
-def try_addresses():
+def try_addresses() -> None:
     """Offsets and addresses as dexdump has them, where it is; those of a small method by hand."""
     at = room("query addresses")
     put(at, "b.dex", dexasm("assemble", "--align", given=ADDRESSED))
@@ -222,7 +222,7 @@ def try_addresses():
         check("dexasm-query show --addresses, as dexdump", [(f"00{one}", unit) for one, unit in theirs] == ours, told)
 
 
-def try_show():
+def try_show() -> None:
     """Each class, each member and all that a name can say is a listing that assembles, of just these."""
     at, file = room("query show"), dexasm("assemble", "--align", given=ADDRESSED)
     put(at, "b.dex", file)
@@ -246,7 +246,7 @@ def try_show():
         check(f"dexasm-query {words}, wrong words", seen[:2] == (2, "") and "usage: " in seen[2], seen)
 
 
-def try_tables():
+def try_tables() -> None:
     at, file = room("query tables"), dexasm("assemble", "--align", given=ADDRESSED)
     put(at, "b.dex", file)
     put(at, "bad.dex", file[:-1])
@@ -269,7 +269,7 @@ def try_tables():
     lines = "fields 0 LB;->f:J\nfields 1 LB;->n:I\nclasses 0 LB; 0x11 public final super Ljava/lang/Object;\n"
     check("dexasm-query tables --lines", seen == (0, lines, ""), seen)
     status, out, said = tool("dexasm-query", "tables", "--lines", "names.dex", at=at)
-    count = sum(map(len, json.loads(tool("dexasm-query", "tables", "names.dex", at=at)[1]).values()))
+    count = sum(len(one) for one in json.loads(tool("dexasm-query", "tables", "names.dex", at=at)[1]).values())
     is_so = (status, said, out.count("\n")) == (0, "", count) and out.replace("\n", "").isprintable() and out.isascii()
     check("dexasm-query tables --lines, hostile names", is_so, out)
     seen = tool("dexasm-query", "tables", "bad.dex", at=at)
@@ -281,7 +281,7 @@ def try_tables():
     check("dexasm-query fields", seen == want, seen)
 
 
-def try_flags():
+def try_flags() -> None:
     """The words for flags are those of the table in LISTING."""
     sys.path.append(os.path.join(TOP, "contrib/share/dexasm"))
     from dexasm_uses import CLASS_FLAGS, FIELD_FLAGS, METHOD_FLAGS

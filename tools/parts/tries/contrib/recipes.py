@@ -6,6 +6,7 @@ import shlex
 import shutil
 import subprocess
 import sys
+from typing import Any
 
 from .apk import archive
 from .close import resigned
@@ -38,16 +39,16 @@ EVIL = f"sp ace'q\"$(touch PWNED)`touch PWNED`&a|;e touch PWNED #\nnew{ESC}[31m*
 TURNED = "a\u202exed."  # what follows such a mark is shown from right to left
 LOGGED = re.compile(r"^\d+\t\S+\t[\d.]+\t.*dexasm check .*\.dex", re.M)  # a row of parallel's log
 # Git's cache of texts wants a name too.
-IDENTITY = {f"GIT_{who}_{what}": "a" for who in ("AUTHOR", "COMMITTER") for what in ("NAME", "EMAIL")}
+IDENTITY: dict[str, Any] = {f"GIT_{who}_{what}": "a" for who in ("AUTHOR", "COMMITTER") for what in ("NAME", "EMAIL")}
 
 
-def blocks(page):
+def blocks(page: str) -> dict[str, list[str]]:
     """The recipes of a page by the headings that they stand under."""
     parts = re.split(r"^## (.*)$", get(TOP, page).decode(), flags=re.M)
     return {head: re.findall(r"```bash\n(.*?)```", text, re.S) for head, text in zip(parts[1::2], parts[2::2])}
 
 
-def with_names(block, name):
+def with_names(block: str, name: str) -> str:
     """The recipe with another name before each .dex, .apk, .html and .txt, as a shell takes it; a line of what is told,
     in a comment, stays as it is.
     """
@@ -58,7 +59,7 @@ def with_names(block, name):
     )
 
 
-def prepared(what, name):
+def prepared(what: str, name: str) -> str:
     """A room with an archive, two files, one of another constant, and a listing with a wrong register."""
     at = room(f"recipe {what}")
     file = assembled(TEXT)
@@ -70,7 +71,7 @@ def prepared(what, name):
     return at
 
 
-def try_blocks():
+def try_blocks() -> None:
     """Each recipe of one file, by a plain name and by an evil one."""
     found = blocks("docs/RECIPES.md")
     wants = {
@@ -117,7 +118,7 @@ def try_blocks():
     )
 
 
-def try_merged():
+def try_merged() -> None:
     """Several files in one, by plain names and by evil ones: each command as it stands, on files that are for it."""
     lines = blocks("docs/RECIPES.md")["Several files in one"][0]
     first, second = assembled(TEXT), assembled(HEAD + b"class LOther; 0x1\nsuper LHello;\nend class\n")
@@ -133,7 +134,7 @@ def try_merged():
         check(f"RECIPES: several files in one, {name!r}", is_so and "PWNED" not in seen_in(at), seen)
 
 
-def try_words():
+def try_words() -> None:
     """Each command of the table of other tools' words ends well, and writes no more than it says."""
     part = get(TOP, "docs/RECIPES.md").decode().partition("## Which word does it\n")[2].partition("\n## ")[0]
     rows = [row.strip("|").replace("\\|", "\0").split("|") for row in re.findall(r"^\| .* \|$", part, re.M)[1:]]
@@ -150,7 +151,7 @@ def try_words():
     check("RECIPES: words of other tools", len(commands) > 15 and len(rows) > 12 and len(helpers) > 9, commands)
 
 
-def try_signed():
+def try_signed() -> None:
     """README's three commands on a file that D8 before 1.6.20 signed: it is explained, closed and stripped."""
     lines = [line for line in blocks("README.md")["Recipes"][0].splitlines() if not line.startswith("#")]
     explain, close, strip = (line for line in lines if re.search(r"explain|close|strip b\.dex", line))
@@ -165,7 +166,7 @@ def try_signed():
         check(f"README, {close}; {strip}", is_so and get(at, f"{name}c.dex") == dexasm("strip", given=file), seen)
 
 
-def try_same():
+def try_same() -> None:
     """No recipe says that two files are the same that are both refused."""
     recipes = [blocks("docs/RECIPES.md")["Two files"][0], blocks("docs/RECIPES.md")["Two files"][1]]
     recipes += [
@@ -184,7 +185,7 @@ def try_same():
         check(f"{recipe!r} of one file twice", seen == (0, "", ""), seen)
 
 
-def try_git():
+def try_git() -> None:
     """git diff: by what changed, of refused files, and where dexasm isn't found."""
     block = blocks("docs/RECIPES.md")["Versions of a file in git"][0]
     for name in ("a", EVIL, "--help", "-x", ":0:x", '"'):
@@ -224,7 +225,7 @@ def try_git():
     check("git show without the helper", without[0] != 0, without)
 
 
-def try_split():
+def try_split() -> None:
     block = blocks("docs/RECIPES.md")["Versions of a file in git"][1]
     for name in ("", EVIL):
         at = prepared(f"split {bool(name)}", name)
@@ -235,7 +236,7 @@ def try_split():
         check(f"RECIPES: split and joined, {name!r}", is_so, seen)
 
 
-def many(at):
+def many(at: str) -> int:
     """Files of evil names, every other one refused; answers how many are."""
     for number, name in enumerate(
         ("ok", *NAMES, "{}", "{= touch PWNED =}", "t\ta\t0\t0", EVIL, f"\n1\t:\t1\t1\t0\t0\t0\t0\t{ESC}x", "b", TURNED)
@@ -245,7 +246,7 @@ def many(at):
     return (number + 1) // 2
 
 
-def try_many():
+def try_many() -> None:
     """Each refused file has one line, which nothing on a terminal obeys."""
     at = room("many")
     refused = many(at)
@@ -268,7 +269,7 @@ def try_many():
     check("RECIPES: many files, a run that is killed", "./a.dex: status 137: " in out, out)
 
 
-def killing(at):
+def killing(at: str) -> str:
     """A folder with a dexasm that is killed by a signal the first time that it checks a file of a name with `ok`."""
     once = shlex.quote(os.path.join(at, "once"))
     put(
@@ -281,7 +282,7 @@ def killing(at):
     return os.path.join(at, "kill")
 
 
-def resumed(what, at, refused, **env):
+def resumed(what: str, at: str, refused: int, **env: str) -> None:
     """The recipe, twice: the job that was killed is told and done again."""
     block = blocks("docs/RECIPES.md")["Many files"][1]
     _, first, said = shell(block, at, **env)
@@ -300,7 +301,7 @@ def resumed(what, at, refused, **env):
     )
 
 
-def try_parallel():
+def try_parallel() -> None:
     if not shutil.which("parallel"):
         return
     at = room("parallel")
@@ -314,7 +315,7 @@ def try_parallel():
         try_logins(env["PARALLEL_HOME"])
 
 
-def try_logins(home):
+def try_logins(home: str) -> None:
     """The same over two logins."""
     at = room("logins")
     for name, given in (("ok", assembled(TEXT)), (EVIL, assembled(TEXT)), ("sp ace", assembled(TEXT)[:-1])):
@@ -329,7 +330,7 @@ def try_logins(home):
         print(f"tools/try contrib: logins by sshd aren't tried here: {error}", file=sys.stderr)
 
 
-def try_page():
+def try_page() -> None:
     """Each recipe is tried."""
     known = {
         "Looking at a file": 1,

@@ -10,12 +10,17 @@ import signal
 import subprocess
 import sys
 import tempfile
+from collections.abc import Callable, Collection, Iterable, Sequence
+from typing import Any, TypeVar
 
-from ... import TOP
-from ..trying import can_trace as is_strace_there, check  # noqa: F401 (each try takes it from here)
+from ... import TOP as TOP
+from ..trying import can_trace as is_strace_there, check as check  # noqa: F401 (each try takes it from here)
 
 TOOLS = os.path.join(TOP, "contrib", "bin")
 LIMIT = 60  # seconds for a command
+Ended = tuple[int | str, str, str]  # status, or "late"; standard output; standard error
+Case = TypeVar("Case", bound=tuple[Any, ...])
+Answer = TypeVar("Answer")
 ESC = "\x1b"
 
 # As somebody wrote it: comments, classes whose names differ only in case, one in a package and one of the package's
@@ -72,7 +77,7 @@ class Tries:
     env: dict[str, str] = {}
 
 
-def begin(program, library=""):
+def begin(program: str, library: str = "") -> None:
     """Of this program, in a folder of its own; each helper runs by this very Python."""
     # (a gate in the background ignores SIGINT, and what it starts would too)
     signal.signal(signal.SIGINT, signal.default_int_handler)
@@ -85,21 +90,21 @@ def begin(program, library=""):
     Tries.env |= {"PATH": os.pathsep.join(ways), "LANG": "C.UTF-8", "HOME": Tries.folder, "NO_PWNED": "1"}
 
 
-def end():
+def end() -> None:
     shutil.rmtree(Tries.folder, ignore_errors=True)
 
 
-def path(*parts):
+def path(*parts: str) -> str:
     return os.path.join(Tries.folder, *parts)
 
 
-def room(name):
+def room(name: str) -> str:
     """A new folder for one try."""
     os.makedirs(path(name))
     return path(name)
 
 
-def put(into, name, given):
+def put(into: str, name: str, given: bytes) -> str:
     at = os.path.join(into, name)
     os.makedirs(os.path.dirname(at), exist_ok=True)
     with open(at, "wb") as file:
@@ -107,18 +112,18 @@ def put(into, name, given):
     return at
 
 
-def get(*parts):
+def get(*parts: str) -> bytes:
     with open(os.path.join(*parts), "rb") as file:
         return file.read()
 
 
-def seen_in(folder):
+def seen_in(folder: str) -> dict[str, str | bytes]:
     """All that is below a folder: each path with its bytes, where a link leads, or what else it is."""
-    found = {}
+    found: dict[str, str | bytes] = {}
     for at, folders, names in os.walk(folder):
         for name in (*folders, *names):
             one = os.path.join(at, name)
-            kind = (
+            kind: str | bytes = (
                 os.readlink(one)
                 if os.path.islink(one)
                 else get(one)
@@ -131,9 +136,11 @@ def seen_in(folder):
     return found
 
 
-def run(words, given=b"", at=None, most=None, **env):
+def run(
+    words: Sequence[str], given: bytes = b"", at: str | None = None, most: int | None = None, **env: str
+) -> Ended:
     """Status, standard output, standard error of words; `most` bytes can be written to a file."""
-    limit = most and (lambda: resource.setrlimit(resource.RLIMIT_FSIZE, (most, most)))
+    limit: Any = most and (lambda: resource.setrlimit(resource.RLIMIT_FSIZE, (most, most)))
     try:
         done = subprocess.run(
             words,
@@ -149,11 +156,11 @@ def run(words, given=b"", at=None, most=None, **env):
     return done.returncode, done.stdout.decode("latin1"), done.stderr.decode("latin1")
 
 
-def tool(name, *words, **options):
+def tool(name: str, *words: str, **options: Any) -> Ended:
     return run([os.path.join(TOOLS, name), *words], **options)
 
 
-def traced(name, *words, inject, **options):
+def traced(name: str, *words: str, inject: Iterable[str], **options: Any) -> Ended:
     """A helper with a call of the system failed, or a signal sent at it, as strace takes it: `rename:error=EIO`."""
     faults = [word for one in inject for word in ("-e", f"inject={one}")]
     return run(["strace", "-qq", "-f", "-o", "/dev/null", *faults, os.path.join(TOOLS, name), *words], **options)
@@ -166,7 +173,7 @@ CALLS = (
 )
 
 
-def calls_of(name, *words, begins, **options):
+def calls_of(name: str, *words: str, begins: str, **options: Any) -> list[tuple[str, int]]:
     """Such calls of a helper's own process, from the line of strace on that first has this text: each with which of its
     name it is. (Of what is opened, what may be made and folders.)
     """
@@ -174,6 +181,8 @@ def calls_of(name, *words, begins, **options):
         traces = ["strace", "-qq", "-f", "-o", log.name, "-e", f"trace={CALLS}"]
         run([*traces, os.path.join(TOOLS, name), *words], **options)
         lines = log.read().decode("utf8", "replace").splitlines()
+    counts: collections.Counter[str]
+    found: list[tuple[str, int]]
     own, counts, found, is_begun = lines[0].split()[0], collections.Counter(), [], False
     for line in lines:
         called = re.match(rf"{own} +([a-z0-9]+)\(", line)
@@ -186,36 +195,37 @@ def calls_of(name, *words, begins, **options):
     return found
 
 
-def in_turn(do, cases):
+def in_turn(do: Callable[..., Answer], cases: Collection[Case]) -> list[tuple[Case, Answer]]:
     """What each case gives, several at a time, in their order."""
     with concurrent.futures.ThreadPoolExecutor(os.cpu_count() or 1) as pool:
         return list(zip(cases, pool.map(lambda case: do(*case), cases)))
 
 
 @functools.cache
-def can_trace():
+def can_trace() -> bool:
     return is_strace_there()
 
 
-def shell(text, at, **options):
+def shell(text: str, at: str, **options: Any) -> Ended:
     """What bash makes of a text, as of one that is typed."""
     return run(["bash", "-c", text], at=at, **options)
 
 
-def dexasm(*words, given=b""):
-    return subprocess.run([Tries.program, *words], input=given, capture_output=True, timeout=LIMIT).stdout
+def dexasm(*words: str, given: bytes = b"") -> bytes:
+    out: bytes = subprocess.run([Tries.program, *words], input=given, capture_output=True, timeout=LIMIT).stdout
+    return out
 
 
-def assembled(text):
+def assembled(text: bytes) -> bytes:
     return dexasm("assemble", given=text)
 
 
-def classes(*names):
+def classes(*names: str) -> bytes:
     """A listing of so many classes without anything in them."""
     return HEAD + b"".join(b"class %s 0x1\nend class\n" % name.encode("ascii") for name in names)
 
 
-def is_one_line(said, begin):
+def is_one_line(said: str, begin: str) -> bool:
     """Whether a single line was told, which begins so, has nothing that a terminal obeys, and was thought of."""
     return (
         said.startswith(begin)

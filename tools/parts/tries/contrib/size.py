@@ -12,7 +12,9 @@ import sys
 import xml.etree.ElementTree
 import zlib
 import hashlib
+from typing import Any
 
+from ... import sought
 from .rooms import (
     ESC,
     HEAD,
@@ -36,10 +38,11 @@ from .rooms import (
 sys.path.append(os.path.join(TOP, "contrib/share/dexasm"))
 from dexasm_file import INDEX, UNITS
 
+Row = dict[str, Any]  # as JSON has it
 COLUMNS = ["total", "code", "strings", "tables", "values", "debug", "unused", "strip"]
 
 
-def rows_of(out):
+def rows_of(out: str) -> tuple[dict[str, list[int]], list[int], bool]:
     """The rows of a table by their names, and whether each adds up and all do."""
     lines = out.splitlines()
     rows = {line.split(None, 8)[8]: [int(number) for number in line.split(None, 8)[:8]] for line in lines[1:]}
@@ -48,8 +51,9 @@ def rows_of(out):
     return rows, total, is_so and [sum(column) for column in zip(*rows.values())] == total
 
 
-def adds_up(what, file, at):
+def adds_up(what: str, file: bytes, at: str) -> dict[str, list[int]]:
     put(at, "file.dex", file)
+    found: dict[str, dict[str, list[int]]]
     found, stripped = {}, len(dexasm("strip", given=file))
     for by in ("class", "package"):
         status, out, said = tool("dexasm-size", "--by", by, "file.dex", at=at)
@@ -70,12 +74,12 @@ def adds_up(what, file, at):
     return found["class"]
 
 
-def closed(file):
+def closed(file: bytes) -> bytes:
     file = file[:12] + hashlib.sha1(file[32:]).digest() + file[32:]
     return file[:8] + struct.pack("<I", zlib.adler32(file[12:])) + file[12:]
 
 
-def try_sums():
+def try_sums() -> None:
     at = room("size")
     rows = adds_up("a listing", assembled(LISTING), at)
     check(
@@ -94,7 +98,7 @@ def try_sums():
         adds_up(f"the shape {shape}", get(at, "shape"), at)
 
 
-def try_opcodes():
+def try_opcodes() -> None:
     """How long each instruction is and which table its index is of, as the table of opcodes has it."""
     text = get(TOP, "crates/dex_insn/src/opcodes.rt").decode()
     rows = re.findall(r'row!\("[^"]*" F(\d)\w+(?: (\w+))?\), // ([0-9a-f]{2})', text)
@@ -106,7 +110,7 @@ def try_opcodes():
     check("dexasm-size, the opcodes", len(rows) == 218 and not wrong, (len(rows), wrong))
 
 
-def try_by_hand():
+def try_by_hand() -> None:
     """The sizes of a small file, worked out by hand from docs/FORMAT.md."""
     at = room("size by hand")
     method = b'direct m ()V 0x9\ncode 1 0 0\nconst-string v0 "%s"\nreturn-void\nend code\n'
@@ -133,7 +137,7 @@ def try_by_hand():
     check("dexasm-size, the file", rows["(the file)"][3] == 112 + 4 + 12 * 12, rows)
 
 
-def try_unneeded():
+def try_unneeded() -> None:
     """Debug information and annotations that lead nowhere."""
     at, file = room("size unneeded"), assembled(LISTING)
     row, code = struct.unpack_from("<I", file, 100)[0], file.index(struct.pack("<HHHHII", 1, 0, 0, 0, 0, 6))
@@ -148,12 +152,14 @@ def try_unneeded():
 class Page(html.parser.HTMLParser):
     """The elements of a page, and what they lead to."""
 
-    def __init__(self, text):
+    def __init__(self, text: str) -> None:
         super().__init__()
+        self.elements: set[str]
+        self.leads: list[tuple[str, str | None]]
         self.elements, self.leads = set(), []
         self.feed(text)
 
-    def handle_starttag(self, tag, attributes):
+    def handle_starttag(self, tag: str, attributes: list[tuple[str, str | None]]) -> None:
         self.elements.add(tag)
         self.leads += [
             (name, value)
@@ -162,14 +168,14 @@ class Page(html.parser.HTMLParser):
         ]
 
 
-def try_page():
+def try_page() -> None:
     at = room("size page")
     put(at, "a.dex", assembled(LISTING))
     for name in (*NAMES, "<script>alert(1)<!--", 'x" onload="y', "\u202eabc", "]]>", "a</title>"):
         put(at, name, assembled(LISTING))
         seen = tool("dexasm-size", "--html", "out.html", "--", name, at=at)
         text = get(at, "out.html").decode()
-        page, svg = Page(text), re.search(r'<svg class="map".*</svg>(?=</div><ul)', text, re.S)[0]
+        page, svg = Page(text), sought(r'<svg class="map".*</svg>(?=</div><ul)', text, re.S)[0]
         check(
             f"dexasm-size --html, a file of the name {name!r}",
             seen[0] == 0 and seen[2] == "" and ESC not in text and "\u202e" not in text,
@@ -199,7 +205,7 @@ def try_page():
     check("dexasm-size --html, packages in packages", seen[0] == 0 and seen[2] == "", seen[2])
 
 
-def try_many():
+def try_many() -> None:
     """A table of more rows than a page can have: those that are left out are one."""
     at, file = room("size many"), assembled(classes(*(f"Lc{n}/D;" for n in range(2100))))
     put(at, "a.dex", file)
@@ -213,7 +219,7 @@ def try_many():
     check("dexasm-size --html, many rows add up", totals == [len(file)] * 2, (totals, len(file)))
 
 
-def try_ends():
+def try_ends() -> None:
     at, file = room("size ends"), assembled(LISTING)
     put(at, "a.dex", file)
     put(at, "bad", file[:-1])
@@ -252,7 +258,7 @@ def try_ends():
         )
 
 
-def try_sorted():
+def try_sorted() -> None:
     """The order of the rows, and pipes that nobody reads."""
     at = room("size sorted")
     put(at, "a.dex", assembled(LISTING))
@@ -268,7 +274,7 @@ def try_sorted():
     check("dexasm-size, a closed pipe", seen[1] == "0\n3\n" and "Traceback" not in seen[2], seen)
 
 
-def try_out():
+def try_out() -> None:
     """OUT of --html is written by the command's rules."""
     at = room("size out")
     put(at, "a.dex", assembled(LISTING))
@@ -296,26 +302,28 @@ DIFFERENCES = ["change", *COLUMNS[1:7]]
 HEADS = [*DIFFERENCES, "before", "after", "what", "name"]
 
 
-def told_of(at, *words, **options):
+def told_of(at: str, *words: str, **options: Any) -> dict[str, Any]:
     """What --json tells of two files."""
     seen = tool("dexasm-size", "--json", *words, at=at, **options)
-    return json.loads(seen[1]) if (seen[0], seen[2]) == (0, "") else {"rows": [], "seen": seen}
+    told: dict[str, Any] = json.loads(seen[1]) if (seen[0], seen[2]) == (0, "") else {"rows": [], "seen": seen}
+    return told
 
 
-def word_of(row):
+def word_of(row: Row) -> str:
     """What a row did, as far as its numbers tell."""
     if row["what"] in ("came", "went"):
         return "came" if not row["before"] and row["after"] >= 0 and row["what"] == "came" else "went"
     return "grew" if row["change"] > 0 else "shrank" if row["change"] < 0 else "moved"
 
 
-def is_exact(row):
+def is_exact(row: Row) -> bool:
     is_sum = row["change"] == row["after"] - row["before"] == sum(row[kind] for kind in DIFFERENCES[1:])
     is_gone = row["what"] not in ("came", "went") or row["before" if row["what"] == "came" else "after"] == 0
-    return is_sum and is_gone and row["what"] == word_of(row) and list(row) == HEADS
+    is_so: bool = is_sum and is_gone and row["what"] == word_of(row) and list(row) == HEADS
+    return is_so
 
 
-def grown_rows(out):
+def grown_rows(out: str) -> tuple[list[list[int]], list[int], bool]:
     """The rows of a table for two files, and whether each and all add up; of the names only that they are there."""
     head, *lines = out.splitlines()
     rows = [[int(cell) for cell in line.split()[:9]] for line in lines]
@@ -325,7 +333,7 @@ def grown_rows(out):
     return rows, total, is_so and signs and head.split() == HEADS and [sum(one) for one in zip(*rows)] == total
 
 
-def changes_add_up(what, old, new, at, table):
+def changes_add_up(what: str, old: bytes, new: bytes, at: str, table: str) -> None:
     """The rows of a pair of files by whatever they are told, as JSON, and by that word as a table."""
     put(at, "old.dex", old)
     put(at, "new.dex", new)
@@ -346,12 +354,12 @@ def changes_add_up(what, old, new, at, table):
         check(f"dexasm-size A B --by {by}, {what}", is_so and said == "", (status, out[-900:], said))
 
 
-def shape(at, name, n):
+def shape(at: str, name: str, n: int) -> bytes:
     run([sys.executable, "-B", os.path.join(TOP, "bench/hostile/shapes.py"), name, str(n), "shape"], at=at)
     return get(at, "shape")
 
 
-def try_changes():
+def try_changes() -> None:
     """The sum of the rows is the difference of the sizes, of each pair and both ways."""
     at, file = room("size changes"), assembled(LISTING)
     wild = bytearray(file)
@@ -372,19 +380,19 @@ def try_changes():
 METHOD = b'direct %s ()V 0x9\ncode 1 0 0\nconst-string v0 "%s"\n%sreturn-void\nend code\n'
 
 
-def classes_of(**methods):
+def classes_of(**methods: bytes) -> bytes:
     """A class by each name, with these lines."""
     return HEAD + b"".join(b"class Lp/%s; 1\n%send class\n" % (name.encode(), of) for name, of in methods.items())
 
 
-def grown(at, old, new, *words):
+def grown(at: str, old: bytes, new: bytes, *words: str) -> list[tuple[str, str, int]]:
     """What changed between two listings: each row's name, what it did, and by how many bytes."""
     put(at, "old.dex", assembled(old))
     put(at, "new.dex", assembled(new))
     return [(row["name"], row["what"], row["change"]) for row in told_of(at, *words, "old.dex", "new.dex")["rows"]]
 
 
-def try_changes_by_hand():
+def try_changes_by_hand() -> None:
     """Worked out by hand from docs/FORMAT.md: a row of a string has 4 bytes and its item 2 and its characters, a row of
     a type 4, of a class 32; a code 16 and 2 for each unit, a code begins at a multiple of 4.
     """
@@ -421,7 +429,7 @@ def try_changes_by_hand():
     check("dexasm-size A B, a method got its code", ("Lp/A;->n()V", "grew", 22) in found, found)
 
 
-def try_same_files():
+def try_same_files() -> None:
     """Of one program nothing changed, whatever its path; and what isn't the program is told too."""
     at, file = room("size same"), assembled(LISTING)
     put(at, "a.dex", file)
@@ -441,16 +449,18 @@ def try_same_files():
         check(f"dexasm-size A B --sort {column}", len(rows) > 4 and order == sorted(order), order)
 
 
-def try_changes_names():
+def try_changes_names() -> None:
     """Names that a terminal, a browser or a spreadsheet would obey, of packages, methods, strings and files."""
     at = room("size changes names")
     names = ["-x", "\\uff1dx", "x\\u2060x", "x"]
     body = b'static s Ljava/lang/String; 0x9 = string "%s"\nend class\n'
+    strings: tuple[str, ...]
     strings = r"\u001b[31mred", r"=cmd|' /C calc'!A0", r"<script>alert(1)</script>", r"a\u202eb", r"\ud83d", r"'\""
     strings = *strings, "z" * 5000
     text = b"".join(b"class L%s/A; 1\n" % name.encode() + body % said.encode() for name, said in zip(names, strings))
     text += b"".join(b"class Ls%d; 1\n" % at + body % said.encode() for at, said in enumerate(strings))
     put(at, "a.dex", assembled(HEAD))
+    found: Page | set[str]
     for number, name in enumerate((*NAMES, "<script>alert(1)<!--", "=1.dex")):
         put(at, name, assembled(HEAD + text))
         by = ("package", "string")[number % 2]
@@ -477,7 +487,7 @@ def try_changes_names():
     check("dexasm-size A B, strings as a listing spells them", want < found, want - found)
 
 
-def try_changes_page():
+def try_changes_page() -> None:
     """The tables of the page: 2,000 rows and one for the others, and each adds up to the difference."""
     at, old, new = room("size changes page"), assembled(HEAD), assembled(classes(*(f"Lc{n}/D;" for n in range(2100))))
     put(at, "a.dex", old)
@@ -498,7 +508,7 @@ def try_changes_page():
     check("dexasm-size A B --html, both sizes", f"{len(old):,} bytes" in page and f"{len(new):,} bytes: +" in page)
 
 
-def try_changes_ends():
+def try_changes_ends() -> None:
     """One of two that is refused, no file, an archive, and an OUT that stays."""
     at, file = room("size changes ends"), assembled(LISTING)
     put(at, "a.dex", file)
@@ -526,7 +536,7 @@ def try_changes_ends():
     check("dexasm-size A B, pipes", (seen[0], seen[2]) == (0, "") and seen[1].endswith(" all\n"), seen)
 
 
-def try_long_names():
+def try_long_names() -> None:
     """Methods that share a name of 60,000 characters: each row is short, and they still add up."""
     at, name = room("size long names"), b"Lx" + b"y" * 60000 + b";"
     many = b"".join(b"virtual m%d (%s%s)V 0x401\n" % (n, name, name) for n in range(300))

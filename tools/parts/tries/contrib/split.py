@@ -3,11 +3,14 @@ that isn't whole isn't joined.
 """
 import fcntl
 import os
+from collections.abc import Iterable, Iterator
+from typing import Any
 
 from .rooms import (
     ESC,
     HEAD,
     LISTING,
+    Ended,
     Tries,
     assembled,
     calls_of,
@@ -29,7 +32,7 @@ from .rooms import (
 GOOD = classes("LA;", "Lb/B;")
 
 
-def good(name):
+def good(name: str) -> str:
     """A room with a secret, and a folder beside it that dexasm-split made."""
     at = room(f"split {name}")
     put(at, "secret.txt", b"secret")
@@ -38,7 +41,7 @@ def good(name):
     return at
 
 
-def changes_nothing(what, status, *words, given=b"", at, **options):
+def changes_nothing(what: str, status: int, *words: str, given: bytes = b"", at: str, **options: Any) -> None:
     """Such a run ends with one line and this status, and all in the room is as it was."""
     before = seen_in(at)
     seen = tool("dexasm-split", *words, given=given, at=at, **options)
@@ -46,7 +49,7 @@ def changes_nothing(what, status, *words, given=b"", at, **options):
     check(f"dexasm-split, {what}", is_so, f"{seen} {set(seen_in(at)).symmetric_difference(before)}")
 
 
-def comes_back(what, listing):
+def comes_back(what: str, listing: bytes) -> dict[str, Any]:
     """Cut and joined it is the same listing."""
     at = room(f"split back {what}")
     cut, joined = tool("dexasm-split", "classes", given=listing, at=at), tool(
@@ -60,7 +63,7 @@ def comes_back(what, listing):
     return seen_in(os.path.join(at, "classes"))
 
 
-def try_names():
+def try_names() -> None:
     """Names of classes that make trouble as names of files."""
     printed = dexasm("list", given=assembled(LISTING))
     found = comes_back("as it was written", LISTING)
@@ -94,7 +97,7 @@ def try_names():
     comes_back("many classes", classes(*(f"La{n % 7}/B{n};" for n in range(300))))
 
 
-def try_refused():
+def try_refused() -> None:
     """What is no listing changes nothing."""
     at = good("refused")
     at_lib = os.path.join(at, "some")
@@ -128,7 +131,7 @@ def try_refused():
     changes_nothing("a folder to join that it hasn't made", 3, "--join", "mine", at=at)
 
 
-def try_order():
+def try_order() -> None:
     """An order that somebody else wrote leads nowhere."""
     orders = (
         "../away/precious.txt",
@@ -159,7 +162,7 @@ def try_order():
         changes_nothing(f"an order of {order!r}, joined", 3, "--join", "classes", at=at)
 
 
-def try_links():
+def try_links() -> None:
     """Links in the folder aren't followed, and what is there is left alone."""
     for what, name, to in (
         ("a folder", "b", "../away"),
@@ -201,7 +204,7 @@ def try_links():
     changes_nothing("a pipe in place of a file, joined", 3, "--join", "classes", at=at)
 
 
-def try_again():
+def try_again() -> None:
     """A folder that is there already."""
     at = good("again")
     mine = put(at, "classes/README", b"mine")
@@ -239,7 +242,7 @@ def try_again():
         )
 
 
-def try_renamed():
+def try_renamed() -> None:
     """Classes that have others' names, but for the case, and folders' names."""
     at = room("split renamed")
     for names in (("LFoo;", "La/b;"), ("Lfoo;", "LA/b;"), ("Lfoo/a;", "LA;")):
@@ -263,7 +266,7 @@ NO_ANSWERS = {
 }
 
 
-def fakes(at):
+def fakes(at: str) -> Iterator[tuple[str, str]]:
     """Commands that aren't dexasm, by what they answer."""
     for name, text in NO_ANSWERS.items():
         fake = put(at, f"fakes/{name}", text)
@@ -271,7 +274,7 @@ def fakes(at):
         yield name, fake
 
 
-def try_no_answer():
+def try_no_answer() -> None:
     at = good("no answer")
     put(at, "a.dex", assembled(GOOD))
     for name, fake in [*fakes(at)]:
@@ -279,7 +282,7 @@ def try_no_answer():
             changes_nothing(f"a command that answers {name}", 3, *words, given=given, at=at, DEXASM_COMMAND=fake)
 
 
-def try_edits():
+def try_edits() -> None:
     """Files of classes are there to be edited; they keep their mode, and so does what is new."""
     at = good("edits")
     listing = GOOD.replace(b"class LA; 0x1\n", b"class LA; 0x1\n# mine\n")
@@ -296,15 +299,16 @@ def try_edits():
     check("dexasm-split, what was edited is gone", joined == (0, other.decode(), ""), joined)
 
 
-def try_aside():
+def try_aside() -> None:
     """FOLDER/.dexasm-split is this command's: what others put there isn't followed or removed, nor is it joined."""
-    for what, name, kind in (
+    there: tuple[tuple[str, str, str | bytes], ...] = (
         ("a link", ".dexasm-split", "../away"),
         ("a file", ".dexasm-split", b"mine"),
         ("another file in it", ".dexasm-split/precious", b"mine"),
         ("an order that leads away", ".dexasm-split/unfinished", b"../away/precious.txt\n"),
         ("a link in place of its order", ".dexasm-split/unfinished", "../../away/precious.txt"),
-    ):
+    )
+    for what, name, kind in there:
         at = good(f"aside {what}")
         if isinstance(kind, str):
             os.makedirs(os.path.dirname(os.path.join(at, "classes", name)), exist_ok=True)
@@ -332,7 +336,7 @@ def try_aside():
         os.close(top)
 
 
-def clean(at, names=("A.txt", "b", "b/B.txt", "head", "order", "tail")):
+def clean(at: str, names: Iterable[str] = ("A.txt", "b", "b/B.txt", "head", "order", "tail")) -> bool:
     return sorted(seen_in(os.path.join(at, "classes"))) == sorted(names)
 
 
@@ -340,7 +344,7 @@ NEW = HEAD + b"# new\n" + classes("LA;", "LC;", "Lb/D;")[len(HEAD) :].replace(b"
 NEW_NAMES = ("A.txt", "C.txt", "b", "b/D.txt", "head", "order", "tail")
 
 
-def ended_at(call, number, how):
+def ended_at(call: str, number: int, how: str) -> tuple[Ended, Ended, bool, tuple[Ended, Ended, bool]]:
     """A run that is ended at this call, or in which it fails: what it said, what is joined then, whether nothing is left
     but one of the two listings; and the same of the next run, which is left alone.
     """
@@ -351,7 +355,7 @@ def ended_at(call, number, how):
     return seen, joined, is_clean, (*again, clean(at, NEW_NAMES))
 
 
-def try_ended():
+def try_ended() -> None:
     """Ended at each call, or with each one failed: what is joined is the old listing or the new one, or nothing is."""
     if not can_trace():
         return

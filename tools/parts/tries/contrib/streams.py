@@ -8,10 +8,11 @@ import re
 import shlex
 import shutil
 import sys
+from collections.abc import Collection, Iterator
 
 from .apk import archive
 from .browse import CODE
-from .rooms import HEAD, LISTING, TOP, Tries, assembled, check, is_one_line, put, room, shell
+from .rooms import HEAD, LISTING, TOP, Ended, Tries, assembled, check, is_one_line, put, room, shell
 
 # Of each helper words that it ends well with.
 WORDS = {
@@ -35,7 +36,7 @@ SILENT = ("browse", "merge")  # on standard output
 UNREAD = "( sleep 0.3; {} ) | true; exit ${{PIPESTATUS[0]}}"
 
 
-def prepared(name):
+def prepared(name: str) -> str:
     """A room with what the words name."""
     at, file = room(name), assembled(LISTING)
     put(at, "a.dex", file)
@@ -47,13 +48,13 @@ def prepared(name):
     return at
 
 
-def each(texts, at, **env):
+def each(texts: Collection[str], at: str, **env: str) -> Iterator[tuple[str, Ended]]:
     """What bash makes of each of the texts, several at a time."""
     with concurrent.futures.ThreadPoolExecutor(4) as pool:
         yield from zip(texts, pool.map(lambda text: shell(text, at, **env), texts))
 
 
-def is_line(said):
+def is_line(said: str) -> bool:
     """One line, be it of a failure that nobody thought of."""
     return said.count("\n") == 1 and said[:-1].isprintable() and not re.search("Traceback|Exception", said)
 
@@ -61,7 +62,7 @@ def is_line(said):
 # ---- streams
 
 
-def try_streams():
+def try_streams() -> None:
     """Closed, full, and not read."""
     at = prepared("streams")
     good = {f"dexasm-{name} {words}": name for name, words in WORDS.items()}
@@ -81,7 +82,7 @@ def try_streams():
         check(text, seen[0] in want and seen[1:] == ("", ""), seen)
 
 
-def try_help():
+def try_help() -> None:
     at = room("streams help")
     for text, seen in each([UNREAD.format(f"dexasm-{name} --help") for name in WORDS], at):
         check(text, seen == (0, "", ""), seen)
@@ -89,7 +90,7 @@ def try_help():
         check(text, seen[:2] == (2 if "diff" in text else 3, "") and is_one_line(seen[2], "dexasm-"), seen)
 
 
-def try_unread():
+def try_unread() -> None:
     """More than a pipe holds, of which one byte is read: what answers by its status doesn't say that all is well."""
     at, many = room("streams unread"), b"".join(b"class L%s%d; 0x1\nend class\n" % (b"x" * 99, n) for n in range(3000))
     put(at, "a.dex", assembled(HEAD + many))
@@ -113,7 +114,7 @@ def try_unread():
     check("dexasm-size, its page was written nevertheless", os.path.exists(os.path.join(at, "page.html")))
 
 
-def try_limit():
+def try_limit() -> None:
     """A file that may not grow that much is one that can't be written, for whatever is printed."""
     at = room("streams limit")
     put(at, "a.dex", assembled(HEAD + b"".join(b"class L%s%d; 0x1\nend class\n" % (b"x" * 99, n) for n in range(300))))
@@ -133,7 +134,7 @@ def try_limit():
 # ---- Pythons
 
 
-def try_pythons():
+def try_pythons() -> None:
     """A Python without docstrings that looks for no module beside the program; one that tells what isn't closed."""
     at = prepared("streams pythons")
     env = {"PYTHONOPTIMIZE": "2", "PYTHONSAFEPATH": "1"}
@@ -152,7 +153,7 @@ def try_pythons():
 # ---- commands
 
 
-def answers(at):
+def answers(at: str) -> Iterator[tuple[str, str]]:
     """Commands that answer what is no answer, by what that is."""
     random_, listing = random.Random(5), HEAD + b"class LA; 0x1\nend class\n"
     for name, given in {
@@ -178,13 +179,13 @@ def answers(at):
         yield name, fake(at, f"fake/{name}", f"echo {shlex.quote(line)} >&2\nexit 1")
 
 
-def fake(at, name, does):
+def fake(at: str, name: str, does: str) -> str:
     path = put(at, name, f"#!/bin/sh\n{does}\n".encode())
     os.chmod(path, 0o755)
     return path
 
 
-def try_commands():
+def try_commands() -> None:
     """Over such a command: one line, and the status of what failed. (Of a class by its name alone a line is made.)"""
     at = prepared("streams commands")
     jobs = ["browse a.dex --output pages", "diff a.dex b.dex", "graph --calls a.dex", "lint a.dex"]
@@ -200,7 +201,7 @@ def try_commands():
             check(f"{text} by a command that answers {command}", is_so and "\x1b" not in seen[1], seen)
 
 
-def try_graphviz():
+def try_graphviz() -> None:
     """Over a graphviz that answers what is no picture."""
     at, svg = room("streams graphviz"), "http://www.w3.org/2000/svg"
     put(at, "a.dex", assembled(CODE))
@@ -221,14 +222,14 @@ def try_graphviz():
         ways = os.pathsep.join([os.path.join(at, str(number)), Tries.env["PATH"]])
         for text, seen in each(["dexasm-graph --format svg a.dex 'Lp/q/Hello;->get(Z)I'"], at, PATH=ways):
             is_so = number == 7 or seen[:2] == (3, "") and is_line(seen[2])
-            check(f"{text}, by a graphviz that answers {given[:60]}", is_so, seen)
+            check(f"{text}, by a graphviz that answers {given[:60]!r}", is_so, seen)
         words = f"dexasm-browse a.dex --output {number}/pages --graphs all; grep -rl 'No picture of' {number}/pages"
         for text, seen in each([words], at, PATH=ways):
             is_so = seen == (0, f"{number}/pages/class/1.html\n", "")
-            check(f"{text}, by a graphviz that answers {given[:60]}", is_so, seen)
+            check(f"{text}, by a graphviz that answers {given[:60]!r}", is_so, seen)
 
 
-def try_module():
+def try_module() -> None:
     """The module for Python over such a command: a line and 3, where that isn't a listing or a file of that length."""
     at = prepared("streams module")
     shutil.copytree(os.path.join(TOP, "bindings/python/dexasm"), os.path.join(at, "modules", "dexasm"))
@@ -246,7 +247,7 @@ def try_module():
 # ---- one long line
 
 
-def try_long_lines():
+def try_long_lines() -> None:
     """Lines without end, of which whatever grows with the square would take minutes."""
     at = prepared("streams long lines")
     for line in ("a", "refused 1 ", "refused 1 X at 1: ", "refused 1 X at 1", " ", "dexasm: refused 8 Checksum at "):

@@ -5,6 +5,7 @@ import os
 import re
 import sys
 import threading
+from collections.abc import Iterator
 
 from . import browser
 from .browse import CODE, PARTS, hostile
@@ -13,7 +14,7 @@ from .rooms import TOP, assembled, check, get, put, room, tool
 HTTP = "http://localhost:"
 
 
-def try_contrast():
+def try_contrast() -> None:
     """The colours of the style by WCAG 2: 4.5 to 1 of what is read, 3 to 1 of lines."""
     style = "".join(get(TOP, "contrib/share/dexasm", name).decode("ascii") for name in ("pages.css", "browse.css"))
     blocks = re.findall(r":root \{(.*?)\}", style, re.S)
@@ -22,6 +23,7 @@ def try_contrast():
         set(re.findall(r"#[0-9a-f]{3,8}\b", style)) - {color for one in colors for color in one.values()} - {"#111111"}
     )
     check("the pages, colours stand in one place", len(colors) == 2 and not others, others)
+    color: dict[str, str] | str
     for which, color in zip(("light", "dark"), colors):
         for ground in ("page", "box", "mark"):
             for ink in ("ink", "soft", "link", "word", "number", "string", "label"):
@@ -36,8 +38,9 @@ def try_contrast():
         check(f"the picture: words on {said}", contrast("#111111", color) >= 4.5)
 
 
-def contrast(one, other):
-    def light(color):
+def contrast(one: str, other: str) -> float:
+    def light(color: str) -> float:
+        parts: Iterator[float] | list[float]
         parts = (int(color[at : at + 2], 16) / 255 for at in (1, 3, 5))
         parts = [part / 12.92 if part <= 0.03928 else ((part + 0.055) / 1.055) ** 2.4 for part in parts]
         return 0.2126 * parts[0] + 0.7152 * parts[1] + 0.0722 * parts[2]
@@ -46,7 +49,7 @@ def contrast(one, other):
     return (high + 0.05) / (low + 0.05)
 
 
-def try_browser():
+def try_browser() -> None:
     """A walk from the largest method to what it calls and back, a search, and the keyboard."""
     if not browser.found():
         return
@@ -71,7 +74,7 @@ def try_browser():
         check("in a browser, its console is empty", page.told == [], page.told[:3])
 
 
-def walk(page, top):
+def walk(page: browser.Browser, top: str) -> None:
     page.open(f"{top}/index.html")
     first = "[...document.querySelectorAll('caption')].find((one) => one.textContent.includes('code')).parentElement"
     page.run(f"{first}.querySelector('tbody a').click()")
@@ -100,7 +103,7 @@ def walk(page, top):
     )
 
 
-def over_http(page, at):
+def over_http(page: browser.Browser, at: str) -> None:
     """The same pages from a web server."""
     handler = functools.partial(Quiet, directory=os.path.join(at, "a"))
     with http.server.ThreadingHTTPServer(("localhost", 0), handler) as server:
@@ -115,11 +118,11 @@ def over_http(page, at):
 
 
 class Quiet(http.server.SimpleHTTPRequestHandler):
-    def log_message(self, *_):
+    def log_message(self, *_: object) -> None:
         pass
 
 
-def keyboard(page, top):
+def keyboard(page: browser.Browser, top: str) -> None:
     """The search by keys alone, and what Tab reaches."""
     page.call("Emulation.setDeviceMetricsOverride", width=800, height=300, deviceScaleFactor=1, mobile=False)
     page.open(f"{top}/class/1.html")
@@ -148,7 +151,7 @@ def keyboard(page, top):
     )
 
 
-def widths(page, top):
+def widths(page: browser.Browser, top: str) -> None:
     """No page is wider than its window."""
     for width in (1280, 400):
         page.call("Emulation.setDeviceMetricsOverride", width=width, height=800, deviceScaleFactor=1, mobile=False)

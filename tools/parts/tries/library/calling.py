@@ -6,6 +6,7 @@ cargo is, Java where a JDK and JNA are, valgrind is asked about the caller in C 
 Python are tried by a part of objects.py, and the places of refusals by faultlines.py. Program and library are built
 where none are given and none are built.
 """
+import argparse
 import ctypes
 import os
 import resource
@@ -14,9 +15,11 @@ import subprocess
 import sys
 import tempfile
 import threading
+from collections.abc import Callable
+from typing import Any
 
 from ... import TOP
-from ..trying import BRANCHES, MEGABYTE, ODD, ONE_CLASS, check, compiler, ended, last_line, not_built
+from ..trying import BRANCHES, MEGABYTE, ODD, ONE_CLASS, Ended, check, compiler, ended, last_line, not_built
 
 JOBS = ("check", "list", "assemble", "align", "strip")
 ANSWERED, REFUSED, MEMORY, TOO_SMALL = 0, 1, 4, 5
@@ -25,33 +28,33 @@ LIMIT = 600  # seconds for a command
 
 LISTINGS = {"one class": ONE_CLASS, "a class with branches": BRANCHES, "a payload at an odd address": ODD}
 program = built = work = ""  # what is tried, and where; main says so
-dexasm = None  # the module for Python, once main has said which library it takes
+dexasm: Any = None  # the module for Python, once main has said which library it takes
 
 
-def run(*words, **options):
+def run(*words: str, **options: Any) -> Ended:
     """Status, standard output, standard error."""
     return ended(words, LIMIT, stdin=subprocess.DEVNULL, stdout=subprocess.PIPE, stderr=subprocess.PIPE, **options)
 
 
-def command(job, path):
+def command(job: str, path: str) -> Ended:
     """What the command answers."""
     return run(program, *(["assemble", "--align"] if job == "align" else [job]), path)
 
 
-def put(name, given):
+def put(name: str, given: bytes) -> str:
     path = os.path.join(work, name.replace(" ", "-"))
     with open(path, "wb") as file:
         file.write(given)
     return path
 
 
-def made_by_command(job, path):
+def made_by_command(job: str, path: str) -> bytes:
     status, made, said = command(job, path)
     check(f"the command's {job} of {path}", status == 0, said)
     return made
 
 
-def samples():
+def samples() -> list[str]:
     """The files that are tried: listings, what they are assembled to, and what no job takes."""
     paths = [put("nothing", b""), put("no file", b"dex 034"), put("a line feed", b"\n"), put("zeros", bytes(4096))]
     for name, text in LISTINGS.items():
@@ -64,7 +67,7 @@ def samples():
     return paths
 
 
-def compile_c():
+def compile_c() -> dict[str, list[str]]:
     """The caller in C, with the static library and with the shared one."""
     words = ["-O2", "-Wall", "-Wextra", "-Werror", "-I", built, "bindings/c/example.c"]
     callers = {}
@@ -79,7 +82,7 @@ def compile_c():
     return {name: [path] for name, path in callers.items()}
 
 
-def compile_rust():
+def compile_rust() -> dict[str, list[str]]:
     if not shutil.which("cargo"):
         print("tools/try library: no cargo here: the crate for Rust isn't tried", file=sys.stderr)
         return {}
@@ -93,7 +96,7 @@ def compile_rust():
     return {"Rust": [f"{work}/target/debug/examples/run"]}
 
 
-def try_callers(paths):
+def try_callers(paths: list[str]) -> None:
     callers = {**compile_c(), **compile_rust()}
     env = {**os.environ, "DEXASM_LIBRARY": f"{built}/libdexasm.so", "PYTHONPATH": os.path.join(TOP, "bindings", "python")}
     for path in paths:
@@ -126,7 +129,7 @@ def try_callers(paths):
             check(f"{name}: {job} of no file", got == (3, b"", "dexasm: cannot read\n"), got)
 
 
-def call(job, given, capacity, room):
+def call(job: str, given: bytes, capacity: int, room: int) -> tuple[int, bytes, int, tuple[int, int]]:
     """The call itself, into the front of a room that is full of one byte: status, room, length needed, fault."""
     out = (ctypes.c_char * room).from_buffer(bytearray([CANARY]) * room)
     needed, fault = ctypes.c_size_t(12345), dexasm._Fault(54321, 98765)
@@ -137,7 +140,7 @@ def call(job, given, capacity, room):
     return status, bytes(out), needed.value, (fault.code, fault.place)
 
 
-def try_buffers(paths):
+def try_buffers(paths: list[str]) -> None:
     """Each capacity about the length of the answer: whole or not at all, and nothing after it."""
     for path in paths:
         with open(path, "rb") as file:
@@ -158,7 +161,7 @@ def try_buffers(paths):
                 check(f"{job} of {path} into {capacity} bytes", is_so, f"{got[0]} {got[2]} {got[3]}")
 
 
-def try_texts():
+def try_texts() -> None:
     """The names of the faults and the version, into buffers of each size."""
     for code, want in [*((code, dexasm.fault_name(code)) for code in range(0, 260)), (65535, "Unknown")]:
         for capacity in (0, len(want) - 1, len(want), len(want) + 1):
@@ -180,7 +183,7 @@ def try_texts():
         check(f"the version into {capacity} bytes", is_so, f"{status} {needed.value} {out.value!r}")
 
 
-def once(paths):
+def once(paths: list[str]) -> None:
     """Each job on each file, by the Python binding."""
     for path in paths:
         with open(path, "rb") as file:
@@ -208,8 +211,9 @@ print(getattr(dexasm, "Nothing", "no"))
 """
 
 
-def try_python(paths):
+def try_python(paths: list[str]) -> None:
     """What the module does beside its calls: names, a library that isn't there, OUT."""
+    words: list[str] | str
     env = {**os.environ, "PYTHONPATH": "bindings/python", "PYTHONDONTWRITEBYTECODE": "1"}
     words = [sys.executable, "-c", "from dexasm import *; import builtins; print(list is builtins.list, strip.__name__)"]
     got = run(*words, env=env)
@@ -249,12 +253,12 @@ def try_python(paths):
         check(f"Python: {words}", got == want, f"{got} {want}")
 
 
-def pages():
+def pages() -> int:
     with open("/proc/self/statm", encoding="ascii") as file:
         return int(file.read().split()[0])
 
 
-def try_memory(paths):
+def try_memory(paths: list[str]) -> None:
     """1,000 calls and more in a limited memory, where no call keeps any; and a call that can't have what it needs."""
     many = b"dex 035\n" + b"".join(b"class LA%06d; 0x1\nend class\n" % at for at in range(100000))
     for _ in range(3):
@@ -275,12 +279,12 @@ def try_memory(paths):
         resource.setrlimit(resource.RLIMIT_AS, (soft, hard))
 
 
-def try_threads(paths):
+def try_threads(paths: list[str]) -> None:
     """Calls of several threads at once don't disturb one another."""
     text = LISTINGS["a class with branches"]
-    wrong = []
+    wrong: list[bytes] = []
 
-    def many():
+    def many() -> None:
         for _ in range(100):
             made = dexasm.assemble(text)
             if dexasm.list(made) != text or dexasm.strip(made) != made:
@@ -294,7 +298,7 @@ def try_threads(paths):
     check("four threads at once", not wrong)
 
 
-def try_valgrind(paths):
+def try_valgrind(paths: list[str]) -> None:
     """valgrind finds nothing to say of the caller in C."""
     if not shutil.which("valgrind"):
         print("tools/try library: no valgrind here", file=sys.stderr)
@@ -306,7 +310,7 @@ def try_valgrind(paths):
             check(f"valgrind: {job} of {path}", got == want, f"{got} {want}")
 
 
-def build():
+def build() -> tuple[str, str]:
     """Builds program and library where they aren't built, and says where they are."""
     places = os.path.join(TOP, "crates/dexasm/out/built/dexasm"), os.path.join(TOP, "crates/dexasm_c/out/built")
     for path, words in ((places[0], ["tools/build"]), (f"{places[1]}/libdexasm.so", ["tools/build", "library"])):
@@ -315,7 +319,7 @@ def build():
     return places
 
 
-def try_all(files):
+def try_all(files: list[str]) -> None:
     from . import faultlines, objects
     from .java import try_java
 
@@ -328,9 +332,10 @@ def try_all(files):
     objects.try_all(files=20, edits=200, seed=1)
 
 
-def main(given):
+def main(given: argparse.Namespace) -> int:
     global program, built, work, dexasm
-    program, built = map(os.path.abspath, (given.program, given.library) if given.program and given.library else build())
+    absolute: Callable[[str], str] = os.path.abspath
+    program, built = map(absolute, (given.program, given.library) if given.program and given.library else build())
     if not os.path.exists(f"{built}/libdexasm.so") or run(program, "--help")[0] != 0:
         return not_built("the program or the library")
     os.environ["DEXASM_LIBRARY"] = f"{built}/libdexasm.so"

@@ -1,6 +1,8 @@
 """Laws of programs as objects in Python, and edits at random: what is written is what it was edited to, or nothing."""
 import copy
 import itertools
+import random
+from typing import Any
 
 from ..trying import check
 from .harm import EVIL, MNEMONICS, WRONG  # (this finds the module below)
@@ -10,7 +12,7 @@ from dexasm import Catch, Field, Insn, Label, Method, Program, Proto, Refused, T
 from ..oracle.loose import random_files
 
 
-def try_laws(what, data):
+def try_laws(what: str, data: bytes) -> None:
     """A file that is read and written is its stripped one, and each class read and written anew has the same lines."""
     text, program = dexasm.list(data), Program.read(data)
     check(f"{what}: its text", str(program) == text == str(Program.parse(text)))
@@ -25,12 +27,12 @@ def try_laws(what, data):
     check(f"{what}: written anew", program.write() == dexasm.strip(data))
 
 
-def made_files(rng, count):
+def made_files(rng: random.Random, count: int) -> list[bytes]:
     """So many files that are accepted, made at random."""
     return [*itertools.islice((data for data, _ in random_files(rng) if is_accepted(data)), count)]
 
 
-def is_accepted(data):
+def is_accepted(data: bytes) -> bool:
     try:
         dexasm.check(data)
         return True
@@ -41,13 +43,13 @@ def is_accepted(data):
 class Edits:
     """Edits of a program at random, some of them harmful."""
 
-    def __init__(self, rng, program):
+    def __init__(self, rng: random.Random, program: Program) -> None:
         self.rng, self.program = rng, program
         self.classes = [*program.classes]
         self.codes = [method.code for one in self.classes for method in one.methods if method.code is not None]
         self.pool = [insn for code in self.codes for insn in code.insns]
 
-    def one(self):
+    def one(self) -> None:
         kinds = (
             [self.edit_class, self.edit_member]
             + [self.edit_insn] * 4 * bool(self.codes)
@@ -55,16 +57,16 @@ class Edits:
         )
         self.rng.choice(kinds)()
 
-    def text(self, was):
+    def text(self, was: Any) -> Any:
         others = [str(one.name) for one in self.classes] + ["I", "[J", "V", "()V", "(I)V", "a", "b", "LNew;"]
         return self.rng.choice([was, was, *others, self.rng.choice(EVIL), self.rng.choice(WRONG)])
 
-    def number(self):
+    def number(self) -> Any:
         return self.rng.choice(
             [0, 1, 2, 3, -1, 15, 16, 255, 256, 32767, -32768, 65535, 65536, 1 << 31, 1 << 40, "1", True]
         )
 
-    def edit_class(self):
+    def edit_class(self) -> None:
         one, rng = self.rng.choice(self.classes), self.rng
         slot = rng.choice(["name", "superclass", "source", "flags", "interfaces", "order", "drop", "twice"])
         if slot in ("name", "superclass", "source"):
@@ -80,9 +82,9 @@ class Edits:
         else:
             self.program.classes.append(copy.deepcopy(one))
 
-    def edit_member(self):
+    def edit_member(self) -> None:
         rng, one = self.rng, self.rng.choice(self.classes)
-        members = rng.choice([one.statics, one.instances, one.directs, one.virtuals])
+        members: list[Any] = rng.choice([one.statics, one.instances, one.directs, one.virtuals])
         if not members or rng.random() < 0.2:
             members.append(
                 Field("new", Type("I"), 1)
@@ -116,7 +118,7 @@ class Edits:
         else:
             setattr(member, slot, self.text(getattr(member, slot)))
 
-    def edit_insn(self):
+    def edit_insn(self) -> None:
         rng, code = self.rng, self.rng.choice(self.codes)
         insns = code.insns
         labels = [*code.labels()]
@@ -141,7 +143,7 @@ class Edits:
             }
             setattr(insn, slot, values.get(slot, self.text(insn.text) if slot == "text" else self.number()))
 
-    def edit_try(self):
+    def edit_try(self) -> None:
         rng, code = self.rng, self.rng.choice(self.codes)
         places = [*code.insns, None]
         code.tries.insert(
@@ -168,7 +170,7 @@ ZEROS = {
 }
 
 
-def parts(one):
+def parts(one: dexasm.Class) -> tuple[str, list[str]]:
     """A class's lines by members, sorted. A static field's value that is its type's zero is as none."""
     heads, *members = one.parts()
     found = []
@@ -184,7 +186,7 @@ def parts(one):
     return heads[1], sorted(found)
 
 
-def try_edit(what, rng, data):
+def try_edit(what: str, rng: random.Random, data: bytes) -> bool:
     """A program that was edited is written as what it was edited to, or not at all."""
     program = Program.read(data)
     edits = Edits(rng, program)

@@ -5,6 +5,7 @@ are wanted are read off these marks, not off what is answered. Programs at rando
 """
 import itertools
 import random
+from collections.abc import Iterable, Iterator
 
 from ..trying import check
 from . import harm  # noqa: F401 (this finds the module below)
@@ -16,14 +17,15 @@ from ..oracle.texts import random_texts
 
 HEAD, CLASS, CODE = "dex 035 listing 2", "class LA; 0x1", ("direct m ()V 0x9", "code 4 0 0")
 LONG = 65536
+Marked = tuple[int, int | None, str | None]  # the line, the column, the word; the last two are None of a whole line
 RULES = (110, *range(112, 119))
 
 
-def in_code(*lines):
+def in_code(*lines: str) -> list[str]:
     return [*CODE, *lines, "end code"]
 
 
-def filled(number, each="nop"):
+def filled(number: int, each: str = "nop") -> list[str]:
     return [each] * number
 
 
@@ -126,7 +128,7 @@ LINES = {
 MEMBER = "virtual z (I)V 1", "code 2 1 0", "return-void", "end code"
 
 
-def surrounded(body):
+def surrounded(body: list[str]) -> Iterator[list[str]]:
     """The body in classes of five kinds, as lines of a whole text."""
     after = "class LZ; 0", "end class"
     yield [HEAD, CLASS, *body, "end class", *after]
@@ -139,7 +141,7 @@ def surrounded(body):
         yield [*before, *body, "end class", *after]
 
 
-def marked(lines):
+def marked(lines: list[str]) -> tuple[str, Marked]:
     """The text, and the line, the column and the word that are marked in it; the last two are None of a whole line."""
     for number, line in enumerate(lines, 1):
         if line.lstrip().startswith("«»") or "«" in line and not line.startswith("#"):
@@ -150,7 +152,7 @@ def marked(lines):
     raise ValueError("nothing is marked")
 
 
-def refused(text, align=False):
+def refused(text: str | bytes, align: bool = False) -> dexasm.Refused | None:
     try:
         dexasm.assemble(text, align)
     except dexasm.Refused as refusal:
@@ -158,7 +160,7 @@ def refused(text, align=False):
     return None
 
 
-def try_marked(what, number, lines, says=""):
+def try_marked(what: str, number: int, lines: list[str], says: str = "") -> None:
     text, want = marked(lines)
     seen = refused(text)
     place = seen and seen.where and (seen.line, seen.column, seen.word)
@@ -166,7 +168,7 @@ def try_marked(what, number, lines, says=""):
     check(f"the line of {number}, {what}", is_so, (seen and str(seen), place, want))
 
 
-def try_bodies():
+def try_bodies() -> None:
     for number, bodies in {**BODIES, **LINES}.items():
         for at, body in enumerate(bodies):
             line = next(line for line in body if "«" in line)
@@ -175,8 +177,9 @@ def try_bodies():
                 try_marked(f"{at} in {way}", number, lines, SAYS.get((number, line), "") if way == 0 else "")
 
 
-def try_twice():
+def try_twice() -> None:
     """A class that was defined, and what --align moves."""
+    seen: set[str] | dexasm.Refused | None
     for names in (["LA;"], ["LB;", "LA;", "LC;"], ["LA;", "LA;"], ["LA;", "LB;", "LB;"]):
         lines, seen = [HEAD], set()
         for name in [*names, "LA;"]:
@@ -191,16 +194,16 @@ def try_twice():
     check("the line of 85 with --align", place == (85, *want), str(seen))
 
 
-def try_first_form():
+def try_first_form() -> None:
     faults = (115, "1: goto «@1»"), (118, "0x1: move v0 «v7»"), (105, "1: goto «@0x7»"), (102, "1: goto «a»")
     for number, line in faults:
         try_marked(line, number, ["dex 035", CLASS, *CODE, "0: nop", line, "2: return-void", "end code", "end class"])
 
 
-def large():
+def large() -> Iterator[tuple[int, list[str]]]:
     """Of each limit of a table or of a list one text."""
 
-    def value(kind, names, *lines):
+    def value(kind: str, names: Iterable[str], *lines: str) -> list[str]:
         words = " ".join(f"{kind} {name}" for name in names)
         return [HEAD, CLASS, f"static a I 0 = array {{ {words} }}", *lines, "end class"]
 
@@ -227,7 +230,7 @@ def large():
     yield 114, [HEAD, CLASS, *in_code(":a", "packed-switch v0 :p", "nop", ":p", payload), "end class"]
 
 
-def try_random(count, seed):
+def try_random(count: int, seed: int) -> None:
     """What is found of texts at random is the number that the library answers, and no other; nothing is a traceback."""
     found = dict[int, int]()
     for at, (text, align) in enumerate(itertools.islice(random_texts(random.Random(seed)), count)):
@@ -250,23 +253,32 @@ def try_random(count, seed):
     check("texts at random have each rule", count < 1000 or not missing, missing)
 
 
-def try_formats():
+def try_formats() -> None:
     """The formats, beside the second reading."""
     for opcode, mnemonic in MNEMONICS.items():
         form = form_of(opcode)
         name = kind_of_name(opcode).replace("string", "text") if form in WITH_NAME else ""
         want = int(form[0]), REGISTER_BITS.get(form, ()), LITERAL_BITS.get(form, 0), form in WITH_TARGET, name
+        seen: formats.Format | tuple[int, tuple[int, ...], int, bool, str]
         seen = formats.format_of(mnemonic) or formats.Format(0)
         seen = seen.units, seen.registers, seen.literal, seen.target > 0, seen.name
         check(f"the format of {mnemonic}", seen == want, (seen, want))
 
 
-def try_lazily():
+def try_lazily() -> None:
     """Nothing is looked for before it is asked for; another text than the refused one has no place."""
+    calls: list[tuple[bytes, int, int, bool]]
     calls, of = [], faultline.of
-    faultline.of = lambda *given: calls.append(given) or of(*given)
+
+    def noted(listing: bytes, number: int, place: int, align: bool = False) -> faultline.Place | None:
+        calls.append((listing, number, place, align))
+        return of(listing, number, place, align)
+
+    seen: dexasm.Refused | list[tuple[int, faultline.Place | None]] | None
+    faultline.of = noted
     try:
         seen = refused("\n".join([HEAD, CLASS, *in_code("move v0 v9"), "end class", ""]))
+        assert seen is not None  # (the code has 4 registers)
         check("the place isn't looked for unasked", seen.number == 118 and not calls)
         check("it is looked for once", (seen.line, seen.column) == (5, 9) and str(seen) and len(calls) == 1, calls)
     finally:
@@ -278,7 +290,7 @@ def try_lazily():
         check(f"another text: {text!r}", not seen, seen)
 
 
-def try_large(ways=10):
+def try_large(ways: int = 10) -> None:
     """Each large text so often, with more lines before what is at fault; they name no further type or prototype."""
     for number, (head, name, *rest) in large():
         for way in range(ways):
@@ -286,7 +298,7 @@ def try_large(ways=10):
             try_marked(f"of many, {way}", number, [*["#"] * way, head, name, *fields, *rest])
 
 
-def try_all(count, seed):
+def try_all(count: int, seed: int) -> None:
     try_large()
     for one in (try_bodies, try_twice, try_first_form, try_formats, try_lazily):
         one()

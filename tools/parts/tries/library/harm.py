@@ -1,6 +1,7 @@
 """What the tries of programs as objects share: what is put into names and numbers by harm."""
 import os
 import sys
+from typing import Any
 
 from ... import TOP
 
@@ -56,7 +57,7 @@ EVIL = (
     "\\",
 )
 MEMBERS = ("LA", "VV", "\u2066", "v0", "0x1")  # those of them that a member may be called
-WRONG = (5, 1.5, None, b"LA;", [], {}, object(), True)
+WRONG: tuple[Any, ...] = (5, 1.5, None, b"LA;", [], {}, object(), True)
 MNEMONICS = (
     "nop\nend code",
     "nop v0",

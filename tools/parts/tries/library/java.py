@@ -7,9 +7,9 @@ import re
 import shutil
 import subprocess
 import sys
-from typing import Callable
+from typing import Any, Callable
 
-from ... import TOP
+from ... import TOP, sought
 from ..program import out_cases
 from .java_outs import QUICK, try_java_outs
 from .java_places import try_places
@@ -22,7 +22,7 @@ JOBS = ("check", "list", "assemble", "align", "strip")
 LIMIT = 600  # seconds for a command
 SMALL = ("-Xmx8m", "-XX:MaxDirectMemorySize=16m")
 # Words, with the status that the command has for them; FILE is a file that is right.
-WORDS = (
+WORDS: tuple[tuple[str | bytes, ...], ...] = (
     (), ("help",), ("--bad",), ("check", "--bad"), ("check", "-x"), ("check", "FILE", "FILE"),
     ("check", "--align", "FILE"), ("list", "FILE", "--output"), ("list", "--output", "--align"),
     ("list", "--output=out", "--output", "out"), ("assemble", "--align", "--align"), ("check", "--", "--output"),
@@ -56,11 +56,16 @@ int dexasm_version(char *out, size_t capacity, size_t *needed) {
 Check = Callable[..., None]
 
 
-def run(*words: str | bytes, **options: object) -> tuple[int | str, bytes, str]:
+def run(*words: str | bytes, **options: Any) -> tuple[int | str, bytes, str]:
     """Status, standard output, standard error."""
-    streams = {"stdin": subprocess.DEVNULL, "stdout": subprocess.PIPE, "stderr": subprocess.PIPE}
+    streams: dict[str, Any] = {
+        "stdin": subprocess.DEVNULL,
+        "stdout": subprocess.PIPE,
+        "stderr": subprocess.PIPE,
+        "timeout": LIMIT,
+    }
     try:
-        done = subprocess.run(words, **{**streams, "timeout": LIMIT, **options})
+        done = subprocess.run(words, **{**streams, **options})
     except subprocess.TimeoutExpired:
         return "late", b"", f"no answer within {LIMIT} s"
     return done.returncode, done.stdout, done.stderr.decode("utf8", "replace")
@@ -95,7 +100,7 @@ class Java:
         self.command = put(f"{self.folder}/command", script.encode())
         os.chmod(self.command, 0o755)
 
-    def run(self, *words: str, env: dict[str, str] | None = None, **options: object) -> tuple[int | str, bytes, str]:
+    def run(self, *words: str, env: dict[str, str] | None = None, **options: Any) -> tuple[int | str, bytes, str]:
         return run("java", *words, env=self.env | (env or {}), **options)
 
     def path(self, *more: str) -> str:
@@ -132,11 +137,11 @@ def session(java: Java) -> list[str]:
     """README's session: its listing, the file of it, and that with a byte changed, refused as the page says."""
     with open(os.path.join(TOP, "README.md"), encoding="utf8") as file:
         page = file.read()
-    typed = re.search(r"^\$ cat > hello.txt\n(.*?)^\$ ", page, re.S | re.M)[1]
+    typed = sought(r"^\$ cat > hello.txt\n(.*?)^\$ ", page, re.S | re.M)[1]
     listing = put(f"{java.folder}/hello.txt", typed.encode())
     made = run(java.program, "assemble", listing)[1]
     broken = put(f"{java.folder}/broken.dex", made[:200] + b"X" + made[201:])
-    line = re.search(r"^\$ dexasm check hello.dex\n(dexasm: .*\n)", page, re.M)[1]
+    line = sought(r"^\$ dexasm check hello.dex\n(dexasm: .*\n)", page, re.M)[1]
     got = run(java.command, "check", broken, env=java.env)
     java.check("Java: README's session", got == (1, b"", line), got)
     return [listing, put(f"{java.folder}/hello.dex", made), broken]
@@ -144,8 +149,9 @@ def session(java: Java) -> list[str]:
 
 def try_words(java: Java, path: str) -> None:
     """The jar's main beside the command: status, standard output, and of a refusal or a failure the line."""
+    said: str | bool
     for words in WORDS:
-        asked = [word.replace("FILE", path) if isinstance(word, str) else word for word in words]
+        asked: list[str | bytes] = [word.replace("FILE", path) if isinstance(word, str) else word for word in words]
         folder = os.path.join(java.folder, "words")
         ends = []
         for program in (java.program, java.command):
@@ -214,12 +220,16 @@ def try_libraries(java: Java, path: str) -> None:
         made = java.compiled_c(f"{name.replace(' ', '-')}.so", text)
         libraries += [(name, made, line)] if made else []
     for name, library, line in libraries:
-        for options, env in (([f"-Ddexasm.library={library}"], {}), ([], {"DEXASM_LIBRARY": library})):
+        for options, env in (
+            ([f"-Ddexasm.library={library}"], dict[str, str]()),
+            (list[str](), {"DEXASM_LIBRARY": library}),
+        ):
             status, out, said = java.run(*QUICK, *options, "-jar", java.jar, "strip", path, env=env)
             is_so = said.startswith(f"dexasm: no libdexasm {number}: ") and said.count("\n") == 1 and line in said
             java.check(f"Java: a library that {name}", (status, out) == (70, b"") and is_so, f"{status} {said}")
     long = java.compiled_c("long.so", TOO_LONG % {"version": number, "length": len(number)})
     for job in ("strip", "list") if long else ():
+        assert long is not None  # (there are no jobs without)
         got = java.run(*QUICK, "-jar", java.jar, job, path, env={"DEXASM_LIBRARY": long})
         java.check(f"Java: out of memory in {job}", got == (4, b"", "dexasm: out of memory\n"), got)
     got = java.run(*QUICK, "-cp", f"{java.folder}/alone", "dexasm.Main", "check", path)
@@ -253,14 +263,15 @@ def blocks(page: str, kind: str) -> list[str]:
 def programs() -> dict[str, str]:
     """The programs of the pages and of the class's comment, by the class's name."""
     with open(f"{JAVA}/src/dexasm/Dexasm.java", encoding="utf8") as file:
-        comment = re.search(r"<pre>\{@code\n(.*?)^ \* \}</pre>", file.read(), re.S | re.M)[1]
+        comment = sought(r"<pre>\{@code\n(.*?)^ \* \}</pre>", file.read(), re.S | re.M)[1]
     texts = [text for page in ("bindings/java/README.md", COOKBOOK) for text in blocks(page, "java")]
     texts.append(re.sub(r"^ \* ?", "", comment, flags=re.M))
-    return {re.search(r"public class (\w+)", text)[1]: text for text in texts}
+    return {sought(r"public class (\w+)", text)[1]: text for text in texts}
 
 
 def try_examples(java: Java, path: str) -> None:
     """The examples compile; those of the cookbook print what the page says, run as it says."""
+    is_so: bool | re.Match[bytes] | None
     folder = os.path.join(java.folder, "examples")
     os.makedirs(folder)
     for name, text in programs().items():

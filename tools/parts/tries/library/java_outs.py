@@ -11,9 +11,14 @@ import resource
 import subprocess
 import sys
 import threading
+from collections.abc import Sequence
+from typing import TYPE_CHECKING, Any
 from urllib.parse import quote, unquote
 
 from ..contrib import deliver, deliver_calls, rooms
+
+if TYPE_CHECKING:
+    from .java import Java
 
 QUICK = ("-XX:TieredStopAtLevel=1", "-XX:+UseSerialGC", "-XX:-UsePerfData", "-Xshare:auto")  # for short runs
 LIMIT = 600  # seconds for all that one process is asked for, or for one run under strace
@@ -102,13 +107,25 @@ class Process:
         return self
 
     def __exit__(self, *_: object) -> None:
+        assert self.process.stdin is not None and self.process.stdout is not None  # (both are pipes)
         self.process.stdin.close()
         self.process.wait()
         self.process.stdout.close()
         self.timer.cancel()
 
-    def ran(self, out, given=deliver.NEW, user=0, groups=(), mask=0o022, most=None, at=None, fault="") -> str:
+    def ran(
+        self,
+        out: str | bytes | os.PathLike[str],
+        given: bytes = deliver.NEW,
+        user: int = 0,
+        groups: Sequence[int] = (),
+        mask: int = 0o022,
+        most: int | None = None,
+        at: str | None = None,
+        fault: str = "",
+    ) -> str:
         """How bringing it ends: "done", or the name of an error; with a zero after it if the fault was met."""
+        assert self.process.stdin is not None and self.process.stdout is not None  # (both are pipes)
         with open(self.given, "wb") as file:
             file.write(given)
         paths = [quote(os.fsencode(path)) for path in (at or "/", out, self.given)]
@@ -122,27 +139,28 @@ class Process:
         return NAMES.get(why.split(": the whole")[0], why) + (part and f" kept in {part}") + (met and "\0")
 
 
-def words_of(java, *more: str) -> list[str]:
+def words_of(java: Java, *more: str) -> list[str]:
     return ["java", *QUICK, f"-Ddexasm.library={java.library}/libdexasm.so", "-cp", java.path(), *more]
 
 
-def try_same(java) -> None:
+def try_same(java: Java) -> None:
     """The tries of the module for Python, of the binding for Java."""
 
-    def check(what, is_so, seen=""):
+    def check(what: str, is_so: object, seen: object = "") -> None:
         java.check(what.replace("deliver,", "Java: OUT,"), is_so, seen)
 
-    before = deliver.ran, deliver.check
+    module: Any = deliver  # (two of its functions are replaced by others, which take less)
+    before = module.ran, module.check
     with Process(words_of(java, "dexasm.Outs"), java.env) as process:
-        deliver.ran, deliver.check = process.ran, check
+        module.ran, module.check = process.ran, check
         try:
             for one in SAME:
                 one()
         finally:
-            deliver.ran, deliver.check = before
+            module.ran, module.check = before
 
 
-def try_faults(java) -> None:
+def try_faults(java: Java) -> None:
     """Each call of the C library, failed in turn: OUT is what it was or the answer, or that stands whole beside."""
     failing = java.compiled_c("failing.so", FAILING)
     if failing is None:
@@ -161,7 +179,7 @@ def try_faults(java) -> None:
             java.check(f"Java: OUT, {name}, calls are failed", count > 10, count)
 
 
-def try_lists(java, process: Process) -> None:
+def try_lists(java: Java, process: Process) -> None:
     """An access control list that can't be given."""
     out = deliver.made(rooms.room("lists"))
     for given, mode in LISTS:
@@ -174,7 +192,7 @@ def try_lists(java, process: Process) -> None:
         java.check(f"Java: OUT, a list that can't be given, {mode:o}", is_so, f"{seen!r} {deliver.mode_of(out):o}")
 
 
-def fail_each(java, process: Process, name: str, call: str) -> int:
+def fail_each(java: Java, process: Process, name: str, call: str) -> int:
     """How many runs have met what was to fail."""
     count = 0
     for error in MORE.get(call, ERRORS[:1]):
@@ -198,7 +216,7 @@ def fail_each(java, process: Process, name: str, call: str) -> int:
 class Traced(deliver_calls.Room):
     """A folder in which OUT stands, and a process of its own that writes it under strace."""
 
-    def run_java(self, java, injected: str | None = None) -> tuple[int, list[str], str]:
+    def run_java(self, java: Java, injected: str | None = None) -> tuple[int, list[str], str]:
         log, part = f"{self.home}/log", f"{self.real}.0.part"
         words = ["strace", "-qq", "-f", "-s", "0", "-o", log, "-P", part, "-P", "/it begins"]
         words += ["-e", f"trace={deliver_calls.CALLS},statx"]
@@ -214,7 +232,7 @@ class Traced(deliver_calls.Room):
         return done.returncode if done.returncode < 128 else 128 - done.returncode, calls, done.stderr.decode("latin1")
 
 
-def traced(java, injected: str | None = None) -> tuple[str | None, list[str]]:
+def traced(java: Java, injected: str | None = None) -> tuple[str | None, list[str]]:
     """What is wrong with what a run leaves, and its calls."""
     room = Traced("one name")
     try:
@@ -228,7 +246,7 @@ def traced(java, injected: str | None = None) -> tuple[str | None, list[str]]:
         room.end()
 
 
-def try_traced(java) -> None:
+def try_traced(java: Java) -> None:
     if not rooms.can_trace():
         print("tools/try library: Java: no strace here, or it may not trace", file=sys.stderr)
         return
@@ -243,7 +261,7 @@ def try_traced(java) -> None:
 PARTS = (try_same, try_faults, try_traced)
 
 
-def try_java_outs(java) -> None:
+def try_java_outs(java: Java) -> None:
     """All of it; `java` is that of java.py."""
     rooms.Tries.folder, rooms.Tries.env = os.path.realpath(os.path.join(java.folder, "outs")), java.env
     os.mkdir(rooms.Tries.folder)

@@ -7,10 +7,13 @@ import itertools
 import os
 import random
 from collections.abc import Iterator
-from typing import Any
+from typing import TYPE_CHECKING, Any
 
 from .faultlines import BODIES, CLASS, CODE, HEAD, filled, large, marked, refused, surrounded
 from ..oracle.texts import random_texts
+
+if TYPE_CHECKING:
+    from .java import Java
 
 # Whose line is the very one; of the others it is that, or the member's, or the class's.
 EXACT = (82, 85, 87, 88, 110, 112, 113, 114, 115, 117, 118)
@@ -37,7 +40,7 @@ HOSTILE = (
 )
 
 
-def try_places(java: Any, seed: int = 2, count: int = 120) -> None:
+def try_places(java: Java, seed: int = 2, count: int = 120) -> None:
     folder = os.path.join(java.folder, "places")
     os.makedirs(folder)
     rows = []
@@ -69,7 +72,8 @@ def marks() -> Iterator[tuple[bytes, bool, list[int], str]]:
         text, (line, _, _) = marked(lines)
         given = text.encode("latin1")[: -1 if number == 0 else None]
         seen = refused(given)
-        where = seen.where
+        assert seen is not None  # (each has a fault)
+        where: Any = seen.where
         told = [line] if seen.number in EXACT else allowed(where)
         names = "" if number == 0 else f"{where.class_name.spelled} {where.member.spelled if where.member else 'null'}"
         yield given, False, told, names if told == [line] else ""
@@ -77,10 +81,11 @@ def marks() -> Iterator[tuple[bytes, bool, list[int], str]]:
 
 def at_random(seed: int, count: int) -> Iterator[tuple[bytes, bool, list[int], str]]:
     for text, align in itertools.islice(random_texts(random.Random(seed)), count):
-        given = text if isinstance(text, bytes) else text.encode("latin1")
+        given = text if isinstance(text, bytes) else text.encode("latin1")  # type: ignore[attr-defined]  # (all bytes)
         seen = refused(given, align)
         if seen is not None and seen.where is not None:
-            yield given, align, [seen.line] if seen.number in (*EXACT, *range(100, 107)) else allowed(seen.where), ""
+            where = seen.where
+            yield given, align, [where.line] if seen.number in (*EXACT, *range(100, 107)) else allowed(where), ""
 
 
 def allowed(where: Any) -> list[int]:

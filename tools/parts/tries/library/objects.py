@@ -4,6 +4,7 @@ at random.
 The part library runs a small part of it. Alone, with DEXASM_LIBRARY or DEXASM_COMMAND, it tries the laws on --count made
 files (or 500) and on the .dex files below --files, and --edits edits (or 10000).
 """
+import argparse
 import copy
 import glob
 import itertools
@@ -15,8 +16,10 @@ import shutil
 import subprocess
 import sys
 import tempfile
+from collections.abc import Callable
+from typing import Any
 
-from ... import TOP
+from ... import TOP, sought
 from ..trying import check, last_line
 from .harm import EVIL, MEMBERS, MNEMONICS, WRONG  # (this finds the module below)
 
@@ -25,6 +28,7 @@ from dexasm import ArrayData, Catch, Class, Code, Field, FieldRef, Insn, Label, 
 from dexasm import Proto, Refused, SparseSwitch, Try, Type, Value
 from .edits import is_accepted, made_files, try_edit, try_laws
 
+Change = Callable[[Any, Any], Any]  # of a program and its class, also to what their types forbid
 HELLO = r"""dex 035 listing 2
 class LHello; 0x1
 super Ljava/lang/Object;
@@ -55,7 +59,7 @@ end class
 """
 
 
-def changed(change):
+def changed(change: Change) -> str | ValueError | KeyError:
     """The program above after a change: its listing, or what was raised."""
     program = Program.parse(HELLO)
     try:
@@ -65,14 +69,14 @@ def changed(change):
         return error
 
 
-def is_refused(what, change):
+def is_refused(what: str, change: Change) -> None:
     """That nothing is written after a change: a ValueError, of which Refused is one kind, tells why in one line."""
     seen = changed(change)
     is_so = isinstance(seen, ValueError) and str(seen).isascii() and str(seen).isprintable()
     check(f"{what} is refused", is_so, seen)
 
 
-def becomes(what, old, new, change, *labels):
+def becomes(what: str, old: str, new: str, change: Change, *labels: tuple[str, str]) -> None:
     """That a change of the program is this change of its listing, these of its labels, and no other."""
     want = HELLO.replace(old, new, 1)
     for label, other in labels:
@@ -89,14 +93,14 @@ def becomes(what, old, new, change, *labels):
 # ---- harm
 
 
-def at_first(insn):
+def at_first(insn: Any) -> Change:
     return lambda _, hello: hello.method("get").code.insns.insert(0, insn)
 
 
-def set_in(path, value):
+def set_in(path: str, value: Any) -> Change:
     """A change that gives one slot another value."""
 
-    def change(_, hello):
+    def change(_: Program, hello: Any) -> None:
         code = hello.method("pick").code
         at = {
             "hello": hello,
@@ -120,7 +124,7 @@ def set_in(path, value):
     return change
 
 
-def try_names():
+def try_names() -> None:
     """In no slot of a name or a number does a text become a word or a line more."""
     types = "hello.name", "hello.superclass", "name.type", "catch.type"
     for path in (*types, "name.name", "get.name", "get.proto", "const.name"):
@@ -156,7 +160,7 @@ def try_names():
         is_refused(f"{path}, forged", set_in(path, forged))
 
 
-def try_makers():
+def try_makers() -> None:
     """A text that isn't of a name's form makes none."""
     for kind in (Type, Proto, FieldRef, MethodRef):
         for evil in (*EVIL, *WRONG):
@@ -168,7 +172,7 @@ def try_makers():
                 check(f"{kind.__name__} of {ascii(evil)}", str(error).isascii() and str(error).isprintable(), error)
 
 
-def try_insns():
+def try_insns() -> None:
     for evil in (*MNEMONICS, *WRONG, "no-such", "packed-switch-payload", "sparse-switch-payload"):
         is_refused(f"a mnemonic {ascii(evil)}", at_first(Insn(evil)))
         is_refused(f"a mnemonic {ascii(evil)} with a name", at_first(Insn(evil, name="LX;")))
@@ -185,11 +189,12 @@ def try_insns():
         lambda _, hello: hello.method("get").code.insns.extend([nop, nop, Insn("goto", target=Label(nop))]),
     )
     is_refused("keys without targets", at_first(SparseSwitch([1], [])))
-    is_refused("data that is no bytes", at_first(ArrayData(1, "00\nnop")))
+    is_refused("data that is no bytes", at_first(ArrayData(1, "00\nnop")))  # type: ignore[arg-type]  # (which is tried)
 
 
-def try_texts():
+def try_texts() -> None:
     """Any text is one text."""
+    evil: Any
     for evil in (*EVIL, "\ud83d\ude00", "\ude00\ud83d", "\U0001f600", "a\x7f\x80", "\\u0041", '\\"'):
         word = "".join(f"\\u{unit:04x}" for unit in units(evil))
         canonical = re.sub(r"\\u00([2-7]\d|[2-6][a-f]|7[a-e])", lambda found: plain(int(found[1], 16)), word)
@@ -205,7 +210,8 @@ def try_texts():
         )
         program = Program.parse(HELLO)
         insert(program, program["LHello;"])
-        again = Program.read(program.write())["LHello;"].method("get").code.insns[0].text
+        again = Program.read(program.write())["LHello;"].method("get").insns[0].text
+        assert again is not None  # (it is that of a const-string)
         check(
             f"a constant {ascii(evil)} is read again",
             units(again) == units(evil) and "\ud83d\ude00" not in again,
@@ -217,16 +223,16 @@ def try_texts():
         is_refused(f"a constant {evil!a}", at_first(Insn("const-string", 0, text=evil)))
 
 
-def units(text):
+def units(text: str) -> list[int]:
     given = text.encode("utf-16-le", "surrogatepass")
     return [given[at] | given[at + 1] << 8 for at in range(0, len(given), 2)]
 
 
-def plain(unit):
+def plain(unit: int) -> str:
     return "\\" + chr(unit) if chr(unit) in '"\\' else chr(unit)
 
 
-def nested(depth):
+def nested(depth: int) -> Value:
     value = Value("array", [])
     for _ in range(depth):
         value = Value("array", [value])
@@ -235,7 +241,7 @@ def nested(depth):
 
 RING = Value("array", [])
 RING.value.append(RING)
-WRONG_VALUES = (
+WRONG_VALUES: tuple[Any, ...] = (
     Value("int\nx", 1),
     Value("int", "1"),
     Value("int", 1 << 40),
@@ -247,7 +253,7 @@ WRONG_VALUES = (
     Value("enum", "LA;->a()V"),
     Value("array", 5),
     Value("array", ["int 3"]),
-    Value([], 1),
+    Value([], 1),  # type: ignore[arg-type]  # (which is tried)
     Value("} int", 1),
     nested(70),
     RING,
@@ -260,10 +266,10 @@ VALUES = [Value("int", -3), Value("boolean", False), Value("float", 0x7F800001),
 WORDS = "array { int -3 false float 7f800001 enum LA;->a:LA; array { } }"
 
 
-def try_values():
+def try_values() -> None:
     for evil in WRONG_VALUES:
         is_refused(f"a value {evil!a:.60}", set_in("name.value", evil))
-    field = Field("a", "I", 0, Value("int", 1))
+    field = Field("a", "I", 0, Value("int", 1))  # type: ignore[arg-type]  # (a text is taken too)
     is_refused("a value of an instance field", lambda _, hello: hello.instances.append(field))
     array = Value("array", [*VALUES, Value("array", [])])
     becomes("an array", 'string "the answer"', WORDS, set_in("name.value", array))
@@ -276,8 +282,10 @@ def try_values():
         check("all values of a ring", True)
 
 
-def try_bytes():
+def try_bytes() -> None:
     """What is no bytes is no file."""
+    job: Any
+    evil: Any
     for job in (dexasm.check, dexasm.list, dexasm.strip, dexasm.assemble, Program.read):
         for evil in (5, 0, True, None, [1, 2], 1.5, {}):
             try:
@@ -297,7 +305,7 @@ def try_bytes():
 # ---- what it does
 
 
-def try_changes():
+def try_changes() -> None:
     """A few changes, each with what becomes of the listing."""
     becomes(
         "a constant", "v0 41", "v0 42", lambda _, hello: setattr(hello.method("get(Z)I").code.insns[0], "literal", 42)
@@ -326,7 +334,7 @@ def try_changes():
     )
 
 
-def try_replacing():
+def try_replacing() -> None:
     """Branches to what is replaced; classes more and none."""
     becomes(
         "what led to an instruction leads to those in its place",
@@ -357,7 +365,7 @@ CALLS = [
     Insn("invoke-static", name="LA;->m()V"),
 ]
 # (labels of the second method, when two instructions come before all)
-PICKED = (
+PICKED: tuple[tuple[str, str], ...] = (
     ("v1 :L3", "v1 :L5"),
     (":L1\nconst", ":L3\nconst"),
     (":L2\nreturn-void\n:L3", ":L4\nreturn-void\n:L5"),
@@ -366,7 +374,7 @@ PICKED = (
 PICKED += (("try :L1 :L2", "try :L3 :L4"), ("Exception; :L2", "Exception; :L4"), ("catchall :L2", "catchall :L4"))
 
 
-def replaced(code, at, *by):
+def replaced(code: Code, at: int, *by: Insn) -> None:
     code.replace(code.insns[at], *by)
 
 
@@ -398,7 +406,7 @@ end class
 """
 
 
-def class_of_objects():
+def class_of_objects() -> Class:
     """A class of nothing but objects, each of its kind."""
     nop, end, array = Insn("nop"), Insn("return-void"), ArrayData(2, b"\1\0\2\0")
     packed, sparse = PackedSwitch(-1, [Label(nop)]), SparseSwitch([-5, 7], [Label(nop), Label(end)])
@@ -411,10 +419,10 @@ def class_of_objects():
     return made
 
 
-def try_made():
+def try_made() -> None:
     program = Program([class_of_objects()])
     check("a program that is made", str(program) == MADE and dexasm.list(program.write()) == MADE, str(program))
-    read = Program.parse(MADE)["LA;"].method("m").code
+    read: Any = Program.parse(MADE)["LA;"].method("m").code
     array, packed, sparse = read.insns[6:]
     seen = type(array), type(packed), type(sparse), array.data, packed.first, sparse.keys, read.tries[0].end.insn
     want = ArrayData, PackedSwitch, SparseSwitch, b"\1\0\2\0", -1, [-5, 7], None
@@ -423,8 +431,8 @@ def try_made():
     check("one label a place", packed.targets[0] is start and start.insn is read.insns[0])
 
 
-def try_copies():
-    made = class_of_objects()
+def try_copies() -> None:
+    made: Any = class_of_objects()
     first = made.directs[0].code.insns[0]
     copies = copy.deepcopy(made), pickle.loads(pickle.dumps(made)), Class.of_text(str(made))
     check("copies", all(one == made and one.directs[0].code.insns[0] is not first for one in copies))
@@ -432,12 +440,12 @@ def try_copies():
     check("a copy's change is its own", copies[0] != made and str(Program([made])) == MADE)
 
 
-def try_kinds():
+def try_kinds() -> None:
     """What names tell."""
     one = Type("[[Ljava/lang/String;")
     check(
         "a type",
-        (one.element, one.pretty, Type("V").pretty, Type("[I").element.element)
+        (one.element, one.pretty, Type("V").pretty, Type("[I").element.element)  # type: ignore[union-attr]  # (it is I)
         == ("[Ljava/lang/String;", "java.lang.String[][]", "void", None),
     )
     check(
@@ -455,10 +463,11 @@ def try_kinds():
         (method, method.owner, method.name, method.proto) == ("[LA;-><init>(I)V", "[LA;", "<init>", "(I)V"),
     )
     check("a field's parts", (field, field.owner, field.name, field.type) == ("La-;->x-:[LB;", "La-;", "x-", "[LB;"))
-    check("names hash", {method: 1}["[LA;-><init>(I)V"] == 1 and pickle.loads(pickle.dumps(method)) == method)
+    known: dict[str, int] = {method: 1}
+    check("names hash", known["[LA;-><init>(I)V"] == 1 and pickle.loads(pickle.dumps(method)) == method)
 
 
-def try_finding():
+def try_finding() -> None:
     """How classes and members are found."""
     program = Program.parse(HELLO)
     hello = program["LHello;"]
@@ -503,36 +512,36 @@ def try_finding():
     )
 
 
-def inserted(method, at, insn):
+def inserted(method: str, at: int, insn: Insn) -> Change:
     """A change that puts an instruction into a method of this name."""
     return lambda _, hello: hello.method(method).code.insns.insert(at, insn)
 
 
-def branch_to_itself(_, hello):
+def branch_to_itself(_: Program, hello: Any) -> None:
     branch = hello.method("get").code.insns[1]
     branch.target.insn = branch
 
 
-def branch_to_end(_, hello):
+def branch_to_end(_: Program, hello: Any) -> None:
     hello.method("get").code.insns[1].target.insn = None
 
 
-def try_of_nothing(_, hello):
+def try_of_nothing(_: Program, hello: Any) -> None:
     one = hello.method("pick").code.tries[0]
     one.end = one.start
 
 
-def field_twice(_, hello):
+def field_twice(_: Program, hello: Class) -> None:
     hello.statics.append(hello.statics[0])
 
 
-def class_twice(program, hello):
+def class_twice(program: Program, hello: Class) -> None:
     program.classes.append(hello)
 
 
 WIDE = Insn("const/16", 0, literal=42000)
 # A change, and the fault's number, the member and the instruction that it has to lead to.
-PLACES = {
+PLACES: dict[str, tuple[Change, int, str | None, int | None]] = {
     "a number": (inserted("pick", 1, WIDE), 102, "pick(I)V", 1),
     "a register": (inserted("pick", 2, Insn("move", 0, 7)), 118, "pick(I)V", 2),
     "a branch to itself": (branch_to_itself, 115, "get(Z)I", 1),
@@ -550,8 +559,9 @@ PLACES = {
 }
 
 
-def try_places():
+def try_places() -> None:
     """A refusal says in which class, member and instruction it stands."""
+    seen: Any
     for what, (change, number, member, insn) in PLACES.items():
         seen = changed(both(change))
         place = (seen.number, seen.class_name, seen.member, seen.insn) if isinstance(seen, Refused) else seen
@@ -565,10 +575,10 @@ def try_places():
     check("where there is no program", str(Refused(8, "Checksum", 8)) == "refused 8 Checksum at 8")
 
 
-def both(change):
+def both(change: Change) -> Change:
     """A change of the second of two classes, so that the first is led by."""
 
-    def second(program, hello):
+    def second(program: Program, hello: Class) -> None:
         program.classes.insert(0, Class(Type("LFirst;"), 0x1, statics=[Field("name", Type("I"))]))
         change(program, hello)
 
@@ -578,7 +588,7 @@ def both(change):
 # ---- pages
 
 
-def run(words, at):
+def run(words: list[str], at: str) -> str:
     """What these words print, in a folder where `names` are commands."""
     ways = {
         "PATH": f"{at}/bin:{os.environ['PATH']}",
@@ -594,10 +604,11 @@ def run(words, at):
         stdout=subprocess.PIPE,
         stderr=subprocess.STDOUT,
     )
-    return done.stdout.decode()
+    said: str = done.stdout.decode()
+    return said
 
 
-def page(name):
+def page(name: str) -> list[tuple[str, str]]:
     with open(os.path.join(TOP, name), encoding="utf8") as file:
         return re.findall(r"^```(\w+)\n(.*?)^```$", file.read(), re.S | re.M)
 
@@ -624,7 +635,7 @@ end class
 """
 
 
-def try_readme():
+def try_readme() -> None:
     """The examples of the module's page, as they stand there."""
     examples = [text for kind, text in page("bindings/python/README.md") if kind == "python"]
     text = CALLED
@@ -664,7 +675,7 @@ made: bytes = program.write()
 """
 
 
-def try_types():
+def try_types() -> None:
     """mypy finds nothing to say of the module, nor of one that uses it, and something of one that uses it wrongly."""
     if not shutil.which("mypy"):
         print("tools/try library: no mypy here: the types of the module for Python aren't tried", file=sys.stderr)
@@ -681,15 +692,15 @@ def try_types():
         check("mypy of a wrong use", seen.startswith("wrong.py:8: error: ") and "Found 1 error" in seen, seen)
 
 
-def list_of(path):
+def list_of(path: str) -> str:
     with open(path, "rb") as file:
         return dexasm.list(file.read())
 
 
-def try_cookbook():
+def try_cookbook() -> None:
     """The cookbook's programs, by its sessions, in the order of the page."""
     blocks = page("docs/COOKBOOK-PYTHON.md")
-    programs = {re.match(r'"""([\w-]+)', text)[1]: text for kind, text in blocks if kind == "python"}
+    programs = {sought(r'^"""([\w-]+)', text)[1]: text for kind, text in blocks if kind == "python"}
     sessions = [
         step.split("\n", 1)
         for kind, text in blocks
@@ -729,7 +740,7 @@ TRIES = (
 )
 
 
-def try_all(files, edits, seed, folder=None):
+def try_all(files: int, edits: int, seed: int, folder: str | None = None) -> str:
     """All of it: a line that tells how many edits were written."""
     for one in TRIES:
         one()
@@ -748,6 +759,6 @@ def try_all(files, edits, seed, folder=None):
     return f"{len(made)} made files, {len(given)} others, {written} of {edits} edits written"
 
 
-def main(given):
+def main(given: argparse.Namespace) -> int:
     print(try_all(given.count or 500, given.edits, given.seed, given.files))
     return last_line()

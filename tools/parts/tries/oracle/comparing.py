@@ -12,6 +12,7 @@ There are three comparisons, each on worked examples and on cases made at random
 With --only one of them alone. The files of `check` are made of random programs, and of those .dex files below --files
 that have no fault and at most 64 KB; larger ones are compared as they are. `files` compares the .dex files below it
 too. The same seed gives the same cases. A case on which the two differ is kept in a temporary folder, and a line says what each answers. """
+import argparse
 import collections
 import itertools
 import os
@@ -19,6 +20,8 @@ import random
 import subprocess
 import sys
 import tempfile
+from collections.abc import Iterator
+from typing import Any
 
 from ..trying import Counted, last_line
 from . import faults
@@ -36,9 +39,10 @@ from .writing import align, write
 LIMIT = 60  # seconds for a case
 LARGEST = 1 << 16  # bytes of a file below FOLDER that is changed
 OK = b"ok\n"
+Answer = bytes | str
 
 
-def answer_of(program, words, data):
+def answer_of(program: str, words: list[str], data: bytes) -> Answer:
     """What the program writes; where it refuses, its line as a text; where it does neither as the manual says, how."""
     try:
         done = subprocess.run([program, *words], input=data, capture_output=True, timeout=LIMIT)
@@ -51,26 +55,29 @@ def answer_of(program, words, data):
     return f"status {done.returncode}, {done.stdout[:60]!r}, {done.stderr[:200]!r}"
 
 
-def shown(answer):
+def shown(answer: Answer) -> str:
     return answer.strip() if isinstance(answer, str) else f"{len(answer)} bytes"
 
 
 class Comparison:
     """Cases of one of the three comparisons, how many differed, and which faults there were."""
 
-    def __init__(self, program, tables):
+    folder: str | None
+    counts: collections.Counter[tuple[str, str] | None]
+
+    def __init__(self, program: str, tables: list[str]) -> None:
         self.program, self.tables = program, tables
         self.tried, self.failed, self.folder = 0, 0, None
         self.counts = collections.Counter()
 
-    def keep(self, data, suffix):
+    def keep(self, data: bytes, suffix: str) -> str:
         self.folder = self.folder or tempfile.mkdtemp(prefix="oracle-")
         path = os.path.join(self.folder, f"{self.failed}{suffix}")
         with open(path, "wb") as file:
             file.write(data)
         return path
 
-    def told(self, what, data, suffix, answers):
+    def told(self, what: str, data: bytes, suffix: str, answers: list[tuple[str, Answer]]) -> bool:
         """Counts a case; where the answers, as (whose, answer), aren't one, says so. Answers whether they are."""
         if all(answer == answers[0][1] for _, answer in answers):
             return True
@@ -79,22 +86,22 @@ class Comparison:
         print(f"{what}: DIFFERS: {said}; kept in {self.keep(data, suffix)}", flush=True)
         return False
 
-    def summary(self):
+    def summary(self) -> str:
         names = [(table, name) for table in self.tables for name in NUMBERS[table] if name not in ("Memory", "TooBig")]
         missing = [f"{NUMBERS[table][name]} {name}" for table, name in names if (table, name) not in self.counts]
         return f"{self.counts[None]} accepted; faults that no case had: {', '.join(missing) or 'none'}"
 
 
 class CheckComparison(Comparison):
-    def __init__(self, program):
+    def __init__(self, program: str) -> None:
         super().__init__(program, ["file"])
-        self.samples = []
+        self.samples: list[Spots] = []
 
-    def line(self, answer):
+    def line(self, answer: tuple[str, int] | None) -> Answer:
         """How the program says this answer."""
         return OK if answer is None else str(Refusal("file", *answer))
 
-    def compare(self, what, data, *given):
+    def compare(self, what: str, data: bytes, *given: tuple[str, int] | None) -> None:
         """Whether the program, the second reading, and the answer that an example has are one."""
         self.tried += 1
         reading = faults.fault(data)
@@ -102,13 +109,13 @@ class CheckComparison(Comparison):
         answers = [("program", answer_of(self.program, ["check"], data)), ("second reading", self.line(reading))]
         self.told(what, data, ".dex", answers + [("example", self.line(each)) for each in given])
 
-    def compare_sample(self, what, data, *given):
+    def compare_sample(self, what: str, data: bytes, *given: tuple[str, int] | None) -> None:
         """The same of a file that is changed afterwards, where it has no fault and isn't too large."""
         self.compare(what, data, *given)
         if len(data) <= LARGEST and faults.fault(data) is None:
             self.samples.append(Spots(data))
 
-    def run(self, given):
+    def run(self, given: argparse.Namespace) -> None:
         for what, data, answer in examples():
             self.compare_sample(what, data, answer)
         for path, data in files_below(given.files):
@@ -121,17 +128,17 @@ class CheckComparison(Comparison):
 
 
 class TextComparison(Comparison):
-    def __init__(self, program):
+    def __init__(self, program: str) -> None:
         super().__init__(program, ["listing", "rules", "written"])
 
-    def compare(self, what, text, is_aligned, *given):
+    def compare(self, what: str, text: bytes, is_aligned: bool, *given: tuple[str, str, int] | None) -> None:
         """Whether both refuse the text with one line or make one file of it, and list that file in one way."""
         self.tried += 1
         words = ["assemble"] + ["--align"] * is_aligned
-        classes = parse(text)
+        classes: Any = parse(text)
         if is_aligned and not isinstance(classes, Refusal):
             classes = align(classes)
-        reading = classes if isinstance(classes, Refusal) else write(classes)
+        reading: Any = classes if isinstance(classes, Refusal) else write(classes)
         is_refused = isinstance(reading, Refusal)
         self.counts[(reading.table, reading.name) if is_refused else None] += 1
         answers = [("program", answer_of(self.program, words, text))]
@@ -144,7 +151,7 @@ class TextComparison(Comparison):
             self.told(f"{what}, listed", text, ".txt", [("program", listed), ("second reading",
                 print_listing(classes))])
 
-    def run(self, given):
+    def run(self, given: argparse.Namespace) -> None:
         for what, text, is_aligned, answer in text_examples(given.large):
             self.compare(what, text, is_aligned, answer)
         cases = random_texts(random.Random(given.seed))
@@ -153,14 +160,14 @@ class TextComparison(Comparison):
 
 
 class FileComparison(Comparison):
-    def __init__(self, program):
+    def __init__(self, program: str) -> None:
         super().__init__(program, [])
 
-    def compare(self, what, data, *wanted):
+    def compare(self, what: str, data: bytes, *wanted: bytes | Refusal) -> None:
         """Whether both write one file of what this file means, the wanted one, and list it in one way."""
         self.tried += 1
         classes = read(data)
-        written = write(classes)
+        written: Any = write(classes)
         is_refused = isinstance(written, Refusal)
         self.counts[(written.table, written.name) if is_refused else None] += 1
         stripped = answer_of(self.program, ["strip"], data)
@@ -169,7 +176,7 @@ class FileComparison(Comparison):
         listed = answer_of(self.program, ["list"], data)
         self.told(f"{what}, listed", data, ".dex", [("program", listed), ("second reading", print_listing(classes))])
 
-    def run(self, given):
+    def run(self, given: argparse.Namespace) -> None:
         found = [*((path, data) for path, data in files_below(given.files)),
                  *((f"example: {what}", data) for what, data, _ in examples()),
                  *((f"example: {what}", data) for what, data in file_examples())]
@@ -188,10 +195,11 @@ class FileComparison(Comparison):
             self.compare(f"file {i} of seed {given.seed}", data, *[data] * is_packed)
 
 
+COMPARISONS: dict[str, type[CheckComparison] | type[TextComparison] | type[FileComparison]]
 COMPARISONS = {"check": CheckComparison, "texts": TextComparison, "files": FileComparison}
 
 
-def files_below(folder):
+def files_below(folder: str | None) -> Iterator[tuple[str, bytes]]:
     """The .dex files of a folder, each as its path and its bytes."""
     for at, folders, names in os.walk(folder or ""):
         folders.sort()
@@ -202,7 +210,7 @@ def files_below(folder):
                     yield path, file.read()
 
 
-def main(given):
+def main(given: argparse.Namespace) -> int:
     sys.setrecursionlimit(10000)  # a value may be more than 64 deep before it's refused
     sys.set_int_max_str_digits(0)  # a number may have many zeros
     for name in [given.only] if given.only else COMPARISONS:

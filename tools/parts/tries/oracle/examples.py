@@ -1,7 +1,10 @@
 """Worked examples: files by hand, what each shows, and its answer, a fault's name and place or None."""
 import struct
+from collections.abc import Iterator, Sequence
 
-from .making import closed, file_of
+from .making import Parts, closed, file_of
+
+Example = tuple[str, bytes, tuple[str, int] | None]
 
 # The file of no classes: a header and a map of two entries.
 NO_CLASSES = closed(b"dex\n035\0" + bytes(24) + struct.pack("<6I", 140, 0x70, 0x12345678, 0, 0, 0x70) + bytes(48)
@@ -40,7 +43,7 @@ ONE_METHOD = closed(b"dex\n035\0" + bytes(24) + bytes.fromhex("""
 CODE, UNITS, MEMBERS, MAP = 0xC0, 0xD0, 0xF1, 0xFC  # places in ONE_METHOD
 
 
-def changed(data, *changes):
+def changed(data: bytes | bytearray, *changes: tuple[int, str]) -> bytes:
     """The file with other bytes, as (place, hex), and the checksums that belong to them."""
     data = bytearray(data)
     for at, text in changes:
@@ -49,7 +52,9 @@ def changed(data, *changes):
     return closed(data)
 
 
-def with_code(units, registers=1, ins=0, tries=(), handlers=b""):
+def with_code(
+    units: bytes, registers: int = 1, ins: int = 0, tries: Sequence[tuple[int, int, int]] = (), handlers: bytes = b""
+) -> bytes:
     """ONE_METHOD with another code: `tries` as (first unit, units, handler_off). What stands after it moves."""
     item = struct.pack("<4H2I", registers, ins, 0, len(tries), 0, len(units) // 2) + units
     if tries:
@@ -73,7 +78,7 @@ def with_code(units, registers=1, ins=0, tries=(), handlers=b""):
     return closed(data)
 
 
-def with_rows(count, place, width):
+def with_rows(count: int, place: int, width: int) -> bytes:
     """NO_CLASSES with so many rows of zeros, in the table whose size field stands at `place`."""
     map_off = 112 + count * width
     data = bytearray(NO_CLASSES[:112] + bytes(count * width) + NO_CLASSES[112:])
@@ -84,7 +89,7 @@ def with_rows(count, place, width):
     return closed(data)
 
 
-def headers_and_tables():
+def headers_and_tables() -> Iterator[Example]:
     yield "a file of no classes", NO_CLASSES, None
     yield "one class with one method", ONE_METHOD, None
     yield "nothing", b"", ("TooShort", 0)
@@ -130,12 +135,13 @@ def headers_and_tables():
         yield what, changed(ONE_METHOD, (at, text)), answer
 
 
-def class_row(data, i):
+def class_row(data: bytes, i: int) -> int:
     """Where the row of a class stands."""
-    return struct.unpack_from("<I", data, 100)[0] + 32 * i
+    begin: int = struct.unpack_from("<I", data, 100)[0]
+    return begin + 32 * i
 
 
-def classes():
+def classes() -> Iterator[Example]:
     data = file_of([{"type": "LB;"}, {"type": "LA;", "super": "LB;"}])
     first, second = class_row(data, 0), class_row(data, 1)
     swapped = changed(data, (first, data[second : second + 32].hex()), (second, data[first:second].hex()))
@@ -158,7 +164,7 @@ def classes():
     yield "an index that would be 0 again in 32 bits", further, ("MemberIndex", class_row(data, 0))
 
 
-def codes():
+def codes() -> Iterator[Example]:
     for what, at, text, answer in (
         ("a code at an odd offset", MEMBERS + 6, "c1", ("CodePlace", 0xC1)),
         ("a code after the file's end", MEMBERS + 7, "7f", ("CodePlace", 0x3FC0)),
@@ -201,7 +207,7 @@ def codes():
         yield what, with_code(bytes.fromhex(text), registers), answer
 
 
-def tries():
+def tries() -> Iterator[Example]:
     units = bytes.fromhex("12003800030028fe0e00")  # const/4, if-eqz of two units, goto, return-void
     for what, count, off, to, answer in (
         ("a try that ends within an instruction", 1, 1, 4, None),
@@ -218,9 +224,9 @@ def tries():
     yield "a handler of one type and one for all others", with_code(nops, tries=[(0, 1, 1)], handlers=handlers), None
 
 
-def values():
+def values() -> Iterator[Example]:
     for depth, innermost in ((64, True), (65, True), (64, False), (65, False)):
-        value = ("array", [("null",)] if innermost else [])
+        value: Parts = ("array", [("null",)] if innermost else [])
         for _ in range(depth - 1):
             value = ("array", [value])
         data = file_of([{"type": "LA;", "statics": [("a", "I", 9)], "values": [value]}])
@@ -233,6 +239,6 @@ def values():
         yield f"a value's head {head}", changed(data, (off + 1, head)), ("ValueKind", off + 1)
 
 
-def examples():
+def examples() -> Iterator[Example]:
     for group in (headers_and_tables, classes, codes, tries, values):
         yield from group()

@@ -6,10 +6,13 @@ FORMAT's; the pages in quotes are those of FORMAT's first table.
 
 A text has a character of 0 to 0xffff for each unit of UTF-16, surrogates as they stand, so that texts compare by units.
 """
+from __future__ import annotations
+
 import functools
 import hashlib
 import struct
 import zlib
+from typing import Any
 
 NONE = 0xFFFFFFFF  # the index that stands where a class row names no superclass or no source file
 
@@ -21,27 +24,27 @@ TABLES = {STRINGS: (56, 4), TYPES: (64, 4), PROTOS: (72, 12), FIELDS: (80, 8), M
 
 
 class Fault(Exception):
-    def __init__(self, name, place):
+    def __init__(self, name: str, place: int) -> None:
         super().__init__(name, place)
         self.name, self.place = name, place
 
 
-def u16(data, at):
+def u16(data: bytes, at: int) -> int:
     return int.from_bytes(data[at : at + 2], "little")
 
 
-def u32(data, at):
+def u32(data: bytes, at: int) -> int:
     return int.from_bytes(data[at : at + 4], "little")
 
 
-def signed(number, bits):
+def signed(number: int, bits: int) -> int:
     return number - (1 << bits) if number >> (bits - 1) & 1 else number
 
 
 # ------------------------------------------------------------------------------------------ Numbers and strings in data
 
 
-def leb128(data, at, end):
+def leb128(data: bytes, at: int, end: int) -> tuple[int, int, int] | None:
     """The sum of one to five bytes below `end`, how many they are, and the last of them; None where they don't end."""
     total = 0
     for i in range(5):
@@ -54,7 +57,7 @@ def leb128(data, at, end):
     return None
 
 
-def uleb128(data, at, end):
+def uleb128(data: bytes, at: int, end: int) -> tuple[int, int] | None:
     """The number and the place after it; None where none is spelled."""
     got = leb128(data, at, end)
     if got is None or got[0] > 0xFFFFFFFF:
@@ -62,7 +65,7 @@ def uleb128(data, at, end):
     return got[0], at + got[1]
 
 
-def sleb128(data, at, end):
+def sleb128(data: bytes, at: int, end: int) -> tuple[int, int] | None:
     got = leb128(data, at, end)
     if got is None:
         return None
@@ -72,7 +75,7 @@ def sleb128(data, at, end):
     return (number, at + used) if -0x80000000 <= number <= 0x7FFFFFFF else None
 
 
-def utf16_unit(data, at, end):
+def utf16_unit(data: bytes, at: int, end: int) -> tuple[int, int] | None:
     """The unit of which the one spelling in MUTF-8 stands here, and the place after it; None for another form."""
     first = data[at]
     if 1 <= first <= 0x7F:
@@ -86,13 +89,13 @@ def utf16_unit(data, at, end):
     return None
 
 
-def string_data(data, at, end):
+def string_data(data: bytes, at: int, end: int) -> str | None:
     """The text of the string_data_item here; None where none stands below `end`."""
     got = uleb128(data, at, end)
     if got is None:
         return None
     count, at = got
-    units = []
+    units: list[str] = []
     while len(units) < count:
         got = utf16_unit(data, at, end) if at < end else None
         if got is None:
@@ -105,7 +108,7 @@ def string_data(data, at, end):
 # ------------------------------------------------------------------------------------------------------ Texts that name
 
 
-def is_name_unit(unit):
+def is_name_unit(unit: int) -> bool:
     if chr(unit) in "$-_":
         return True
     if chr(unit).isascii():
@@ -115,7 +118,7 @@ def is_name_unit(unit):
 
 
 @functools.lru_cache(1 << 16)
-def is_simple_name(text):
+def is_simple_name(text: str) -> bool:
     at = 0
     while at < len(text):
         if "\ud800" <= text[at] <= "\udbff" and "\udc00" <= text[at + 1 : at + 2] <= "\udfff":
@@ -127,13 +130,13 @@ def is_simple_name(text):
     return text != ""
 
 
-def is_member_name(text):
+def is_member_name(text: str) -> bool:
     if len(text) >= 2 and text[0] == "<" and text[-1] == ">":
         return is_simple_name(text[1:-1])
     return is_simple_name(text)
 
 
-def is_descriptor(text):
+def is_descriptor(text: str) -> bool:
     if text == "V":
         return True
     base = text.lstrip("[")
@@ -144,15 +147,15 @@ def is_descriptor(text):
     return base[:1] == "L" and base[-1:] == ";" and all(is_simple_name(part) for part in base[1:-1].split("/"))
 
 
-def is_class_type(text):
+def is_class_type(text: str) -> bool:
     return text.startswith("L")
 
 
-def is_array_type(text):
+def is_array_type(text: str) -> bool:
     return text.startswith("[")
 
 
-def shorty_letter(text):
+def shorty_letter(text: str) -> str:
     return "L" if is_class_type(text) or is_array_type(text) else text
 
 
@@ -162,25 +165,33 @@ def shorty_letter(text):
 class File:
     """The bytes; size and offset of each table; begin and end of the section of each kind of data that the map has."""
 
-    def __init__(self, data):
+    # What the rules below read of the rows.
+    strings: list[str]
+    types: list[str]
+    field_owners: list[int]
+    method_owners: list[int]
+    classes: list[ClassRow]
+    codes: list[Code]
+
+    def __init__(self, data: bytes) -> None:
         self.data = data
         self.table = {kind: (u32(data, place), u32(data, place + 4)) for kind, (place, _) in TABLES.items()}
         self.data_size, self.data_off = u32(data, 104), u32(data, 108)
         self.map_off = u32(data, 52)
-        self.section = {}
+        self.section: dict[int, tuple[int, int]] = {}
 
-    def size(self, kind):
+    def size(self, kind: int) -> int:
         return self.table[kind][0]
 
-    def row(self, kind, i):
+    def row(self, kind: int, i: int) -> int:
         return self.table[kind][1] + TABLES[kind][1] * i
 
-    def is_inside(self, kind, off):
+    def is_inside(self, kind: int, off: int) -> bool:
         begin, end = self.section.get(kind, (0, 0))
         return begin <= off < end
 
 
-def ask_header(data):
+def ask_header(data: bytes) -> None:
     if len(data) < 112:
         raise Fault("TooShort", len(data))
     for name, place, is_so in (
@@ -197,7 +208,7 @@ def ask_header(data):
             raise Fault(name, place)
 
 
-def ask_ranges(file):
+def ask_ranges(file: File) -> None:
     """The six tables, then the data section: the order of their size fields."""
     for kind, (place, width) in TABLES.items():
         size, off = file.table[kind]
@@ -210,7 +221,7 @@ def ask_ranges(file):
             raise Fault("TooManyRows", TABLES[kind][0])
 
 
-def map_entries(file):
+def map_entries(file: File) -> list[tuple[int, int, int]]:
     """The entries of the map, as kind, size and offset."""
     begin = file.data_off
     end = begin + file.data_size
@@ -224,7 +235,7 @@ def map_entries(file):
     return [(u16(file.data, at), u32(file.data, at + 4), u32(file.data, at + 8)) for at in range(off + 4, after, 12)]
 
 
-def is_entry_broken(file, entries, i):
+def is_entry_broken(file: File, entries: list[tuple[int, int, int]], i: int) -> bool:
     """Whether the entry breaks a rule, read with those before it and with the next one's offset."""
     kind, size, off = entries[i]
     following = entries[i + 1][2] if i + 1 < len(entries) else len(file.data)
@@ -242,7 +253,7 @@ def is_entry_broken(file, entries, i):
     return kind >= 0x1000 and not file.data_off <= off < file.data_off + file.data_size
 
 
-def ask_map(file):
+def ask_map(file: File) -> None:
     """The rules of the map; with it the sections of the data kinds."""
     entries = map_entries(file)
     for i in range(len(entries)):
@@ -260,7 +271,7 @@ def ask_map(file):
             file.section[kind] = off, min(following, end)
 
 
-def framed(data):
+def framed(data: bytes) -> File:
     """The file, where no fault of header, map and checksums stands."""
     ask_header(data)
     file = File(data)
@@ -272,7 +283,7 @@ def framed(data):
 # --------------------------------------------------------------------------------------------- The five tables of names
 
 
-def ask_strings(file):
+def ask_strings(file: File) -> None:
     file.strings = []
     for i in range(file.size(STRINGS)):
         row = file.row(STRINGS, i)
@@ -287,7 +298,7 @@ def ask_strings(file):
         file.strings.append(text)
 
 
-def ask_types(file):
+def ask_types(file: File) -> None:
     file.types = []
     before = -1
     for i in range(file.size(TYPES)):
@@ -303,7 +314,7 @@ def ask_types(file):
         file.types.append(file.strings[string])
 
 
-def type_list(file, off):
+def type_list(file: File, off: int) -> list[int] | None:
     """The types' indices of the list at this offset; None where none stands or one of them is no row's."""
     if off == 0:
         return []
@@ -316,7 +327,7 @@ def type_list(file, off):
     return types if all(index < len(file.types) for index in types) else None
 
 
-def ask_protos(file):
+def ask_protos(file: File) -> None:
     before = None
     for i in range(file.size(PROTOS)):
         row = file.row(PROTOS, i)
@@ -333,7 +344,7 @@ def ask_protos(file):
         before = answer, parameters
 
 
-def ask_fields(file):
+def ask_fields(file: File) -> None:
     file.field_owners = []
     before = None
     for i in range(file.size(FIELDS)):
@@ -349,7 +360,7 @@ def ask_fields(file):
         file.field_owners.append(owner)
 
 
-def ask_methods(file):
+def ask_methods(file: File) -> None:
     file.method_owners = []
     before = None
     for i in range(file.size(METHODS)):
@@ -372,14 +383,14 @@ def ask_methods(file):
 class ClassRow:
     """The eight numbers of a row, as "Dalvik Executable format" has them, and the members in their four lists."""
 
-    def __init__(self, data, row):
+    def __init__(self, data: bytes, row: int) -> None:
         self.row = row
-        numbers = struct.unpack_from("<8I", data, row)
+        numbers: tuple[int, ...] = struct.unpack_from("<8I", data, row)
         self.type, _, self.superclass, self.interfaces, self.source, _, self.class_data, self.values = numbers
-        self.members = [[], [], [], []]  # static and instance fields, direct and virtual methods
+        self.members: list[list[list[int]]] = [[], [], [], []]  # static and instance fields, direct and virtual methods
 
 
-def ask_class_names(file, row):
+def ask_class_names(file: File, row: ClassRow) -> None:
     if row.type >= len(file.types):
         raise Fault("ClassIndex", row.row)
     if row.superclass != NONE and row.superclass >= len(file.types):
@@ -392,21 +403,23 @@ def ask_class_names(file, row):
         raise Fault("ClassKind", row.row)
 
 
-def interface_list(file, row):
+def interface_list(file: File, row: ClassRow) -> list[int]:
     types = type_list(file, row.interfaces)
     if types is None or not all(is_class_type(file.types[index]) for index in types) or len(set(types)) < len(types):
         raise Fault("InterfaceList", row.row)
     return types
 
 
-def ask_class_order(row, i, interfaces, first_row, last_row):
+def ask_class_order(
+    row: ClassRow, i: int, interfaces: list[int], first_row: dict[int, int], last_row: dict[int, int]
+) -> None:
     """A row from this one on must not define what stands above, not even where an earlier row defines it too."""
     above = interfaces if row.superclass == NONE else interfaces + [row.superclass]
     if first_row[row.type] < i or any(last_row.get(index, -1) >= i for index in above):
         raise Fault("ClassOrder", row.row)
 
 
-def read_class_data(file, row):
+def read_class_data(file: File, row: ClassRow) -> None:
     """The members as they are spelled: the difference, the flags, and of a method the offset of its code."""
     if row.class_data == 0:
         return
@@ -414,7 +427,7 @@ def read_class_data(file, row):
         raise Fault("ClassData", row.row)
     at, end = row.class_data, file.section[CLASS_DATA][1]
 
-    def number():
+    def number() -> int:
         nonlocal at
         got = uleb128(file.data, at, end)
         if got is None:
@@ -428,7 +441,7 @@ def read_class_data(file, row):
             members.append([number() for _ in range(numbers)])
 
 
-def ask_members(file, row):
+def ask_members(file: File, row: ClassRow) -> None:
     """Entry by entry. An index is a sum of differences, as high as it gets."""
     for k, members in enumerate(row.members):
         owners, index = file.field_owners if k < 2 else file.method_owners, 0
@@ -442,8 +455,9 @@ def ask_members(file, row):
                 raise Fault("MemberOrder", row.row)
 
 
-def ask_classes(file):
+def ask_classes(file: File) -> None:
     file.classes = [ClassRow(file.data, file.row(CLASSES, i)) for i in range(file.size(CLASSES))]
+    first_row: dict[int, int]
     first_row, last_row = {}, {}
     for i, row in enumerate(file.classes):
         first_row.setdefault(row.type, i)
@@ -465,7 +479,7 @@ NAMED_TABLE = {0x17: STRINGS, 0x18: TYPES, 0x19: FIELDS, 0x1A: METHODS, 0x1B: FI
 ARRAY, NULL, BOOLEAN = 0x1C, 0x1E, 0x1F
 
 
-def behind_value(file, row, at, end, arrays_around):
+def behind_value(file: File, row: ClassRow, at: int, end: int, arrays_around: int) -> int:
     """The place after the value that stands here."""
     if at >= end:
         raise Fault("Values", row.row)
@@ -487,7 +501,7 @@ def behind_value(file, row, at, end, arrays_around):
     return after
 
 
-def behind_array(file, row, at, end, most, arrays_around):
+def behind_array(file: File, row: ClassRow, at: int, end: int, most: int | None, arrays_around: int) -> int:
     """The place after the encoded_array that stands here; it has at most `most` values, where that isn't None."""
     got = uleb128(file.data, at, end)
     if got is None:
@@ -500,7 +514,7 @@ def behind_array(file, row, at, end, most, arrays_around):
     return at
 
 
-def ask_values(file):
+def ask_values(file: File) -> None:
     for row in file.classes:
         if row.values == 0:
             continue
@@ -520,7 +534,7 @@ INDEX_FORMATS = ("21c", "22c", "31c", "35c", "3rc")
 BRANCH_FORMATS = ("10t", "20t", "30t", "21t", "22t")
 GOTO_32 = 0x2A
 # The opcodes of "Dalvik bytecode": first, last, format, and the table that an index is of.
-OPCODE_RANGES = (
+OPCODE_RANGES: tuple[tuple[Any, ...], ...] = (
     (0x00, 0x00, "10x"), (0x01, 0x01, "12x"), (0x02, 0x02, "22x"), (0x03, 0x03, "32x"), (0x04, 0x04, "12x"),
     (0x05, 0x05, "22x"), (0x06, 0x06, "32x"), (0x07, 0x07, "12x"), (0x08, 0x08, "22x"), (0x09, 0x09, "32x"),
     (0x0A, 0x0D, "11x"), (0x0E, 0x0E, "10x"), (0x0F, 0x11, "11x"), (0x12, 0x12, "11n"), (0x13, 0x13, "21s"),
@@ -542,15 +556,23 @@ NEEDED_PAYLOAD = {0x2B: PACKED, 0x2C: SPARSE, 0x26: FILL}
 
 
 class Instruction:
-    def __init__(self, at, opcode, form, size):
+    def __init__(self, at: int, opcode: int, form: str, size: int) -> None:
         self.at, self.opcode, self.form, self.size = at, opcode, form, size
-        self.offsets = []  # of a switch's payload
+        self.offsets: list[int] = []  # of a switch's payload
 
 
 class Code:
     """A code_item: its numbers, where its parts begin, its units, and the instructions by their addresses."""
 
-    def __init__(self, file, off):
+    registers: int
+    ins: int
+    outs: int
+    tries: int
+    units: tuple[int, ...]
+    instructions: list[Instruction]
+    by_address: dict[int, Instruction]
+
+    def __init__(self, file: File, off: int) -> None:
         self.off = off
         self.registers, self.ins, self.outs, self.tries = struct.unpack_from("<4H", file.data, off)
         self.length = u32(file.data, off + 12)
@@ -558,17 +580,17 @@ class Code:
         self.tries_off = off + 16 + 2 * self.length + padding
         self.handlers_off = self.tries_off + 8 * self.tries
 
-    def place(self, address):
+    def place(self, address: int) -> int:
         return self.off + 16 + 2 * address
 
-    def i32(self, address):
+    def i32(self, address: int) -> int:
         return signed(self.units[address] | self.units[address + 1] << 16, 32)
 
-    def is_target(self, address):
+    def is_target(self, address: int) -> bool:
         return address in self.by_address and self.by_address[address].form in UNITS
 
 
-def code_parts(file, off):
+def code_parts(file: File, off: int) -> Code:
     end = file.section.get(CODE, (0, 0))[1]
     if off % 4 != 0 or not file.is_inside(CODE, off) or off + 16 > end:
         raise Fault("CodePlace", off)
@@ -581,7 +603,7 @@ def code_parts(file, off):
     return code
 
 
-def payload(code, at, form):
+def payload(code: Code, at: int, form: str) -> Instruction:
     """The payload that begins here. What can be wrong is asked in the order of its units."""
     left, place = code.length - at, code.place(at)
     if at % 2 == 1:
@@ -609,7 +631,7 @@ def payload(code, at, form):
     return made
 
 
-def instruction(code, at):
+def instruction(code: Code, at: int) -> Instruction:
     opcode, high = code.units[at] & 0xFF, code.units[at] >> 8
     if opcode not in OPCODES:
         raise Fault("Opcode", code.place(at))
@@ -625,7 +647,7 @@ def instruction(code, at):
     return Instruction(at, opcode, form, UNITS[form])
 
 
-def read_instructions(code):
+def read_instructions(code: Code) -> None:
     code.instructions, at = [], 0
     while at < code.length:
         code.instructions.append(instruction(code, at))
@@ -633,7 +655,7 @@ def read_instructions(code):
     code.by_address = {each.at: each for each in code.instructions}
 
 
-def ask_indices(file, code):
+def ask_indices(file: File, code: Code) -> None:
     for each in code.instructions:
         if each.form in INDEX_FORMATS:
             index = code.units[each.at + 1]
@@ -643,7 +665,7 @@ def ask_indices(file, code):
                 raise Fault("OperandIndex", code.place(each.at))
 
 
-def offset_of(code, each):
+def offset_of(code: Code, each: Instruction) -> int:
     if each.form == "10t":
         return signed(code.units[each.at] >> 8, 8)
     if each.form in ("30t", "31t"):
@@ -651,7 +673,7 @@ def offset_of(code, each):
     return signed(code.units[each.at + 1], 16)
 
 
-def ask_branches(code):
+def ask_branches(code: Code) -> None:
     for each in code.instructions:
         if each.form in BRANCH_FORMATS:
             offset = offset_of(code, each)
@@ -661,8 +683,9 @@ def ask_branches(code):
                 raise Fault("BranchTarget", code.place(each.at))
 
 
-def ask_payload_use(code):
+def ask_payload_use(code: Code) -> dict[int, int]:
     """Answers which switch has each payload. A user of a payload is an instruction of its kind that leads to it."""
+    users: dict[int, list[int]]
     users, wrong = {}, set()
     for each in code.instructions:
         if each.form == "31t":
@@ -678,14 +701,14 @@ def ask_payload_use(code):
     return {address: switches[0] for address, switches in users.items()}
 
 
-def ask_switches(code, switch_of):
+def ask_switches(code: Code, switch_of: dict[int, int]) -> None:
     """Payload by payload, by their addresses; targets count from the switch."""
     for each in code.instructions:
         if not all(code.is_target(switch_of[each.at] + offset) for offset in each.offsets):
             raise Fault("BranchTarget", code.place(each.at))
 
 
-def ask_tries(file, code):
+def ask_tries(file: File, code: Code) -> None:
     end = 0
     for at in range(code.tries_off, code.handlers_off, 8):
         start, count = u32(file.data, at), u16(file.data, at + 4)
@@ -694,7 +717,7 @@ def ask_tries(file, code):
         end = start + count
 
 
-def handler_begins(file, code):
+def handler_begins(file: File, code: Code) -> set[int] | None:
     """Where the handlers begin, from the list's begin; None where one of them is wrong, used or not."""
     at, end = code.handlers_off, file.section[CODE][1]
     got = uleb128(file.data, at, end)
@@ -719,7 +742,7 @@ def handler_begins(file, code):
     return begins
 
 
-def ask_handlers(file, code):
+def ask_handlers(file: File, code: Code) -> None:
     if code.tries == 0:
         return
     begins = handler_begins(file, code)
@@ -728,7 +751,7 @@ def ask_handlers(file, code):
         raise Fault("Handler", code.handlers_off)
 
 
-def ask_codes(file):
+def ask_codes(file: File) -> None:
     """Each code once, where it is first named: class by class, direct methods before virtual ones."""
     members = [member for row in file.classes for members in row.members[2:] for member in members]
     file.codes = []
@@ -743,7 +766,7 @@ def ask_codes(file):
         file.codes.append(code)
 
 
-def registers_of(code, each):
+def registers_of(code: Code, each: Instruction) -> list[int]:
     """The registers that an instruction names, none for a payload."""
     units, form = code.units[each.at : each.at + each.size], each.form
     high, a, b = units[0] >> 8, units[0] >> 8 & 0xF, units[0] >> 12
@@ -768,7 +791,7 @@ def registers_of(code, each):
     return []
 
 
-def ask_registers(file):
+def ask_registers(file: File) -> None:
     for code in file.codes:
         if code.ins > code.registers:
             raise Fault("Register", code.off)
@@ -780,7 +803,7 @@ def ask_registers(file):
 # ----------------------------------------------------------------------------------------------------- Faults of a file
 
 
-def read(data):
+def read(data: bytes) -> File:
     """The file, where it has no fault."""
     file = framed(data)
     names = ask_strings, ask_types, ask_protos, ask_fields, ask_methods
@@ -789,7 +812,7 @@ def read(data):
     return file
 
 
-def fault(data):
+def fault(data: bytes) -> tuple[str, int] | None:
     try:
         read(data)
     except Fault as found:

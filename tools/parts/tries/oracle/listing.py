@@ -7,13 +7,17 @@ LISTING's, or say which of its faults are asked.
 import collections
 import functools
 import re
+from collections.abc import Callable, Iterable, Iterator, Sequence
+from typing import Any
 
 from .faults import is_descriptor, is_member_name
-from .model import Class, Code, Field, Instruction, LITERAL_BITS, MNEMONICS, Method, OPCODE_OF, Payload, REGISTER_BITS
-from .model import Try, WITH_NAME, WITH_TARGET, form_of, kind_of_name
-from .pages import Refused
+from .model import Class, Code, Field, FieldName, Instruction, LITERAL_BITS, MNEMONICS, Method, MethodName, Name
+from .model import OPCODE_OF, Payload, Proto, REGISTER_BITS, Try, Value, WITH_NAME, WITH_TARGET, form_of, kind_of_name
+from .pages import Refusal, Refused
 from .rules import rule_fault
 
+Bytes = bytes  # (in Printer, whose own `bytes` stands before it)
+Reader = Callable[[str], Any]  # answers what a word says, None where it isn't what is read
 FIRST_LINES = {("dex", "035"): 1, ("dex", "035", "listing", "2"): 2}  # which form each begins
 
 # ------------------------------------------------------------------------------------------------------ Lines and words
@@ -26,22 +30,22 @@ class WrongWord(Exception):
     """Fault 100, Word."""
 
 
-def lines_of(data):
+def lines_of(data: bytes) -> list[bytes]:
     lines = data.split(b"\n")
     return lines if lines[-1] else lines[:-1]
 
 
-def says_nothing(line):
+def says_nothing(line: bytes) -> bool:
     return line.lstrip(b" ")[:1] in (b"", b"#")
 
 
-def unit_of(piece):
+def unit_of(piece: str) -> str:
     if piece.startswith("\\u"):
         return chr(int(piece[2:], 16))
     return piece[-1]
 
 
-def text_at(line, at):
+def text_at(line: str, at: int) -> tuple[str, int]:
     """The text that begins here with its quote, and the place after it. The line has a space at its end."""
     units, at = [], at + 1
     while line[at : at + 1] != '"':  # at the end of the line no piece matches
@@ -55,7 +59,7 @@ def text_at(line, at):
     return "".join(units), at + 1
 
 
-def words_of(line):
+def words_of(line: Any) -> list[Word]:  # (bytes, then their text)
     if not re.fullmatch(b"[ -~]*", line):
         raise WrongWord
     line, words, at = line.decode("ascii") + " ", [], 0
@@ -75,7 +79,7 @@ def words_of(line):
 # --------------------------------------------------------------------------------------------------- What a word can be
 
 
-def number_of(text, low, high):
+def number_of(text: str, low: int, high: float) -> int | None:
     """The number of this range that the word says; None where it says none."""
     if not re.fullmatch("-?([0-9]+|0x[0-9A-Fa-f]+)" if low < 0 else "[0-9]+|0x[0-9A-Fa-f]+", text):
         return None
@@ -85,77 +89,77 @@ def number_of(text, low, high):
     return number if low <= number <= high else None
 
 
-def number_in(bits, is_signed=False):
+def number_in(bits: int, is_signed: bool = False) -> Callable[[str], int | None]:
     low, high = (-(1 << bits - 1), (1 << bits - 1) - 1) if is_signed else (0, (1 << bits) - 1)
     return lambda text: number_of(text, low, high)
 
 
-def register_in(bits):
+def register_in(bits: int) -> Callable[[str], int | None]:
     return lambda text: number_of(text[1:], 0, (1 << bits) - 1) if text.startswith("v") else None
 
 
-def label_of(text):
+def label_of(text: str) -> str | None:
     return text[1:] if re.fullmatch(":[A-Za-z0-9_]{1,32}", text) else None
 
 
-def number_target_of(text):
+def number_target_of(text: str) -> int | None:
     return number_of(text[1:], 0, 0xFFFFFFFF) if text.startswith("@") else None
 
 
-def bits_in(digits):
+def bits_in(digits: int) -> Callable[[str], int | None]:
     return lambda text: int(text, 16) if re.fullmatch("[0-9A-Fa-f]{%d}" % digits, text) else None
 
 
-def bytes_of(text):
+def bytes_of(text: str) -> bytes | None:
     return bytes.fromhex(text) if re.fullmatch("([0-9A-Fa-f]{2})+", text) else None
 
 
-def units_said(text):
+def units_said(text: str) -> str | None:
     """The units of a name or a descriptor, any of which may be escaped; None where an escape is malformed."""
     if not re.fullmatch(r"([^\\]|\\u[0-9A-Fa-f]{4})*", text):
         return None
     return re.sub(r"\\u(....)", lambda found: chr(int(found[1], 16)), text)
 
 
-def name_in(units):
+def name_in(units: str) -> str | None:
     return units if is_member_name(units) else None
 
 
-def type_in(units):
+def type_in(units: str) -> str | None:
     return units if is_descriptor(units) else None
 
 
-def types_of(units):
+def types_of(units: str) -> tuple[str, ...] | None:
     """The descriptors that stand here without anything between them; None where something else does."""
     types = re.findall(r"\[*(?:L[^;]*;|.)", units, re.DOTALL)
     return tuple(types) if "".join(types) == units and all(map(is_descriptor, types)) else None
 
 
-def proto_in(units):
+def proto_in(units: str) -> Proto | None:
     found = re.fullmatch(r"\(([^)]*)\)(.*)", units, re.DOTALL)
     if found is None:
         return None
     proto = type_in(found[2]), types_of(found[1])
-    return None if None in proto else proto
+    return None if None in proto else proto  # type: ignore[return-value]  # (no part of it is None)
 
 
-def field_in(units):
+def field_in(units: str) -> FieldName | None:
     owner, _, rest = units.partition("->")
     name, _, kind = rest.partition(":")
     field = type_in(owner), name_in(name), type_in(kind)
-    return None if None in field else field
+    return None if None in field else field  # type: ignore[return-value]  # (as above)
 
 
-def method_in(units):
+def method_in(units: str) -> MethodName | None:
     owner, _, rest = units.partition("->")
     name, bracket, proto = rest.partition("(")
     method = type_in(owner), name_in(name), proto_in(bracket + proto)
-    return None if None in method else method
+    return None if None in method else method  # type: ignore[return-value]  # (as above)
 
 
-def said_in(reader):
+def said_in(reader: Reader) -> Reader:
     """Reads the units that a word says: any of them may be escaped, those between names too."""
-    def read(text):
+    def read(text: str) -> Any:
         units = units_said(text)
         return None if units is None else reader(units)
 
@@ -163,7 +167,7 @@ def said_in(reader):
 
 
 # What each slot takes: the fault of another word, and how it is read. A text is read already.
-SLOTS = {
+SLOTS: dict[str, tuple[str | Any, Reader]] = {
     "name": ("Name", said_in(name_in)), "type": ("Name", said_in(type_in)), "proto": ("Name", said_in(proto_in)),
     "field": ("Name", said_in(field_in)), "method": ("Name", said_in(method_in)), "label": ("Name", label_of),
     "@": ("Number", number_target_of), "bytes": ("Number", bytes_of), "flags": ("Number", number_in(32)),
@@ -178,6 +182,7 @@ SLOTS = {
 # ---------------------------------------------------------------------------------------- The lines: 100, of their form
 
 Line = collections.namedtuple("Line", "key slots number", defaults=((), None))  # a slot is (its kind, its word)
+Slots = list[tuple[str, Word]]
 SHAPES = {
     "class": ("type", "flags"), "super": ("type",), "implements": ("type",), "source": ("text",),
     "instance": ("name", "type", "flags"), "direct": ("name", "proto", "flags"), "virtual": ("name", "proto", "flags"),
@@ -189,11 +194,11 @@ WITHOUT_OPERAND = ("null", "true", "false")
 WITH_OPERAND = ("byte", "short", "char", "int", "long", "float", "double", "string", "type", "field", "method", "enum")
 
 
-def is_key(word, key):
+def is_key(word: Word, key: str) -> bool:
     return word == Word(key, False)
 
 
-def filled(kinds, words, target):
+def filled(kinds: Sequence[str], words: list[Word], target: str | Any) -> Slots:
     """The slots of a line that has just these."""
     if len(kinds) != len(words):
         raise WrongWord
@@ -204,7 +209,7 @@ def filled(kinds, words, target):
     return slots
 
 
-def value_slots(words):
+def value_slots(words: list[Word]) -> Slots:
     """The words of a value: a keyword or a closing brace is ("key", word), an operand its slot."""
     slots, depth, at = [], 0, 0
     while at == 0 or depth > 0:
@@ -230,7 +235,7 @@ def value_slots(words):
     return slots
 
 
-def static_line(words):
+def static_line(words: list[Word]) -> Line:
     slots = filled(("name", "type", "flags"), words[:3], None)
     if len(words) == 3:
         return Line("static", slots)
@@ -239,7 +244,7 @@ def static_line(words):
     return Line("static", slots + value_slots(words[4:]))
 
 
-def instruction_slots(opcode, words, target):
+def instruction_slots(opcode: int, words: list[Word], target: str) -> Slots:
     form = form_of(opcode)
     kinds = []
     if form == "35c":
@@ -260,7 +265,7 @@ def instruction_slots(opcode, words, target):
     return filled(kinds, words, target)
 
 
-def instruction_line(words, target, number=None):
+def instruction_line(words: list[Word], target: str, number: int | None = None) -> Line:
     """A line of an instruction or of a payload; `words` are without its number."""
     if not words or words[0].is_text:
         raise WrongWord
@@ -276,7 +281,7 @@ def instruction_line(words, target, number=None):
     raise WrongWord
 
 
-def line_of(words, form):
+def line_of(words: list[Word], form: int | None) -> Line:
     """Which line these words are, and what stands in its slots; until the form is told, the lines are of the first."""
     key, target = words[0], "label" if form == 2 else "@"
     said = tuple(word.said for word in words)
@@ -323,17 +328,19 @@ class Twice(Exception):
 class CodeDraft:
     """A code, and the number of the instruction that each of its labels marks."""
 
-    def __init__(self, code):
+    labels: dict[str, int]
+
+    def __init__(self, code: Code) -> None:
         self.code, self.labels = code, {}
 
-    def place(self, target):
+    def place(self, target: int | str) -> int | Any:  # (None for a label that isn't there; after `is_there` none is)
         return self.labels.get(target) if isinstance(target, str) else target
 
-    def is_there(self, target, may_be_behind):
+    def is_there(self, target: int | str, may_be_behind: bool) -> bool:
         place, length = self.place(target), len(self.code.instructions)
         return place is not None and (place < length or place == length and may_be_behind)
 
-    def settle(self):
+    def settle(self) -> None:
         """Numbers in place of labels."""
         for each in self.code.instructions:
             if isinstance(each, Payload):
@@ -346,8 +353,10 @@ class CodeDraft:
             one.other = None if one.other is None else self.place(one.other)
 
 
-def value_of(slots):
+def value_of(slots: Sequence[Any]) -> Value:
     """The value that the slots say, which are those of value_slots, read."""
+    outer: list[list[Value]]
+    values: list[Value]
     outer, values = [], []
     at = 0
     while at < len(slots):
@@ -366,7 +375,7 @@ def value_of(slots):
     return values[0]
 
 
-def zero_of(text):
+def zero_of(text: str) -> Value:
     """What a static field of this type has where it has no value, in an array that goes on (LISTING "Values")."""
     kinds = {"B": "byte", "S": "short", "C": "char", "I": "int", "J": "long", "F": "float", "D": "double"}
     if text in kinds:
@@ -374,7 +383,7 @@ def zero_of(text):
     return ("false" if text == "Z" else "null"), None
 
 
-def static_values(fields):
+def static_values(fields: list[tuple[tuple[str, str], Value | None]]) -> list[Value]:
     """The values of the statics up to the last one that is given, as (name, type) and what is given."""
     while fields and fields[-1][1] is None:
         fields = fields[:-1]
@@ -384,23 +393,31 @@ def static_values(fields):
 class Draft:
     """What the lines so far have said."""
 
-    def __init__(self):
+    form: int | None
+    needs: list[tuple[int, CodeDraft, Any, bool]]
+    values: dict[tuple[str, str], Value | None]
+    given: set[tuple[Any, ...]]
+    method: Method
+    code: CodeDraft | Any  # (None before the first)
+    codes: list[CodeDraft]
+
+    def __init__(self) -> None:
         self.state, self.form = "start", None
-        self.classes = []
+        self.classes: list[Class] = []
         self.needs = []  # (line, code, target, whether it may be the place after the last instruction)
         self.values, self.given, self.code, self.codes = {}, set(), None, []
 
-    def may_stand(self, line):
+    def may_stand(self, line: Line) -> bool:
         if line.key in PLACES:
             return self.state in PLACES[line.key]
         return self.state == "instructions" and line.number in (None, len(self.code.code.instructions))
 
-    def give_once(self, *what):
+    def give_once(self, *what: Any) -> None:
         if what in self.given:
             raise Twice
         self.given.add(what)
 
-    def add(self, number, line, read):
+    def add(self, number: int, line: Line, read: list[Any]) -> None:
         """Adds a line, of which the slots have been read."""
         key = line.key
         if key == "dex":
@@ -423,7 +440,7 @@ class Draft:
         else:
             self.add_to_code(number, key, read)
 
-    def add_to_head(self, key, what):
+    def add_to_head(self, key: str, what: str) -> None:
         self.give_once(key, what if key == "implements" else None)
         if key == "super":
             self.classes[-1].superclass = what
@@ -432,7 +449,7 @@ class Draft:
         else:
             self.classes[-1].interfaces.append(what)
 
-    def add_member(self, key, name, kind, flags, *value):
+    def add_member(self, key: str, name: str, kind: Any, flags: int, *value: Sequence[Any]) -> None:
         self.give_once(key, name, kind)
         made = self.classes[-1]
         self.state = "members"
@@ -445,7 +462,7 @@ class Draft:
             self.method, self.state = Method(name, kind, flags), "method"
             (made.directs if key == "direct" else made.virtuals).append(self.method)
 
-    def end_class(self):
+    def end_class(self) -> None:
         made = self.classes[-1]
         for fields in made.statics, made.instances:
             fields.sort(key=lambda each: (each.name, each.type))
@@ -454,29 +471,29 @@ class Draft:
         made.values = static_values(sorted(self.values.items()))
         self.state = "outside"
 
-    def add_to_code(self, number, key, read):
+    def add_to_code(self, number: int, key: str, read: list[Any]) -> None:
         code, needed = self.code.code, []
         if key == ":":
             self.give_once(len(self.codes), read[0])
             self.code.labels[read[0]] = len(code.instructions)
         elif key == "try":
-            code.tries.append(Try(*read, []))
+            code.tries.append(Try(*read, []))  # type: ignore[call-arg]  # (two are read)
             needed, self.state = [(read[0], False), (read[1], True)], "try"
         elif key == "catch":
-            code.tries[-1].catches.append(tuple(read))
+            code.tries[-1].catches.append(tuple(read))  # type: ignore[arg-type]  # (two, too)
             needed = [(read[1], False)]
         elif key == "catchall":
             code.tries[-1].other, self.state = read[0], "catchall"
             needed = [(read[0], False)]
         else:
             code.instructions.append(payload_of(key, read) if key in PAYLOADS else instruction_of(key, read))
-            made = code.instructions[-1]
+            made: Any = code.instructions[-1]  # (which of both it is the key says)
             targets = made.targets if key in PAYLOADS else [made.target] * (made.target is not None)
             needed = [(target, False) for target in targets]
         self.needs += [(number, self.code, *need) for need in needed]
 
 
-def payload_of(key, read):
+def payload_of(key: str, read: list[Any]) -> Payload:
     if key == "packed-switch-payload":
         return Payload("packed", tuple(read[:1]), tuple(read[1:]))
     if key == "sparse-switch-payload":
@@ -484,7 +501,7 @@ def payload_of(key, read):
     return Payload("array", width=read[0], data=b"".join(read[1:]))
 
 
-def instruction_of(key, read):
+def instruction_of(key: str, read: list[Any]) -> Instruction:
     opcode = OPCODE_OF[key]
     form, rest = form_of(opcode), list(read)
     count = len(rest) - 1 if form == "35c" else len(REGISTER_BITS[form])
@@ -505,7 +522,7 @@ def instruction_of(key, read):
 
 
 @functools.lru_cache(1 << 14)
-def line_said(line, form):
+def line_said(line: bytes, form: int | None) -> Line | None:
     """The line that these bytes say; None where their words aren't one's."""
     try:
         return line_of(words_of(line), form)
@@ -514,12 +531,12 @@ def line_said(line, form):
 
 
 @functools.lru_cache(1 << 16)
-def read_slot(kind, said):
+def read_slot(kind: str, said: str) -> Any:
     """What the word says in this slot; None where it isn't what the slot takes."""
     return SLOTS[kind][1](said)
 
 
-def ask_line(draft, number, line):
+def ask_line(draft: Draft, number: int, line: Any) -> None:  # (bytes, then what they say)
     """Adds a line that says something: 100, 103, then its words from the left (101, 102), then 104."""
     line = line_said(line, draft.form)
     if line is None:
@@ -541,7 +558,7 @@ def ask_line(draft, number, line):
         raise Refused("listing", "Twice", number) from None
 
 
-def classes_of(data):
+def classes_of(data: bytes) -> list[Class]:
     lines, draft = lines_of(data), Draft()
     for number, line in enumerate(lines, 1):
         if not says_nothing(line):
@@ -556,7 +573,7 @@ def classes_of(data):
     return draft.classes
 
 
-def parse(data):
+def parse(data: bytes) -> list[Class] | Refusal:
     """The classes that the listing says; where it has a fault, the refusal."""
     try:
         classes = classes_of(data)
@@ -570,55 +587,55 @@ def parse(data):
 NOT_WRITTEN = re.compile("[^ -~]")  # what doesn't stand for itself
 
 
-def escaped(found):
+def escaped(found: re.Match[str]) -> str:
     return f"\\u{ord(found[0]):04x}"
 
 
 class Printer:
     """Writes a listing in one of the two forms; `print` writes the second. The first methods spell words."""
 
-    def __init__(self, form=2):
+    def __init__(self, form: int = 2) -> None:
         self.form = form
 
-    def number(self, number, is_signed):
+    def number(self, number: int, is_signed: bool) -> str:
         return str(number)
 
-    def flags(self, flags):
+    def flags(self, flags: int) -> str:
         return hex(flags)
 
-    def register(self, register):
+    def register(self, register: int) -> str:
         return f"v{register}"
 
-    def bits(self, bits, digits):
+    def bits(self, bits: int, digits: int) -> str:
         return f"{bits:0{digits}x}"
 
-    def bytes(self, data):
+    def bytes(self, data: bytes) -> str:
         return data.hex()
 
-    def name(self, units):
+    def name(self, units: str) -> str:
         return NOT_WRITTEN.sub(escaped, units)
 
-    def text(self, units):
+    def text(self, units: str) -> str:
         quoted = units.replace("\\", "\\\\").replace('"', '\\"')
         return f'"{NOT_WRITTEN.sub(escaped, quoted)}"'
 
-    def target(self, k):
+    def target(self, k: int) -> str:
         return f"@{k}" if self.form == 1 else f":L{k}"
 
-    def instruction_number(self, k):
+    def instruction_number(self, k: int) -> str:
         return f"{k}:"
 
-    def begin_code(self, code):
+    def begin_code(self, code: Code) -> None:
         self.needed = needed_labels(code)
 
-    def labels(self, k):
+    def labels(self, k: int) -> list[str]:
         """The labels that mark the place k."""
         return [f":L{k}"] if k in self.needed else []
 
-    def proto(self, proto):
+    def proto(self, proto: Proto) -> str:
         return self.name(f"({''.join(proto[1])}){proto[0]}")
 
-    def named(self, kind, name):
+    def named(self, kind: str, name: Name) -> str:
         """A name in the slot of its kind."""
         if kind == "string":
             return self.text(name)
@@ -629,7 +646,7 @@ class Printer:
             return self.name(f"{owner}->{member}") + self.proto(held)
         return self.name(f"{owner}->{member}:{held}")
 
-    def value_words(self, value):
+    def value_words(self, value: Value) -> list[str]:
         kind, held = value
         if kind == "array":
             return ["array", "{", *(word for each in held for word in self.value_words(each)), "}"]
@@ -639,7 +656,7 @@ class Printer:
             return [kind, self.bits(held, 8 if kind == "float" else 16)]
         return [kind, self.number(held, kind != "char") if isinstance(held, int) else self.named(kind, held)]
 
-    def payload_words(self, each):
+    def payload_words(self, each: Payload) -> list[str]:
         if each.kind == "array":
             return ["array-payload", self.number(each.width, False)] + ([self.bytes(each.data)] if each.data else [])
         targets = map(self.target, each.targets)
@@ -648,7 +665,7 @@ class Printer:
             return ["packed-switch-payload", *keys, *targets]
         return ["sparse-switch-payload", *(word for pair in zip(keys, targets) for word in pair)]
 
-    def instruction_words(self, each):
+    def instruction_words(self, each: Instruction | Payload) -> list[str]:
         if isinstance(each, Payload):
             return self.payload_words(each)
         registers = list(map(self.register, each.registers))
@@ -665,7 +682,7 @@ class Printer:
             words.append(self.named(kind_of_name(each.opcode), each.name))
         return words
 
-    def code_lines(self, code):
+    def code_lines(self, code: Code) -> Iterator[list[str]]:
         self.begin_code(code)
         yield ["code", *(self.number(size, False) for size in (code.registers, code.ins, code.outs))]
         for k, each in enumerate(code.instructions):
@@ -684,7 +701,7 @@ class Printer:
                 yield ["catchall", self.target(one.other)]
         yield ["end", "code"]
 
-    def head_lines(self, made):
+    def head_lines(self, made: Class) -> Iterable[list[str]]:
         if made.superclass is not None:
             yield ["super", self.name(made.superclass)]
         for text in made.interfaces:
@@ -692,11 +709,12 @@ class Printer:
         if made.source is not None:
             yield ["source", self.text(made.source)]
 
-    def is_value_written(self, made, i):
+    def is_value_written(self, made: Class, i: int) -> bool:
         return i < len(made.values)
 
-    def member_blocks(self, made):
+    def member_blocks(self, made: Class) -> Iterable[list[list[str]]]:
         """The lines of each member."""
+        each: Field | Method
         for i, each in enumerate(made.statics):
             value = ["=", *self.value_words(made.values[i])] if self.is_value_written(made, i) else []
             yield [["static", self.name(each.name), self.name(each.type), self.flags(each.flags), *value]]
@@ -707,26 +725,26 @@ class Printer:
                 line = [key, self.name(each.name), self.proto(each.proto), self.flags(each.flags)]
                 yield [line, *([] if each.code is None else self.code_lines(each.code))]
 
-    def class_lines(self, made):
+    def class_lines(self, made: Class) -> Iterator[list[str]]:
         yield ["class", self.name(made.type), self.flags(made.flags)]
         yield from self.head_lines(made)
         for block in self.member_blocks(made):
             yield from block
         yield ["end", "class"]
 
-    def lines(self, classes):
+    def lines(self, classes: Iterable[Class]) -> Iterator[list[str]]:
         """The words of each line."""
         yield ["dex", "035"] if self.form == 1 else ["dex", "035", "listing", "2"]
         for made in classes:
             yield from self.class_lines(made)
 
-    def listing(self, classes):
+    def listing(self, classes: Iterable[Class]) -> Bytes:
         return "".join(" ".join(words) + "\n" for words in self.lines(classes)).encode("ascii")
 
 
-def needed_labels(code):
+def needed_labels(code: Code) -> set[int]:
     """The numbers of instructions before which a label stands, and the one after the last where a try ends there."""
-    labels = set()
+    labels: set[int] = set()
     for each in code.instructions:
         if isinstance(each, Payload):
             labels.update(each.targets)
@@ -737,5 +755,5 @@ def needed_labels(code):
     return labels
 
 
-def print_listing(classes, form=2):
+def print_listing(classes: Iterable[Class], form: int = 2) -> bytes:
     return Printer(form).listing(classes)

@@ -3,22 +3,28 @@
 A program of model.py is made one of making.py, whose layouts are loose already: sections in any order, long spellings,
 items shared or not, names that nothing uses. Here handlers are looser too, and what isn't looked at is junk.
 """
+import random
 import struct
+from collections.abc import Iterable, Iterator, Sequence
+from typing import Any
 
 from .examples import with_code
 from .inventing import invented
-from .making import Draft, Layout, WIDTHS, addresses_of, closed, code_bytes, sleb128, uleb128
-from .model import Instruction, LITERAL_BITS, REGISTER_BITS, WITH_NAME, form_of, kind_of_name
+from .making import Draft, Layout, Made, Names, Parts, Try, WIDTHS, addresses_of, closed, code_bytes, sleb128, uleb128
+from .model import Class, Code, Instruction, LITERAL_BITS, Payload, REGISTER_BITS, Value, WITH_NAME, form_of
+from .model import kind_of_name
 from .mutating import random_sample
 from .pages import Refusal
 from .programs import random_extra
 from .texts import SmallInventor
 from .writing import write
 
+Handler = tuple[tuple[tuple[str, int], ...], int | None]
+
 # --------------------------------------------------------------------------------------- a program, as making.py has it
 
 
-def packed_units(parts):
+def packed_units(parts: Iterable[tuple[int, int]]) -> list[int]:
     """The high byte and the units after it of these parts, as (number, bits) from the low bits on."""
     number = width = 0
     for part, bits in parts:
@@ -27,7 +33,7 @@ def packed_units(parts):
     return [number & 0xFF] + [number >> at & 0xFFFF for at in range(8, width, 16)]
 
 
-def made_instruction(rng, each):
+def made_instruction(rng: random.Random, each: Instruction) -> Parts:
     form = form_of(each.opcode)
     name = (kind_of_name(each.opcode), each.name) if form in WITH_NAME else None
     if form == "35c":
@@ -41,7 +47,7 @@ def made_instruction(rng, each):
         parts.insert(0, (0, 8))
     if form in LITERAL_BITS:
         parts.append((each.literal, LITERAL_BITS[form]))
-    units = packed_units(parts)
+    units: list[Any] = packed_units(parts)
     if form == "10t":
         units = [("to", each.target)]
     elif each.target is not None:
@@ -51,13 +57,13 @@ def made_instruction(rng, each):
     return (each.opcode, *units)
 
 
-def made_payload(each):
+def made_payload(each: Payload) -> Parts:
     if each.kind == "array":
         return each.kind, each.width, each.data
     return each.kind, each.keys[0] if each.kind == "packed" else list(each.keys), list(each.targets)
 
 
-def made_code(rng, code):
+def made_code(rng: random.Random, code: Code) -> Made:
     instructions = [made_instruction(rng, each) if isinstance(each, Instruction) else made_payload(each)
                     for each in code.instructions]
     tries = [(one.first, one.after, one.catches, one.other) for one in code.tries]
@@ -65,7 +71,7 @@ def made_code(rng, code):
         "tries": tries}
 
 
-def made_value(value):
+def made_value(value: Value) -> Parts:
     kind, held = value
     if kind in ("true", "false"):
         return "boolean", kind == "true"
@@ -74,7 +80,7 @@ def made_value(value):
     return (kind,) if kind == "null" else value
 
 
-def made_class(rng, made):
+def made_class(rng: random.Random, made: Class) -> Made:
     fields = [[(each.name, each.type, each.flags) for each in members] for members in (made.statics, made.instances)]
     methods = [[(each.name, each.proto, each.flags, each.code and made_code(rng, each.code)) for each in members]
                for members in (made.directs, made.virtuals)]
@@ -86,8 +92,9 @@ def made_class(rng, made):
 # ----------------------------------------------------------------------------------------------------------- its layout
 
 
-def loose_handlers(rng, tries, addresses):
+def loose_handlers(rng: random.Random, tries: Sequence[Try], addresses: list[int]) -> tuple[list[Handler], list[int]]:
     """Handlers in any order, each for one try or for several, and some that no try has; and which each try has."""
+    handlers: list[Handler]
     handlers, of_try = [], []
     for _, _, catches, other in tries:
         handler = tuple(catches), other
@@ -102,7 +109,7 @@ def loose_handlers(rng, tries, addresses):
     return [handlers[i] for i in order], [order.index(i) for i in of_try]
 
 
-def loose_tries_bytes(names, tries, addresses, layout):
+def loose_tries_bytes(names: Names, tries: Sequence[Try], addresses: list[int], layout: Layout) -> bytes | None:
     """The try_items, which may end within an instruction, and the handlers; None where an offset doesn't fit."""
     handlers, of_try = loose_handlers(layout.rng, tries, addresses)
     listed, begins, items = uleb128(len(handlers), layout), [], b""
@@ -123,7 +130,7 @@ def loose_tries_bytes(names, tries, addresses, layout):
 
 
 class LooseDraft(Draft):
-    def items_of(self, section):
+    def items_of(self, section: str) -> list[tuple[Any, bytes]]:
         """The same items in another order; codes with looser tries."""
         items = list(super().items_of(section))
         if section == "codes":
@@ -134,7 +141,7 @@ class LooseDraft(Draft):
             self.layout.rng.shuffle(items)
         return items
 
-    def loose_code(self, code, item):
+    def loose_code(self, code: Made, item: bytes) -> bytes:
         """The code_item with other tries, and something for its debug information."""
         if code["tries"] and self.layout.chance("tries"):
             addresses = addresses_of(code["instructions"])
@@ -147,7 +154,7 @@ class LooseDraft(Draft):
             item = item[:8] + self.layout.rng.randbytes(4) + item[12:]
         return item
 
-    def file(self):
+    def file(self) -> bytes | Any:
         data = super().file()
         if data is None or not self.layout.chance("junk"):
             return data
@@ -156,7 +163,7 @@ class LooseDraft(Draft):
         self.put_junk_in_fields(data)
         return closed(data)
 
-    def put_junk_between(self, data):
+    def put_junk_between(self, data: bytearray) -> None:
         """What nothing refers to."""
         used = [(0, 0x70)] + [(at, at + len(item)) for at, item in self.pieces]
         used += [(self.place[table], self.place[table] + self.sizes[table] * WIDTHS[table]) for table in range(6)]
@@ -167,7 +174,7 @@ class LooseDraft(Draft):
                 data[at:begin] = self.layout.rng.randbytes(begin - at)
             at = max(at, end)
 
-    def put_junk_in_fields(self, data):
+    def put_junk_in_fields(self, data: bytearray) -> None:
         """Fields that aren't looked at, and now and then a data section that begins at the header's end."""
         rng = self.layout.rng
         places = [48] + [60 + 8 * table for table in range(6) if self.sizes[table] == 0]
@@ -183,13 +190,13 @@ class LooseDraft(Draft):
             struct.pack_into("<II", data, 104, len(data) - 0x70, 0x70)
 
 
-def loose_file(rng, classes):
+def loose_file(rng: random.Random, classes: list[Class]) -> bytes | None:
     """A file of this program, laid out loosely; None where its offsets don't settle."""
     layout = Layout(rng, rng.choice((0.3, 0.6, 0.9)))
     return LooseDraft([made_class(rng, made) for made in classes], layout, random_extra(rng)).file()
 
 
-def file_examples():
+def file_examples() -> Iterator[tuple[str, bytes]]:
     """Files by hand: what each shows, and its bytes."""
     nops = bytes(8)
     # Handlers of LA; (type 0) at unit 0: of 20000 pairs, of 12800 pairs, and of all else.
@@ -209,7 +216,7 @@ def file_examples():
         bytes(2 * 65535) + bytes.fromhex("0e00"), tries=[(0, 65535, 1)], handlers=b"\1" + short)
 
 
-def random_files(rng):
+def random_files(rng: random.Random) -> Iterator[tuple[bytes, bool]]:
     """Files without end, each with whether it's packed: of one program several, since making it is slow."""
     while True:
         if rng.random() < 0.05:

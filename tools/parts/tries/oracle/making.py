@@ -9,10 +9,18 @@ instruction; or it is a payload: ("packed", first key, [k ..]), ("sparse", [key 
 bytes). A try is (k, k after it, [(type, k) ..], k of all others or None).
 """
 import hashlib
+import random
 import struct
 import zlib
+from collections.abc import Callable, Iterable, Iterator, Sequence
+from typing import Any
 
 from .faults import NONE, OPCODES, UNITS
+
+Made = dict[str, Any]  # a class or a code
+Parts = tuple[Any, ...]  # an instruction, a payload or a value
+Try = tuple[int, int, Sequence[tuple[str, int]], int | None]
+Proto = tuple[str, tuple[str, ...]]
 
 WIDTHS = (4, 4, 12, 8, 8, 32)  # of the rows of the six tables
 KIND_OF = {"lists": 0x1001, "codes": 0x2001, "strings": 0x2002, "arrays": 0x2005, "members": 0x2000, "map": 0x1000}
@@ -21,7 +29,7 @@ NOT_LOOKED_AT = {"other 0": 0x2003, "other 1": 0x2006, "other 2": 0x2004, "other
 ALIGNED = ("lists", "codes", "map")
 
 
-def closed(data):
+def closed(data: bytes | bytearray) -> bytes:
     """The file with the signature and the checksum that belong to its bytes."""
     data = bytearray(data)
     data[12:32] = hashlib.sha1(data[32:]).digest()
@@ -39,10 +47,12 @@ class Layout:
     """How a file is laid out: with rng, each choice is the odd one with the probability `odd`; without it, none is.
     With `only`, a choice, no other is."""
 
-    def __init__(self, rng=None, odd=0.0, only=None):
+    rng: random.Random | Any  # (None where no choice is odd: only what follows an odd one uses it)
+
+    def __init__(self, rng: random.Random | None = None, odd: float = 0.0, only: str | None = None) -> None:
         self.rng, self.odd, self.only = rng, odd, only
 
-    def chance(self, choice, share=1.0):
+    def chance(self, choice: str, share: float = 1.0) -> bool:
         if self.rng is None or self.only not in (None, choice):
             return False
         return self.rng.random() < self.odd * share
@@ -51,14 +61,14 @@ class Layout:
 # ------------------------------------------------------------------------------------------------------------ spellings
 
 
-def sevens(parts, filler, layout):
+def sevens(parts: list[int], filler: int, layout: Layout) -> bytes:
     """Seven bits a byte, now and then with more bytes than needed."""
     while len(parts) < 5 and layout.chance("numbers", 1 / 8):
         parts.append(filler)
     return bytes(part | 0x80 for part in parts[:-1]) + bytes(parts[-1:])
 
 
-def uleb128(number, layout):
+def uleb128(number: int, layout: Layout) -> bytes:
     parts = [number & 0x7F]
     while number > 0x7F:
         number >>= 7
@@ -66,7 +76,7 @@ def uleb128(number, layout):
     return sevens(parts, 0, layout)
 
 
-def sleb128(number, layout):
+def sleb128(number: int, layout: Layout) -> bytes:
     parts = [number & 0x7F]
     while not -0x40 <= number < 0x40:
         number >>= 7
@@ -74,7 +84,7 @@ def sleb128(number, layout):
     return sevens(parts, 0x7F if number < 0 else 0, layout)
 
 
-def mutf8(text):
+def mutf8(text: str) -> bytes:
     out = bytearray()
     for unit in map(ord, text):
         if 1 <= unit <= 0x7F:
@@ -89,17 +99,19 @@ def mutf8(text):
 # ---------------------------------------------------------------------------------------------------------------- names
 
 
-def shorty(proto):
+def shorty(proto: Proto) -> str:
     return "".join("L" if text[0] in "L[" else text for text in (proto[0], *proto[1]))
 
 
 class Names:
     """The names that a program needs, and after `freeze` the index of each."""
 
-    def __init__(self):
-        self.of = {kind: set() for kind in ("string", "type", "proto", "field", "method")}
+    index: dict[str, dict[Any, int]]
 
-    def add(self, kind, name):
+    def __init__(self) -> None:
+        self.of: dict[str, set[Any]] = {kind: set() for kind in ("string", "type", "proto", "field", "method")}
+
+    def add(self, kind: str, name: Any) -> None:
         self.of["field" if kind == "enum" else kind].add(name)
         if kind == "type":
             self.add("string", name)
@@ -112,14 +124,14 @@ class Names:
             self.add("string", name[1])
             self.add("proto" if kind == "method" else "type", name[2])
 
-    def add_value(self, value):
+    def add_value(self, value: Parts) -> None:
         if value[0] in ("string", "type", "field", "method", "enum"):
             self.add(*value)
         if value[0] == "array":
             for each in value[1]:
                 self.add_value(each)
 
-    def add_code(self, code):
+    def add_code(self, code: Made) -> None:
         for instruction in code["instructions"]:
             for part in instruction[1:]:
                 if isinstance(part, tuple) and part[0] != "to":
@@ -128,7 +140,7 @@ class Names:
             for text, _ in catches:
                 self.add("type", text)
 
-    def add_class(self, made):
+    def add_class(self, made: Made) -> None:
         for text in (made["type"], made.get("super"), *made.get("interfaces", ())):
             if text:
                 self.add("type", text)
@@ -143,10 +155,11 @@ class Names:
             if code:
                 self.add_code(code)
 
-    def freeze(self):
+    def freeze(self) -> None:
         """Tables in the order that rows have: each kind by the indices of those before it."""
+        index: dict[str, dict[Any, int]]
         index = self.index = {}
-        orders = (
+        orders: tuple[tuple[str, Callable[[Any], Any]], ...] = (
             ("string", lambda text: text),
             ("type", lambda text: index["string"][text]),
             ("proto", lambda name: (index["type"][name[0]], [index["type"][text] for text in name[1]])),
@@ -161,27 +174,27 @@ class Names:
 # --------------------------------------------------------------------------------------------------------------- values
 
 
-def signed_value(kind, number, most, layout):
+def signed_value(kind: int, number: int, most: int, layout: Layout) -> bytes:
     width = 1
     while not -(1 << 8 * width - 1) <= number < 1 << 8 * width - 1 or (width < most and layout.chance("values", 1 / 4)):
         width += 1
     return bytes([width - 1 << 5 | kind]) + number.to_bytes(width, "little", signed=True)
 
 
-def unsigned_value(kind, number, most, layout):
+def unsigned_value(kind: int, number: int, most: int, layout: Layout) -> bytes:
     width = 1
     while number >= 1 << 8 * width or (width < most and layout.chance("values", 1 / 4)):
         width += 1
     return bytes([width - 1 << 5 | kind]) + number.to_bytes(width, "little")
 
 
-def value_bytes(names, value, layout):
+def value_bytes(names: Names, value: Parts, layout: Layout) -> bytes:
     kind, held = value[0], value[1] if len(value) > 1 else None
     if kind in ("byte", "short", "int", "long"):
         head, most = {"byte": (0x00, 1), "short": (0x02, 2), "int": (0x04, 4), "long": (0x06, 8)}[kind]
         return signed_value(head, held, most, layout)
     if kind in ("float", "double"):
-        high = held.to_bytes(4 if kind == "float" else 8, "little")
+        high: bytes = held.to_bytes(4 if kind == "float" else 8, "little")
         while len(high) > 1 and high[0] == 0 and not layout.chance("values"):
             high = high[1:]
         return bytes([len(high) - 1 << 5 | (0x10 if kind == "float" else 0x11)]) + high
@@ -195,14 +208,14 @@ def value_bytes(names, value, layout):
     return {"null": b"\x1e", "boolean": b"\x3f" if held else b"\x1f"}[kind]
 
 
-def array_bytes(names, values, layout):
+def array_bytes(names: Names, values: Sequence[Parts], layout: Layout) -> bytes:
     return uleb128(len(values), layout) + b"".join(value_bytes(names, value, layout) for value in values)
 
 
 # ----------------------------------------------------------------------------------------------------------------- code
 
 
-def units_of(instruction):
+def units_of(instruction: Parts) -> int:
     """How many units an instruction takes."""
     if instruction[0] == "packed":
         return 4 + 2 * len(instruction[2])
@@ -213,14 +226,15 @@ def units_of(instruction):
     return UNITS[OPCODES[instruction[0]][0]]
 
 
-def addresses_of(instructions):
+def addresses_of(instructions: Iterable[Parts]) -> list[int]:
     addresses = [0]
     for instruction in instructions:
         addresses.append(addresses[-1] + units_of(instruction))
     return addresses
 
 
-def payload_bytes(payload, addresses, base):
+def payload_bytes(payload: Parts, addresses: list[int], base: int) -> bytes:
+    data: bytes
     if payload[0] == "array":
         _, width, data = payload
         return struct.pack("<HHI", 0x0300, width, len(data) // width) + data + bytes(len(data) % 2)
@@ -230,7 +244,7 @@ def payload_bytes(payload, addresses, base):
     return struct.pack(f"<HH{len(payload[1])}i", 0x0200, len(payload[1]), *payload[1]) + offsets
 
 
-def instruction_bytes(names, instruction, at, addresses):
+def instruction_bytes(names: Names, instruction: Parts, at: int, addresses: list[int]) -> bytes:
     opcode, high, *rest = instruction
     if isinstance(high, tuple):  # the way of goto, in the byte beside the opcode
         high = addresses[high[1]] - at
@@ -245,11 +259,12 @@ def instruction_bytes(names, instruction, at, addresses):
     return out
 
 
-def tries_bytes(names, tries, addresses, layout):
+def tries_bytes(names: Names, tries: Sequence[Try], addresses: list[int], layout: Layout) -> bytes:
     """The try_items and the list of handlers."""
     handlers = list(dict.fromkeys((tuple(catches), other) for _, _, catches, other in tries))
     if layout.chance("handler order"):
         layout.rng.shuffle(handlers)
+    catches: Sequence[tuple[str, int]]
     listed, begins, items = uleb128(len(handlers), layout), {}, b""
     for catches, other in handlers:
         begins[catches, other] = len(listed)
@@ -264,7 +279,7 @@ def tries_bytes(names, tries, addresses, layout):
     return items + listed
 
 
-def code_bytes(names, code, layout):
+def code_bytes(names: Names, code: Made, layout: Layout) -> bytes:
     instructions, tries = code["instructions"], code.get("tries", ())
     addresses = addresses_of(instructions)
     switch_of = {each[2][1]: addresses[k] for k, each in enumerate(instructions) if each[0] in (0x2B, 0x2C)}
@@ -284,7 +299,7 @@ def code_bytes(names, code, layout):
 # -------------------------------------------------------------------------------------------------------------- members
 
 
-def member_lists(names, made):
+def member_lists(names: Names, made: Made) -> Iterator[tuple[str, list[tuple[int, int, int]]]]:
     """The four lists of members with their indices, in their order: (index, flags, number in its list of the class)."""
     for group in ("statics", "instances", "directs", "virtuals"):
         index = names.index["field" if group in ("statics", "instances") else "method"]
@@ -292,7 +307,7 @@ def member_lists(names, made):
         yield group, sorted((index[made["type"], each[0], each[1]], each[2], j) for j, each in members)
 
 
-def members_bytes(names, i, made, codes, layout):
+def members_bytes(names: Names, i: int, made: Made, codes: dict[Any, int], layout: Layout) -> bytes:
     """The class_data_item, with the offsets that codes have so far."""
     lists = dict(member_lists(names, made))
     out = b"".join(uleb128(len(members), layout) for members in lists.values())
@@ -312,7 +327,10 @@ def members_bytes(names, i, made, codes, layout):
 class Draft:
     """A file that is laid out until no offset changes: how long class data is depends on the offsets of codes."""
 
-    def __init__(self, classes, layout, extra):
+    place: dict[int | str, int]
+    pieces: list[tuple[int, bytes]]
+
+    def __init__(self, classes: list[Made], layout: Layout, extra: Iterable[tuple[str, Any]]) -> None:
         self.classes, self.layout = classes, layout
         self.names = Names()
         for kind, name in extra:
@@ -324,10 +342,10 @@ class Draft:
         self.sizes.append(len(classes))
         self.blocks = self.ordered_blocks()
         self.has_shared, self.has_empty = layout.chance("sharing"), layout.chance("empty items")
-        self.offsets = {section: {} for section in KIND_OF}
+        self.offsets: dict[str, dict[Any, int]] = {section: {} for section in KIND_OF}
         self.place, self.pieces = {}, []
 
-    def ordered_blocks(self):
+    def ordered_blocks(self) -> list[int | str]:
         """Tables by their numbers, sections by their names, in the order in which they stand in the file."""
         tables, sections = list(range(6)), ["lists", "codes", "strings", "arrays", "members", "map"]
         if self.layout.chance("unknown sections"):
@@ -340,7 +358,7 @@ class Draft:
             blocks = tables + sections
         return blocks
 
-    def items_of(self, section):
+    def items_of(self, section: str) -> Iterable[tuple[Any, bytes]]:
         """The items of a section: what refers to each, and its bytes."""
         names, layout = self.names, self.layout
         if section == "lists":
@@ -373,8 +391,9 @@ class Draft:
         else:
             yield None, bytes(layout.rng.randrange(256) for _ in range(layout.rng.randrange(1, 20)))
 
-    def put_section(self, section, at):
+    def put_section(self, section: str, at: int) -> int:
         """Its items from here on; where items are shared, one of equal bytes is not written twice."""
+        written: dict[bytes, int]
         offsets, written = self.offsets.setdefault(section, {}), {}
         for key, item in self.items_of(section):
             if section in ALIGNED:
@@ -387,7 +406,7 @@ class Draft:
             at += len(item)
         return at
 
-    def lay_out(self):
+    def lay_out(self) -> int:
         """Places everything once; answers where it ends."""
         at, self.pieces = 0x70, []
         for block in self.blocks:
@@ -404,7 +423,7 @@ class Draft:
             at = at + 4 + 12 * len(self.map_entries()) if block == "map" else self.put_section(block, at)
         return at
 
-    def map_entries(self):
+    def map_entries(self) -> list[tuple[int, int, int]]:
         entries = [(0, 1, 0)]
         for block in self.blocks:
             if isinstance(block, int):
@@ -416,7 +435,7 @@ class Draft:
                 entries.append(({**KIND_OF, **NOT_LOOKED_AT}[block], 1, self.place.get(block, 0)))
         return sorted(entries, key=lambda entry: entry[2])
 
-    def table_bytes(self, table):
+    def table_bytes(self, table: int) -> bytes:
         names, offsets = self.names.index, self.offsets
         if table == 0:
             return b"".join(struct.pack("<I", offsets["strings"][text]) for text in names["string"])
@@ -436,20 +455,20 @@ class Draft:
             for owner, name, third in names[kind]
         )
 
-    def class_row(self, i, made):
+    def class_row(self, i: int, made: Made) -> bytes:
         types, strings = self.names.index["type"], self.names.index["string"]
         above = types[made["super"]] if made.get("super") else NONE
         source = strings[made["source"]] if made.get("source") is not None else NONE
         lists, members, values = (self.offsets[section].get(i, 0) for section in ("lists", "members", "arrays"))
         return struct.pack("<8I", types[made["type"]], made.get("flags", 1), above, lists, source, 0, members, values)
 
-    def header(self, length, data_off, data_end):
+    def header(self, length: int, data_off: int, data_end: int) -> bytes:
         pairs = [(size, self.place[table] if size else 0) for table, size in enumerate(self.sizes)]
         pairs.append((data_end - data_off, data_off))
         numbers = [length, 0x70, 0x12345678, 0, 0, self.place["map"]] + [number for pair in pairs for number in pair]
         return b"dex\n035\0" + bytes(24) + struct.pack("<20I", *numbers)
 
-    def file(self):
+    def file(self) -> bytes | Any:  # (those of a plain layout settle)
         """The bytes of the file, or None where its offsets don't settle."""
         state = self.layout.rng.getstate() if self.layout.rng else None
         for _ in range(12):
@@ -474,6 +493,6 @@ class Draft:
         return closed(data)
 
 
-def file_of(classes, layout=None, extra=()):
+def file_of(classes: list[Made], layout: Layout | None = None, extra: Iterable[tuple[str, Any]] = ()) -> bytes | Any:
     """The file of these classes, or None where its offsets don't settle; `extra`: (kind, name) of what nothing uses."""
     return Draft(classes, layout or Layout(), extra).file()

@@ -5,8 +5,16 @@ A text has a character of 0 to 0xffff for each unit of UTF-16, as in faults.py. 
 holds), with the kinds of LISTING's "Values"; `null`, `true` and `false` hold None.
 """
 import dataclasses
+from collections.abc import Callable, Iterable, Sequence
+from typing import Any
 
 from .faults import FIELDS, METHODS, OPCODES, STRINGS, TYPES
+
+Proto = tuple[str, tuple[str, ...]]
+FieldName = tuple[str, str, str]
+MethodName = tuple[str, str, Proto]
+Name = Any  # a string, a type, a prototype or one of these: its kind stands beside it
+Value = tuple[str, Any]
 
 
 @dataclasses.dataclass
@@ -14,11 +22,13 @@ class Instruction:
     """An opcode with its operands. The target is the number of an instruction; of 3rc there is the first register."""
 
     opcode: int
-    registers: tuple = ()
-    count: int = None
-    literal: int = None
-    target: int = None
-    name: object = None
+    registers: tuple[int, ...] = ()
+    # None where the opcode's format has none: it says which are there, which mypy can't follow. A target may be a label
+    # or a payload at first, until each instruction has its number.
+    count: int | Any = None
+    literal: int | Any = None
+    target: int | Any = None
+    name: Name = None
 
 
 @dataclasses.dataclass
@@ -26,8 +36,8 @@ class Payload:
     """`kind` is packed, sparse or array. A packed one has its first key alone; targets are numbers of instructions."""
 
     kind: str
-    keys: tuple = ()
-    targets: tuple = ()
+    keys: tuple[int, ...] = ()
+    targets: tuple[int, ...] = ()
     width: int = 0
     data: bytes = b""
 
@@ -38,8 +48,8 @@ class Try:
 
     first: int
     after: int
-    catches: list
-    other: int = None
+    catches: list[tuple[str, int]]
+    other: int | None = None
 
 
 @dataclasses.dataclass
@@ -47,8 +57,8 @@ class Code:
     registers: int
     ins: int
     outs: int
-    instructions: list = dataclasses.field(default_factory=list)
-    tries: list = dataclasses.field(default_factory=list)
+    instructions: list[Instruction | Payload] = dataclasses.field(default_factory=list)
+    tries: list[Try] = dataclasses.field(default_factory=list)
 
 
 @dataclasses.dataclass
@@ -61,25 +71,25 @@ class Field:
 @dataclasses.dataclass
 class Method:
     name: str
-    proto: tuple
+    proto: Proto
     flags: int
-    code: Code = None
+    code: Code | None = None
 
 
 @dataclasses.dataclass
 class Class:
     type: str
     flags: int
-    superclass: str = None
-    interfaces: list = dataclasses.field(default_factory=list)
-    source: str = None
-    statics: list = dataclasses.field(default_factory=list)
-    values: list = dataclasses.field(default_factory=list)
-    instances: list = dataclasses.field(default_factory=list)
-    directs: list = dataclasses.field(default_factory=list)
-    virtuals: list = dataclasses.field(default_factory=list)
+    superclass: str | None = None
+    interfaces: list[str] = dataclasses.field(default_factory=list)
+    source: str | None = None
+    statics: list[Field] = dataclasses.field(default_factory=list)
+    values: list[Value] = dataclasses.field(default_factory=list)
+    instances: list[Field] = dataclasses.field(default_factory=list)
+    directs: list[Method] = dataclasses.field(default_factory=list)
+    virtuals: list[Method] = dataclasses.field(default_factory=list)
 
-    def codes(self):
+    def codes(self) -> list[Code]:
         """In the order in which a file has them: direct methods before virtual ones."""
         return [method.code for method in self.directs + self.virtuals if method.code is not None]
 
@@ -87,7 +97,7 @@ class Class:
 # --------------------------------------------------------------------------------------------------- "Dalvik bytecode"
 
 
-def mnemonics():
+def mnemonics() -> dict[int, str]:
     """The mnemonic of each opcode, of the page's table "Summary of bytecode set", read from above."""
     widths = ("", "-wide", "-object")
     kinds = ("", "-wide", "-object", "-boolean", "-byte", "-char", "-short")
@@ -97,7 +107,9 @@ def mnemonics():
     binary = [f"{name}-{of}" for of in ("int", "long") for name in whole]
     binary += [f"{name}-{of}" for of in ("float", "double") for name in whole[:5]]
     of = {0x00: "nop", 0x0D: "move-exception", 0x0E: "return-void", 0x1A: "const-string", 0x1B: "const-string/jumbo"}
-    put = lambda first, names: of.update(zip(range(first, first + len(names)), names))
+    put: Callable[[int, Sequence[str]], None] = lambda first, names: of.update(
+        zip(range(first, first + len(names)), names)
+    )
     put(0x01, [f"move{width}{size}" for width in widths for size in ("", "/from16", "/16")])
     put(0x0A, [f"move-result{width}" for width in widths])
     put(0x0F, [f"return{width}" for width in widths])
@@ -129,11 +141,12 @@ OPCODE_OF = {mnemonic: opcode for opcode, mnemonic in MNEMONICS.items()}
 KIND_OF_TABLE = {STRINGS: "string", TYPES: "type", FIELDS: "field", METHODS: "method"}
 
 
-def form_of(opcode):
-    return OPCODES[opcode][0]
+def form_of(opcode: int) -> str:
+    form: str = OPCODES[opcode][0]
+    return form
 
 
-def kind_of_name(opcode):
+def kind_of_name(opcode: int) -> str:
     """What an instruction's index names: string, type, field or method."""
     return KIND_OF_TABLE[OPCODES[opcode][1]]
 
@@ -152,7 +165,7 @@ WITH_NAME = ("21c", "22c", "31c", "35c", "3rc")
 NEEDED_PAYLOAD = {0x2B: "packed", 0x2C: "sparse", 0x26: "array"}
 
 
-def units_of(instruction):
+def units_of(instruction: Instruction | Payload) -> int:
     """How many units an instruction takes (FORMAT "Instructions")."""
     if isinstance(instruction, Instruction):
         return int(form_of(instruction.opcode)[0])
@@ -163,7 +176,7 @@ def units_of(instruction):
     return 4 + (len(instruction.data) + 1) // 2
 
 
-def addresses_of(instructions):
+def addresses_of(instructions: Iterable[Instruction | Payload]) -> list[int]:
     """The address of each instruction, and at the end that after the last."""
     addresses = [0]
     for each in instructions:

@@ -1,13 +1,17 @@
 """Changes files so that their faults are many and near the edges of the rules, and closes them again."""
 import collections
+import random
 import struct
 import zlib
+from collections.abc import Callable, Iterator
+from typing import Any
 
 from . import examples
 from . import faults
 from . import programs
-from .making import Layout, closed, file_of, sleb128, uleb128
+from .making import Layout, Made, Parts, closed, file_of, sleb128, uleb128
 
+Spot = tuple[int, int]  # place and width
 # Columns of the tables: bytes and label of each, by the table's kind.
 COLUMNS = {
     faults.STRINGS: ((4, "string row"),), faults.TYPES: ((4, "type row"),),
@@ -18,7 +22,7 @@ COLUMNS = {
                      (4, "ignored"), (4, "offset of members"), (4, "offset of values")),
 }
 # How often each label is chosen, where not once; 'cut', 'map edit' and 'any byte' are changes of a kind of their own.
-WEIGHTS = collections.defaultdict(lambda: 3, {
+WEIGHTS: collections.defaultdict[str, float] = collections.defaultdict(lambda: 3, {
     "magic": 1, "sums": 1, "map count": 2, "ignored": 0.5, "flags": 1, "source file": 2, "string end": 2, "padding": 1,
     "row": 6, "list type": 5, "difference": 6, "values": 9, "opcode": 6, "high byte": 6, "branch": 6, "switch": 5,
     "index": 5, "payload head": 5, "payload": 6, "handlers": 6, "handler size": 5, "cut": 1.5, "map edit": 4,
@@ -45,7 +49,10 @@ class Spots:
     """The fields of an accepted file: under each label the place and width of each. And of each row, each two entries of
     class data that are neighbours, and each instruction, its fields: (label, place, width)."""
 
-    def __init__(self, data):
+    of: dict[str, list[Spot]]
+    together: dict[str, list[list[tuple[str, int, int]]]]
+
+    def __init__(self, data: bytes) -> None:
         self.data, self.file = data, faults.read(data)
         self.of, self.together = collections.defaultdict(list), collections.defaultdict(list)
         self.in_head_and_map()
@@ -55,19 +62,21 @@ class Spots:
         for code in self.file.codes:
             self.in_code(code)
 
-    def put(self, label, at, width=1):
+    def put(self, label: str, at: int, width: int = 1) -> None:
         self.of[label].append((at, width))
 
-    def put_bytes(self, label, at, end):
+    def put_bytes(self, label: str, at: int, end: int) -> None:
         for place in range(at, end):
             self.put(label, place)
 
-    def put_number(self, label, at, end, read=faults.uleb128):
-        number, after = read(self.data, at, end)
+    def put_number(
+        self, label: str, at: int, end: int, read: Callable[[bytes, int, int], tuple[int, int] | None] = faults.uleb128
+    ) -> tuple[int, int]:
+        number, after = read(self.data, at, end)  # type: ignore[misc]  # (an accepted file has a number there)
         self.put_bytes(label, at, after)
         return number, after
 
-    def in_head_and_map(self):
+    def in_head_and_map(self) -> None:
         self.put_bytes("magic", 0, 8)
         self.put_bytes("sums", 8, 32)
         for at in range(32, 56, 4):
@@ -83,7 +92,7 @@ class Spots:
             self.put("map size", at + 4, 4)
             self.put("map offset", at + 8, 4)
 
-    def in_tables(self):
+    def in_tables(self) -> None:
         for kind, columns in COLUMNS.items():
             for i in range(self.file.size(kind)):
                 at = self.file.row(kind, i)
@@ -96,7 +105,8 @@ class Spots:
                 self.together[f"row {kind}"].append([field for field in fields if field[0] not in ("ignored", "flags")])
         for i in range(self.file.size(faults.STRINGS)):
             at = faults.u32(self.data, self.file.row(faults.STRINGS, i))
-            end = self.data.index(0, faults.uleb128(self.data, at, len(self.data))[1])
+            # (an accepted file has a number here, too)
+            end = self.data.index(0, faults.uleb128(self.data, at, len(self.data))[1])  # type: ignore[index]
             self.put("string count", at)
             self.put_bytes("string byte", at + 1, end)
             self.put("string end", end)
@@ -108,15 +118,15 @@ class Spots:
                 for j in range(faults.u32(self.data, off)):
                     self.put("list type", off + 4 + 2 * j, 2)
 
-    def in_class(self, row):
+    def in_class(self, row: faults.ClassRow) -> None:
         if row.class_data:
             at, end = row.class_data, self.file.section[faults.CLASS_DATA][1]
             for _ in range(4):
                 _, at = self.put_number("members count", at, end)
-            before = []
+            before: list[tuple[str, int, int]] = []
             for members in row.members:
                 for member in members:
-                    entry = []
+                    entry: list[tuple[str, int, int]] = []
                     for label, _ in zip(("difference", "member flags", "code offset"), member):
                         entry += [(label, at, 1)] * (label == "difference")
                         _, at = self.put_number(label, at, end)
@@ -127,7 +137,7 @@ class Spots:
             self.put("values count", row.values)
             self.put_bytes("values", row.values + 1, faults.behind_array(self.file, row, row.values, end, None, 0))
 
-    def in_code(self, code):
+    def in_code(self, code: faults.Code) -> None:
         for label, there in (("registers", 0), ("ins_size", 2), ("ignored", 4), ("tries_size", 6)):
             self.put(label, code.off + there, 2)
         self.put("ignored", code.off + 8, 4)
@@ -141,7 +151,7 @@ class Spots:
         if code.tries:
             self.in_handlers(code)
 
-    def in_instruction(self, at, each):
+    def in_instruction(self, at: int, each: faults.Instruction) -> None:
         self.put("opcode", at)
         self.put("high byte", at + 1)
         tail = [("unit", at + there, 2) for there in range(2, 2 * each.size, 2)][:2]
@@ -161,7 +171,7 @@ class Spots:
             for there in range(2, 2 * each.size, 2):
                 self.put("index" if there == 2 and each.form in faults.INDEX_FORMATS else "unit", at + there, 2)
 
-    def in_handlers(self, code):
+    def in_handlers(self, code: faults.Code) -> None:
         end = self.file.section[faults.CODE][1]
         count, at = self.put_number("handlers", code.handlers_off, end)
         for _ in range(count):
@@ -173,15 +183,15 @@ class Spots:
 # ------------------------------------------------------------------------------------------------------- single changes
 
 
-def get(data, at, width):
+def get(data: bytearray, at: int, width: int) -> int:
     return int.from_bytes(data[at : at + width], "little")
 
 
-def put(data, at, width, number):
+def put(data: bytearray, at: int, width: int, number: int) -> None:
     data[at : at + width] = (number & (1 << 8 * width) - 1).to_bytes(width, "little")
 
 
-def new_number(rng, data, label, at, width, peers):
+def new_number(rng: random.Random, data: bytearray, label: str, at: int, width: int, peers: list[Spot]) -> int:
     """Another number for a field: hostile, that of another field of its kind, a neighbour of what it was, or any."""
     old = get(data, at, width)
     if label in MAY_BE_0 and rng.random() < 0.25:
@@ -200,7 +210,7 @@ def new_number(rng, data, label, at, width, peers):
     return rng.randrange(24 if way == 6 else 1 << 8 * width)
 
 
-def edit_map(rng, data):
+def edit_map(rng: random.Random, data: bytearray) -> None:
     """Deletes, doubles or swaps entries of the map; the count follows, now and then not."""
     at = get(data, 52, 4)
     count = min(get(data, at, 4), 40)  # an earlier change may have made it huge
@@ -218,7 +228,7 @@ def edit_map(rng, data):
     data[at + 4 : at + 4 + len(body)] = body
 
 
-def cut(rng, data):
+def cut(rng: random.Random, data: bytearray) -> None:
     """Cuts the file or lengthens it; file_size follows half the times."""
     if rng.random() < 0.3:
         del data[rng.randrange(112) :]
@@ -230,7 +240,7 @@ def cut(rng, data):
         put(data, 32, 4, len(data))
 
 
-def swap_rows(rng, data, peers):
+def swap_rows(rng: random.Random, data: bytearray, peers: list[Spot]) -> None:
     """One row becomes another one's copy, or they change places."""
     (at, width), (other, _) = rng.choice(peers), rng.choice(peers)
     mine, its = bytes(data[at : at + width]), bytes(data[other : other + width])
@@ -239,7 +249,7 @@ def swap_rows(rng, data, peers):
         data[other : other + width] = mine
 
 
-def change(rng, data, spots):
+def change(rng: random.Random, data: bytearray, spots: Spots) -> None:
     labels = list(spots.of) + ["cut", "map edit", "any byte"]
     weights = [WEIGHTS["row" if label.startswith("row ") else label] for label in labels]
     label = rng.choices(labels, weights)[0]
@@ -259,7 +269,7 @@ def change(rng, data, spots):
 # -------------------------------------------------------------------------------------------------- changes of a sample
 
 
-def of_fields(rng, spots):
+def of_fields(rng: random.Random, spots: Spots) -> bytes:
     """One to three changes. Now and then the checksum, or it and the signature, are as they were."""
     data = bytearray(spots.data)
     for _ in range(rng.choice((1, 1, 1, 1, 1, 2, 2, 3))):
@@ -278,7 +288,7 @@ def of_fields(rng, spots):
     return closed(data)
 
 
-def of_neighbours(rng, spots):
+def of_neighbours(rng: random.Random, spots: Spots) -> bytes:
     """Two or three fields within 48 bytes: which fault of a row, an item or an entry is the first."""
     data = bytearray(spots.data)
     all_spots = [(label, spot) for label, found in spots.of.items() if not label.startswith("row ") for spot in found]
@@ -289,7 +299,7 @@ def of_neighbours(rng, spots):
     return closed(data)
 
 
-def of_pairs(rng, spots):
+def of_pairs(rng: random.Random, spots: Spots) -> bytes:
     """Two fields of one row, of two members' entries or of one instruction: which of two faults is told."""
     data = bytearray(spots.data)
     if not spots.together:  # no row
@@ -300,7 +310,7 @@ def of_pairs(rng, spots):
     return closed(data)
 
 
-def of_borders(rng, spots):
+def of_borders(rng: random.Random, spots: Spots) -> bytes:
     """An offset or a size that leads to a border of a section, a table, the data section or the file, or beside it."""
     data, file = bytearray(spots.data), spots.file
     borders = [len(data), 0x70, file.data_off, file.data_off + file.data_size, file.map_off]
@@ -322,7 +332,7 @@ def of_borders(rng, spots):
     return closed(data)
 
 
-def of_runs(rng, spots):
+def of_runs(rng: random.Random, spots: Spots) -> bytes:
     """Neighbouring bytes of strings, members, values or handlers, each of those that are awkward there."""
     data = bytearray(spots.data)
     labels = [label for label in AWKWARD_IN if label in spots.of]
@@ -344,39 +354,41 @@ PAIRS = ("\ud800\udc00", "\udbff\udfff", "\udc00\ud800", "\ud800\ud800\udc00", "
 ODD_TYPES = ("L", "[", "V", "LA", "[[", "[V", "LV;", "L/a;", "La/;", "La//b;", "L;", "I;", "II", "A", "[L;", "LA;;")
 
 
-def odd_name(rng):
+def odd_name(rng: random.Random) -> str:
     """A few units at the edges of what a SimpleName has."""
+    ways: tuple[Callable[[], str], ...]
     ways = (lambda: rng.choice(PAIRS), lambda: chr(rng.choice(EDGES)), lambda: rng.choice("ab<>/;[L"))
     return "".join(rng.choice(ways)() for _ in range(rng.randrange(1, 4)))
 
 
-def odd_type(rng):
+def odd_type(rng: random.Random) -> str:
+    ways: tuple[Callable[[], str], ...]
     ways = (lambda: "L" + odd_name(rng) + ";", lambda: rng.choice(ODD_TYPES),
             lambda: "[" * rng.choice((1, 2, 254, 255, 256, 257)) + rng.choice(("I", "LA;", "V", "LA", odd_name(rng))))
     return rng.choice(ways)()
 
 
-def of_names(rng):
+def of_names(rng: random.Random) -> bytes | None:
     """A class with a field or a method whose name or type is at the edge of its grammar."""
     name, text = rng.choice((("a", odd_type(rng)), (odd_name(rng), "[I")))
     if rng.random() < 0.4:
         name = rng.choice(("<%s>", "<%s", "%s>", "<<%s>>", "<%s>>")) % (name if rng.random() < 0.7 else "")
-    made = {"type": "LA;"}
+    made: Made = {"type": "LA;"}
     if rng.random() < 0.5:
         made["virtuals"] = [(name, ("V", (text,) if rng.random() < 0.5 else ()), 1, None)]
     else:
         made["instances"] = [(name, text, 1)]
-    extra = [("string", odd_name(rng)), ("type", text)]
+    extra: list[tuple[str, Any]] = [("string", odd_name(rng)), ("type", text)]
     if rng.random() < 0.2:
         extra.append(("method", (text, "m", ("V", ()))))
     return file_of([made], Layout(rng, 0.2), extra)
 
 
-def random_unit(rng):
+def random_unit(rng: random.Random) -> int:
     return rng.choice((0, 1, 0xFFFF, 0xFFFE, *map(rng.randrange, (4, 8, 256, 65536))))
 
 
-def units_of_any(rng, before):
+def units_of_any(rng: random.Random, before: int) -> list[int]:
     """An instruction whose operands nobody chose, after so many units."""
     opcode = rng.choice(sorted(faults.OPCODES) if rng.random() < 0.6 else (0,) + programs.WITH_TARGETS)
     if rng.random() < 0.05:
@@ -396,7 +408,7 @@ def units_of_any(rng, before):
     return [opcode | high << 8] + rest
 
 
-def units_of_payload(rng):
+def units_of_payload(rng: random.Random) -> list[int]:
     count, way = rng.randrange(4), rng.randrange(3)
     targets = [unit for _ in range(count) for unit in (rng.randrange(-8, 12) & 0xFFFF, rng.choice((0, 0xFFFF)))]
     if way == 0:
@@ -409,7 +421,7 @@ def units_of_payload(rng):
     return [0x300, width, count, 0] + [random_unit(rng) for _ in range((count * width + 1) // 2)]
 
 
-def random_handlers(rng, length):
+def random_handlers(rng: random.Random, length: int) -> tuple[bytes, list[int]]:
     """A list of handlers, of numbers that are right now and then, and where each begins."""
     count, layout = rng.randrange(4), Layout(rng, 0.5)
     listed, begins = uleb128(count, layout), []
@@ -426,9 +438,9 @@ def random_handlers(rng, length):
     return listed, begins
 
 
-def of_units(rng):
+def of_units(rng: random.Random) -> bytes:
     """A code of instructions, payloads, tries and handlers that nobody chose."""
-    units = []
+    units: list[int] = []
     for _ in range(rng.randrange(1, 9)):
         units += units_of_any(rng, len(units))
     for _ in range(rng.randrange(3)):
@@ -446,9 +458,9 @@ def of_units(rng):
     return examples.with_code(struct.pack(f"<{len(units)}H", *units), registers, ins, tries, handlers)
 
 
-def of_depths(rng):
+def of_depths(rng: random.Random) -> bytes | None:
     """Values with arrays in arrays, about as many as there may be."""
-    value = programs.random_value(rng, 3) if rng.random() < 0.5 else ("array", [])
+    value: Parts = programs.random_value(rng, 3) if rng.random() < 0.5 else ("array", [])
     for _ in range(rng.choice((62, 63, 64, 64, 65, 66, 70, 200))):
         beside = [programs.random_value(rng, 3)] if rng.random() < 0.2 else []
         value = ("array", rng.choice((beside + [value], [value] + beside)))
@@ -457,7 +469,7 @@ def of_depths(rng):
     return file_of([{"type": "LA;", "statics": statics, "values": values}], Layout(rng, rng.choice((0, 0.3))))
 
 
-def of_many_rows(rng):
+def of_many_rows(rng: random.Random) -> bytes:
     """About as many types or prototypes as there may be, of zeros."""
     count = rng.choice((65535, 65536, 65537))
     width, place = rng.choice(((4, 64), (12, 72)))
@@ -467,17 +479,17 @@ def of_many_rows(rng):
 # ---------------------------------------------------------------------------------------------------------- all of them
 
 
-def random_sample(rng):
+def random_sample(rng: random.Random) -> bytes | None:
     """A file of a random program."""
     layout = Layout(rng, rng.choice((0, 0, 0.3, 0.6, 0.9)))
     return file_of(programs.random_classes(rng), layout, programs.random_extra(rng))
 
 
-def random_samples(rng, count):
+def random_samples(rng: random.Random, count: int) -> list[bytes]:
     return [data for data in (random_sample(rng) for _ in range(count)) if data is not None]
 
 
-def mutated(rng, samples):
+def mutated(rng: random.Random, samples: list[Spots]) -> Iterator[bytes]:
     """Files without end; the samples are the spots of accepted files."""
     own = of_names, of_units, of_depths, of_many_rows, random_sample
     of_sample = of_fields, of_runs, of_borders, of_neighbours, of_pairs

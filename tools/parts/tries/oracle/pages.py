@@ -15,7 +15,7 @@ TABLES_OF_FAULTS = {
 }
 
 
-def numbers_of_faults(table):
+def numbers_of_faults(table: str) -> dict[str, int]:
     """The number of each fault of a table, by its name."""
     page, heading = TABLES_OF_FAULTS[table]
     with open(os.path.join(DOCS, page), encoding="utf8") as file:
@@ -35,10 +35,10 @@ class Refusal:
     place: int
 
     @property
-    def number(self):
+    def number(self) -> int:
         return NUMBERS[self.table][self.name]
 
-    def __str__(self):
+    def __str__(self) -> str:
         """As the program says it."""
         return f"dexasm: refused {self.number} {self.name} at {self.place}\n"
 
@@ -46,6 +46,6 @@ class Refusal:
 class Refused(Exception):
     """Ends a reading with its refusal."""
 
-    def __init__(self, table, name, place):
+    def __init__(self, table: str, name: str, place: int) -> None:
         super().__init__(table, name, place)
         self.refusal = Refusal(table, name, place)

@@ -1,6 +1,10 @@
 """Programs at random: classes with members, values of every type, codes of every format, for making.file_of."""
+import random
+from collections.abc import Callable
+from typing import Any
+
 from .faults import FIELDS, METHODS, OPCODES, STRINGS, TYPES, UNITS
-from .making import addresses_of, units_of
+from .making import Made, Parts, Proto, Try, addresses_of, units_of
 
 OF_TYPES = ("Z", "B", "S", "C", "I", "J", "F", "D", "[I", "[[J", "[LA;", "[[[Z", "LA;", "LB;", "Lp/C-d;",
             "Ljava/lang/Object;", "Ljava/lang/Throwable;", "L\u00e9t\u00e9;", "L\ud83d\ude00/x;")
@@ -15,20 +19,20 @@ NUMBERS = {
 }
 
 
-def random_field(rng):
+def random_field(rng: random.Random) -> tuple[str, str, str]:
     return rng.choice(OF_CLASSES), rng.choice(WORDS), rng.choice(OF_TYPES)
 
 
-def random_proto(rng):
+def random_proto(rng: random.Random) -> Proto:
     parameters = tuple(rng.choice(OF_TYPES) for _ in range(rng.choice((0, 0, 1, 1, 2, 3))))
     return rng.choice(OF_TYPES + ("V",)), parameters
 
 
-def random_method(rng):
+def random_method(rng: random.Random) -> tuple[str, str, Proto]:
     return rng.choice(REFERENCES), rng.choice(WORDS), random_proto(rng)
 
 
-def random_name(rng, kind):
+def random_name(rng: random.Random, kind: str) -> Any:
     """A string, a type, a field or a method, as an index of this kind names it."""
     if kind == "string":
         return rng.choice(TEXTS + WORDS)
@@ -37,7 +41,7 @@ def random_name(rng, kind):
     return random_method(rng) if kind == "method" else random_field(rng)
 
 
-def random_value(rng, depth=0):
+def random_value(rng: random.Random, depth: int = 0) -> Parts:
     kinds = [*NUMBERS, "string", "type", "field", "method", "enum", "null"] + ["array"] * (2 if depth < 3 else 0)
     kind = rng.choice(kinds)
     if kind in NUMBERS:
@@ -55,7 +59,7 @@ KIND_OF_TABLE = {STRINGS: "string", TYPES: "type", FIELDS: "field", METHODS: "me
 WITH_TARGETS = (0x24, 0x25, 0x26, 0x28, 0x29, 0x2A, 0x2B, 0x2C, 0x32, 0x38, 0x6E, 0x74)
 
 
-def random_payload(rng, opcode, instructions):
+def random_payload(rng: random.Random, opcode: int, instructions: int) -> Parts:
     """A payload for this instruction; `instructions` is how many instructions a switch may lead to."""
     if opcode == 0x2B:
         return "packed", rng.choice((0, -5, 0x7FFFFFFF)), [rng.randrange(instructions) for _ in range(rng.randrange(4))]
@@ -66,8 +70,9 @@ def random_payload(rng, opcode, instructions):
     return "array", width, bytes(rng.randrange(256) for _ in range(width * rng.randrange(4)))
 
 
-def with_payloads(rng, opcodes):
+def with_payloads(rng: random.Random, opcodes: list[int]) -> tuple[list[Parts], dict[int, int]]:
     """The instructions as (opcode,), payloads at even units after them; and which payload each leads to."""
+    made: list[Parts]
     made, payload_of, shared = [(opcode,) for opcode in opcodes], {}, None
     length = sum(UNITS[OPCODES[opcode][0]] for opcode in opcodes)
     for k, opcode in enumerate(opcodes):
@@ -90,35 +95,35 @@ def with_payloads(rng, opcodes):
 class Operands:
     """Operands for an instruction, of registers that the code has and of instructions that it may lead to."""
 
-    def __init__(self, rng, registers):
+    def __init__(self, rng: random.Random, registers: int) -> None:
         self.rng, self.registers = rng, registers
 
-    def low(self):
+    def low(self) -> int:
         return self.rng.randrange(min(self.registers, 16))
 
-    def byte(self):
+    def byte(self) -> int:
         return self.rng.randrange(min(self.registers, 256))
 
-    def pair(self):
+    def pair(self) -> int:
         return self.low() << 4 | self.low()
 
-    def number(self):
+    def number(self) -> int:
         return self.rng.randrange(65536)
 
-    def listed(self, index):
+    def listed(self, index: tuple[str, Any] | None) -> Parts:
         """Of 35c: registers that aren't counted may be anything."""
         count = self.rng.randrange(6)
         listed = [self.low() if i < count else self.rng.choice((0, 0, self.rng.randrange(16))) for i in range(5)]
         return count << 4 | listed[4], index, listed[0] | listed[1] << 4 | listed[2] << 8 | listed[3] << 12
 
-    def ranged(self, index):
+    def ranged(self, index: tuple[str, Any] | None) -> Parts:
         """Of 3rc: with no registers the first may be anything."""
         count = self.rng.choice((0, self.rng.randrange(min(self.registers, 255) + 1)))
         return count, index, self.rng.randrange(self.registers - count + 1) if count else self.number()
 
-    def of(self, form, index, target):
+    def of(self, form: str, index: tuple[str, Any] | None, target: int) -> Parts:
         """The high byte and the units after it."""
-        makers = {
+        makers: dict[str, Callable[[], Parts]] = {
             "10x": lambda: (0,), "12x": lambda: (self.pair(),), "11x": lambda: (self.byte(),),
             "11n": lambda: (self.rng.randrange(16) << 4 | self.low(),),
             "10t": lambda: (("to", target),), "20t": lambda: (0, ("to", target, 1)),
@@ -139,7 +144,8 @@ class Operands:
         return makers[form]()
 
 
-def random_tries(rng, instructions):
+def random_tries(rng: random.Random, instructions: int) -> list[Try]:
+    tries: list[Try]
     tries, at = [], 0
     while at < instructions and len(tries) < 4 and rng.random() < 0.6:
         at += rng.randrange(2)
@@ -153,7 +159,7 @@ def random_tries(rng, instructions):
     return tries
 
 
-def random_code(rng):
+def random_code(rng: random.Random) -> Made:
     registers = rng.choice((1, 2, 3, 5, 16, 17, 255, 256, 257, 65535))
     pools = [WITH_TARGETS if rng.random() < 0.25 else sorted(OPCODES) for _ in range(rng.randrange(1, 14))]
     opcodes = [rng.choice(pool) for pool in pools]
@@ -178,11 +184,11 @@ def random_code(rng):
 # -------------------------------------------------------------------------------------------------------------- classes
 
 
-def with_flags_and_code(rng, name, proto):
+def with_flags_and_code(rng: random.Random, name: str, proto: Proto) -> tuple[str, Proto, int, Made | None]:
     return name, proto, rng.choice((0, 1, 9, 0x10001)), random_code(rng) if rng.random() < 0.85 else None
 
 
-def random_class(rng, name, earlier):
+def random_class(rng: random.Random, name: str, earlier: list[str]) -> Made:
     above = sorted({*earlier, "Ljava/lang/Object;", "Lp/C-d;", "L\u00e9t\u00e9;", "Ljava/lang/Throwable;"})
     fields = [sorted({(rng.choice(WORDS), rng.choice(OF_TYPES)) for _ in range(rng.randrange(5))}) for _ in range(2)]
     methods = [sorted({(rng.choice(WORDS), random_proto(rng)) for _ in range(rng.randrange(4))}) for _ in range(2)]
@@ -195,14 +201,14 @@ def random_class(rng, name, earlier):
             "instances": instances, "directs": directs, "virtuals": virtuals}
 
 
-def random_classes(rng):
+def random_classes(rng: random.Random) -> list[Made]:
     names = [f"Lq/{letter};" for letter in "STUVWX"[: rng.randrange(1, 5)]]
     names += rng.sample(("LA;", "LB;"), rng.randrange(3))
     rng.shuffle(names)
     return [random_class(rng, name, names[:i]) for i, name in enumerate(names)]
 
 
-def random_extra(rng):
+def random_extra(rng: random.Random) -> list[tuple[str, Any]]:
     """Names that nothing uses."""
     kinds = [kind for kind in ("string", "type", "field", "method") for _ in range(rng.randrange(4))]
     return [(kind, random_name(rng, kind)) for kind in kinds]

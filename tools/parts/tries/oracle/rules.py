@@ -1,41 +1,46 @@
 """Which rule of programs is broken (FORMAT "The rules of a program"): the lowest class, and its lowest number."""
+from collections.abc import Callable, Iterable, Sequence
+from typing import Any
+
 from .faults import GOTO_32, is_array_type, is_class_type, is_descriptor, is_member_name
-from .model import Instruction, LITERAL_BITS, MNEMONICS, NEEDED_PAYLOAD, REGISTER_BITS, WITH_NAME
-from .model import form_of, kind_of_name
+from .model import Class, Code, FieldName, Instruction, LITERAL_BITS, MNEMONICS, MethodName, NEEDED_PAYLOAD, Name
+from .model import Payload, Proto, REGISTER_BITS, Value, WITH_NAME, form_of, kind_of_name
 from .pages import Refusal
 
 DEEPEST = 64
 MOST_TARGETS = 65535
+Places = tuple[dict[str, int], dict[str, int]]
 
 # ----------------------------------------------------------------------------------------------------------- 110: names
 
 
-def is_class(text):
+def is_class(text: str) -> bool:
     return is_descriptor(text) and is_class_type(text)
 
 
-def is_right_proto(proto):
+def is_right_proto(proto: Proto) -> bool:
     result, parameters = proto
     return is_descriptor(result) and all(is_descriptor(text) and text != "V" for text in parameters)
 
 
-def is_right_field(field):
+def is_right_field(field: FieldName) -> bool:
     owner, name, text = field
     return is_class(owner) and is_member_name(name) and is_descriptor(text) and text != "V"
 
 
-def is_right_method(method):
+def is_right_method(method: MethodName) -> bool:
     owner, name, proto = method
     is_owner = is_descriptor(owner) and (is_class_type(owner) or is_array_type(owner))
     return is_owner and is_member_name(name) and is_right_proto(proto)
 
 
-def is_right_name(kind, name):
+def is_right_name(kind: str, name: Name) -> bool:
+    checks: dict[str, Callable[[Any], bool]]
     checks = {"type": is_descriptor, "field": is_right_field, "enum": is_right_field, "method": is_right_method}
     return kind not in checks or checks[kind](name)
 
 
-def has_wrong_value_name(values):
+def has_wrong_value_name(values: Iterable[Value]) -> bool:
     rest = list(values)
     while rest:
         kind, held = rest.pop()
@@ -46,7 +51,7 @@ def has_wrong_value_name(values):
     return False
 
 
-def has_wrong_code_name(code):
+def has_wrong_code_name(code: Code) -> bool:
     for each in code.instructions:
         if isinstance(each, Instruction) and form_of(each.opcode) in WITH_NAME:
             if not is_right_name(kind_of_name(each.opcode), each.name):
@@ -54,7 +59,7 @@ def has_wrong_code_name(code):
     return any(not is_descriptor(text) for one in code.tries for text, _ in one.catches)
 
 
-def breaks_name(made):
+def breaks_name(made: Class) -> bool:
     above = made.interfaces + ([] if made.superclass is None else [made.superclass])
     fields = [(made.type, each.name, each.type) for each in made.statics + made.instances]
     methods = [(made.type, each.name, each.proto) for each in made.directs + made.virtuals]
@@ -70,18 +75,20 @@ def breaks_name(made):
 # ------------------------------------------------------------------------------------------------ 111 to 113: the class
 
 
-def rises(keys):
+def rises(keys: Sequence[Any]) -> bool:
     return all(key < following for key, following in zip(keys, keys[1:]))
 
 
-def breaks_member_order(made):
+def breaks_member_order(made: Class) -> bool:
+    fields: list[list[Any]]
     fields = [[(each.name, each.type) for each in members] for members in (made.statics, made.instances)]
     methods = [[(each.name, each.proto) for each in members] for members in (made.directs, made.virtuals)]
     return not all(map(rises, fields + methods))
 
 
-def places_of(classes):
+def places_of(classes: Iterable[Class]) -> Places:
     """The first and the last class of each name."""
+    first: dict[str, int]
     first, last = {}, {}
     for i, made in enumerate(classes):
         first.setdefault(made.type, i)
@@ -89,7 +96,7 @@ def places_of(classes):
     return first, last
 
 
-def breaks_class_order(made, i, places):
+def breaks_class_order(made: Class, i: int, places: Places) -> bool:
     first, last = places
     above = made.interfaces + ([] if made.superclass is None else [made.superclass])
     return (
@@ -99,7 +106,7 @@ def breaks_class_order(made, i, places):
     )
 
 
-def is_too_deep(value):
+def is_too_deep(value: Value) -> bool:
     """Whether a value is more than 64 deep: an array is one deeper than the deepest in it, an empty one 1 deep."""
     level, depth = [value], 0
     while level:
@@ -108,22 +115,22 @@ def is_too_deep(value):
     return depth - 1 > DEEPEST
 
 
-def breaks_values(made):
+def breaks_values(made: Class) -> bool:
     return len(made.values) > len(made.statics) or any(map(is_too_deep, made.values))
 
 
 # ---------------------------------------------------------------------------------------------------- 114: the operands
 
 
-def fits(number, bits):
+def fits(number: int, bits: int) -> bool:
     return 0 <= number < 1 << bits
 
 
-def fits_signed(number, bits):
+def fits_signed(number: int, bits: int) -> bool:
     return -(1 << bits - 1) <= number < 1 << bits - 1
 
 
-def is_right_instruction(each):
+def is_right_instruction(each: Instruction) -> bool:
     if each.opcode not in MNEMONICS:
         return False
     form = form_of(each.opcode)
@@ -137,7 +144,7 @@ def is_right_instruction(each):
     return form not in LITERAL_BITS or fits_signed(each.literal, LITERAL_BITS[form])
 
 
-def is_right_payload(each):
+def is_right_payload(each: Payload) -> bool:
     if each.kind == "array":
         is_width = each.width in (1, 2, 4, 8) and len(each.data) % each.width == 0
         return is_width and fits(len(each.data) // each.width, 32)
@@ -148,7 +155,7 @@ def is_right_payload(each):
     return len(each.keys) == len(each.targets) and rises(each.keys)
 
 
-def breaks_operand(code):
+def breaks_operand(code: Code) -> bool:
     if not 0 < len(code.instructions) <= 0x7FFFFFFF:
         return True
     return not all(
@@ -160,12 +167,12 @@ def breaks_operand(code):
 # ------------------------------------------------------------------------------------ 115 and 116: targets, payload use
 
 
-def is_target(code, k):
+def is_target(code: Code, k: int) -> bool:
     """An instruction that isn't a payload."""
     return 0 <= k < len(code.instructions) and isinstance(code.instructions[k], Instruction)
 
 
-def breaks_target(code):
+def breaks_target(code: Code) -> bool:
     for k, each in enumerate(code.instructions):
         if isinstance(each, Instruction):
             if each.target is None or each.opcode in NEEDED_PAYLOAD:
@@ -177,13 +184,14 @@ def breaks_target(code):
     return False
 
 
-def breaks_payload_use(code):
+def breaks_payload_use(code: Code) -> bool:
     users = [0] * len(code.instructions)
     for each in code.instructions:
         if isinstance(each, Instruction) and each.opcode in NEEDED_PAYLOAD:
             if not 0 <= each.target < len(code.instructions) or is_target(code, each.target):
                 return True
-            if code.instructions[each.target].kind != NEEDED_PAYLOAD[each.opcode]:
+            # (what is no target in its bounds is a payload)
+            if code.instructions[each.target].kind != NEEDED_PAYLOAD[each.opcode]:  # type: ignore[union-attr]
                 return True
             users[each.target] += 1
     return any(
@@ -195,7 +203,7 @@ def breaks_payload_use(code):
 # ---------------------------------------------------------------------------------------- 117 and 118: tries, registers
 
 
-def breaks_try(code):
+def breaks_try(code: Code) -> bool:
     end, length = 0, len(code.instructions)
     for one in code.tries:
         handlers = [k for _, k in one.catches] + ([] if one.other is None else [one.other])
@@ -207,14 +215,14 @@ def breaks_try(code):
     return False
 
 
-def registers_of(each):
+def registers_of(each: Instruction) -> Sequence[int]:
     """The registers that an instruction names (FORMAT "Code items")."""
     if form_of(each.opcode) == "3rc":
         return range(each.registers[0], each.registers[0] + each.count)
     return each.registers
 
 
-def breaks_register(code):
+def breaks_register(code: Code) -> bool:
     if code.ins > code.registers:
         return True
     return any(
@@ -226,7 +234,7 @@ def breaks_register(code):
 # ------------------------------------------------------------------------------------------------------------------ all
 
 
-def fault_of_class(made, i, places):
+def fault_of_class(made: Class, i: int, places: Places) -> str | None:
     codes = made.codes()
     for name, is_broken in (
         ("Name", lambda: breaks_name(made)),
@@ -239,12 +247,12 @@ def fault_of_class(made, i, places):
         ("Try", lambda: any(map(breaks_try, codes))),
         ("Register", lambda: any(map(breaks_register, codes))),
     ):
-        if is_broken():
+        if is_broken():  # type: ignore[no-untyped-call]  # (a lambda)
             return name
     return None
 
 
-def rule_fault(classes):
+def rule_fault(classes: Iterable[Class]) -> Refusal | None:
     """The refusal of a program that breaks a rule; None where it keeps them."""
     places = places_of(classes)
     for i, made in enumerate(classes):

@@ -1,9 +1,11 @@
 """One program in many files, each another than the written one in one way alone: `strip` makes one file of them all."""
 import random
+from typing import Any
 
 from .listing import parse
 from .loose import LooseDraft, made_class
 from .making import CHOICES, Layout
+from .model import Class
 
 # With an odd count of units and tries, handlers of two kinds, a call of fewer than five registers, values that have
 # longer forms, and equal items: two bodies, two arrays, and the parameters of a method that are a class's interfaces.
@@ -56,13 +58,13 @@ UNUSED = [("string", "zz"), ("type", "LZ;"), ("method", ("LA;", "a", ("I", ())))
 class Zeros(random.Random):
     """Of several it chooses the first: what is left of chance where a file shall be odd in one way alone."""
 
-    def choice(self, seq):
+    def choice(self, seq: Any) -> Any:
         return seq[0]
 
 
-def spelled():
+def spelled() -> tuple[list[Class], list[tuple[str, bytes]]]:
     """The program, and its files: in which way each is another, and its bytes."""
-    classes = parse(PROGRAM)
+    classes: Any = parse(PROGRAM)  # (no refusal)
     plain = [made_class(Zeros(), made) for made in classes]
     files = [("nothing shared", LooseDraft(plain, Layout(), ()).file())]
     files.append(("names that nothing uses", LooseDraft(plain, Layout(), UNUSED).file()))

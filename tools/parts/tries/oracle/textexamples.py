@@ -2,63 +2,66 @@
 its table, name and place, or None. The headings of LISTING are the names of the functions."""
 import itertools
 import os
+from collections.abc import Callable, Iterable, Iterator
 
 from .listing import print_listing
 from .model import Class, Code, Instruction, LITERAL_BITS, MNEMONICS, Method, NEEDED_PAYLOAD, Payload, REGISTER_BITS
 from .model import WITH_NAME, WITH_TARGET, form_of, kind_of_name, units_of
 from .pages import DOCS
 
+Fault = tuple[str, str, int]
+Example = tuple[str, bytes, Fault | None]
 SECOND, FIRST = "dex 035 listing 2", "dex 035"
 CLASS = "class LA; 0x1"
 
 
-def listing_of(*lines):
+def listing_of(*lines: str) -> bytes:
     return "".join(line + "\n" for line in lines).encode("latin1")
 
 
-def in_class(*lines, form=SECOND):
+def in_class(*lines: str, form: str = SECOND) -> bytes:
     """The first of the lines is the third."""
     return listing_of(form, CLASS, *lines, "end class")
 
 
-def in_code(*lines, registers=4, form=SECOND):
+def in_code(*lines: str, registers: int = 4, form: str = SECOND) -> bytes:
     """The first of the lines is the fifth."""
     return in_class("direct m ()V 0x9", f"code {registers} 0 0", *lines, "end code", form=form)
 
 
-def word(place):
+def word(place: int) -> Fault:
     return "listing", "Word", place
 
 
-def order(place):
+def order(place: int) -> Fault:
     return "listing", "Order", place
 
 
-def name(place):
+def name(place: int) -> Fault:
     return "listing", "Name", place
 
 
-def number(place):
+def number(place: int) -> Fault:
     return "listing", "Number", place
 
 
-def twice(place):
+def twice(place: int) -> Fault:
     return "listing", "Twice", place
 
 
-def target(place):
+def target(place: int) -> Fault:
     return "listing", "Target", place
 
 
-def not_ended(place):
+def not_ended(place: int) -> Fault:
     return "listing", "NotEnded", place
 
 
-def rule(fault, place=0):
+def rule(fault: str, place: int = 0) -> Fault:
     return "rules", fault, place
 
 
-def of_the_page():
+def of_the_page() -> Iterator[Example]:
     """The listings that stand in LISTING itself."""
     with open(os.path.join(DOCS, "LISTING.md"), encoding="utf8") as page:
         blocks = page.read().split("```")[1::2]
@@ -66,7 +69,7 @@ def of_the_page():
         yield f"listing {i}", block[1:].encode("ascii"), None
 
 
-def lines_and_words():
+def lines_and_words() -> Iterator[Example]:
     yield "nothing", b"", not_ended(0)
     yield "an empty line", b"\n", not_ended(1)
     yield "a comment alone, and empty lines", b"# a\n\n\n", not_ended(3)
@@ -99,7 +102,7 @@ def lines_and_words():
     yield "a quote within a word", in_class('static a"b I 0'), name(3)
 
 
-def what_a_word_can_be():
+def what_a_word_can_be() -> Iterator[Example]:
     for what, text, answer in (
         ("the greatest flags", "4294967295", None), ("flags above", "4294967296", number(3)),
         ("leading zeros", "0x00000000000000000001", None), ("flags below 0", "-1", number(3)),
@@ -152,7 +155,7 @@ def what_a_word_can_be():
     yield "a label with more words", in_code(":a nop"), word(5)
 
 
-def the_lines():
+def the_lines() -> Iterator[Example]:
     yield "no classes", listing_of(SECOND), None
     yield "an unknown form", listing_of("dex 035 listing 3"), word(1)
     yield "an unknown version", listing_of("dex 036"), word(1)
@@ -225,7 +228,7 @@ def the_lines():
         ":a", "sparse-switch v0 :s", "nop", ":s", "sparse-switch-payload 1 :a 1 :a"), rule("Operand")
 
 
-def operands_of(opcode):
+def operands_of(opcode: int) -> Instruction:
     """Operands that the format takes, near the edges of its fields where it has some."""
     form = form_of(opcode)
     made = Instruction(opcode, tuple((1 << min(bits, 15)) - 1 for bits in REGISTER_BITS.get(form, (4, 3, 2, 1, 4))))
@@ -240,11 +243,11 @@ def operands_of(opcode):
     return made
 
 
-def instructions():
+def instructions() -> Iterator[Example]:
     """Each of the 218 opcodes in a code of its own, which has what it leads to."""
     for opcode, mnemonic in MNEMONICS.items():
         each, nop = operands_of(opcode), Instruction(0x00)
-        made = [each, nop, nop]
+        made: list[Instruction | Payload] = [each, nop, nop]
         if opcode in NEEDED_PAYLOAD:
             made += [nop] * (sum(map(units_of, made)) % 2)
             each.target = len(made)
@@ -259,7 +262,7 @@ def instructions():
         yield mnemonic, print_listing([Class("LA;", 1, virtuals=[Method("m", ("V", ()), 1, code)])]), None
 
 
-def labels():
+def labels() -> Iterator[Example]:
     codes = [line for method in "mn" for line in (f"direct {method} ()V 0", "code 1 0 0", ":a", "goto/32 :a",
         "end code")]
     yield "the same label in two codes", in_class(*codes), None
@@ -274,7 +277,7 @@ def labels():
     yield "a target in a text that breaks a rule", in_code("move v4 v0", "goto :a"), target(6)
 
 
-def values():
+def values() -> Iterator[Example]:
     for what, text, answer in (
         ("byte", "byte -128", None), ("a byte above", "byte 128", number(3)), ("short", "short -0x8000", None),
         ("char", "char 65535", None), ("a char below 0", "char -1", number(3)), ("int", "int -2147483648", None),
@@ -300,7 +303,7 @@ def values():
     yield "zeros of all types", in_class("static z I 0 = int 1", *statics, "static zz I 0"), None
 
 
-def faults():
+def faults() -> Iterator[Example]:
     yield "100 before 103", listing_of(SECOND, "super"), word(2)
     yield "103 before 101", listing_of(SECOND, "super ?"), order(2)
     yield "101 before 102", in_class("static ? I ?"), name(3)
@@ -318,8 +321,8 @@ def faults():
     yield "a code that doesn't end", listing_of(SECOND, CLASS, "direct m ()V 0", "code 0 0 0", ""), not_ended(5)
 
 
-def the_first_form():
-    first = lambda *lines: in_code(*lines, form=FIRST)
+def the_first_form() -> Iterator[Example]:
+    first: Callable[..., bytes] = lambda *lines: in_code(*lines, form=FIRST)
     yield "numbers and targets", first("0: goto @2", "1: return-void", "0x2: goto @0x1", "try @00 @3",
         "catchall @1"), None
     yield "a number that isn't the next", first("1: nop"), order(5)
@@ -339,7 +342,7 @@ def the_first_form():
     yield "a target of the first form in the second", in_code("goto @0"), name(5)
 
 
-def rules_of_programs():
+def rules_of_programs() -> Iterator[Example]:
     yield "a class that is no class", listing_of(SECOND, "class I 0", "end class"), rule("Name")
     yield "a superclass that is no class", in_class("super [LB;"), rule("Name")
     yield "the second class", listing_of(SECOND, CLASS, "end class", "class LB; 0", "super I",
@@ -377,7 +380,7 @@ def rules_of_programs():
     yield "a range that runs over", in_code("invoke-static/range v3 2 LB;->a()V"), rule("Register")
 
 
-def aligned():
+def aligned() -> Iterator[Example]:
     """With --align: targets and tries keep the instructions that they name."""
     yield "a payload at an odd address", in_code("fill-array-data v0 :p", ":p", "array-payload 1 00"), None
     yield "a try up to a payload", in_code(":a", "nop", ":p", "array-payload 1", ":b", "try :a :p", "catchall :p",
@@ -393,15 +396,15 @@ def aligned():
 LONG = 65536
 
 
-def many_values(kind, names, *lines):
+def many_values(kind: str, names: Iterable[str], *lines: str) -> bytes:
     return in_class(f"static a I 0 = array {{ {' '.join(f'{kind} {name}' for name in names)} }}", *lines)
 
 
-def code_lines(*lines):
+def code_lines(*lines: str) -> tuple[str, ...]:
     return "direct m ()V 0", "code 1 0 0", *lines, "end code"
 
 
-def limits():
+def limits() -> Iterator[Example]:
     """Each limit, and what is just within it. The class LA; needs types too: LA;, and I of the static field."""
     types = [f"L{i};" for i in range(LONG - 3)]
     yield "65535 types", many_values("type", types), None
@@ -426,7 +429,7 @@ def limits():
         "written", "MethodOutOfReach", 0)
 
 
-def reaches():
+def reaches() -> Iterator[Example]:
     far = "written", "BranchOutOfReach", 0
     for what, branch, reach in (("goto", "goto :a", 127), ("goto/16", "goto/16 :a", 32767), ("if", "if-eqz v0 :a",
         32767)):
@@ -444,7 +447,7 @@ def reaches():
             "written", "BranchOutOfReach", 1)
 
 
-def tries():
+def tries() -> Iterator[Example]:
     tail = [":c", "try :a :c", "catchall :a"]
     wide = [":a", *["const-wide v0 0"] * 13106]  # 65530 units
     yield "a last instruction at 65534", in_code(*wide, *["nop"] * 4, "const-wide v0 0", *tail), None
@@ -466,7 +469,7 @@ SMALL = (of_the_page, lines_and_words, what_a_word_can_be, the_lines, instructio
 LARGE = (limits, tries)
 
 
-def text_examples(has_large):
+def text_examples(has_large: bool) -> Iterator[tuple[str, bytes, bool, Fault | None]]:
     """Those of some limits are large, and take a minute."""
     for group in SMALL + LARGE * has_large:
         for what, text, answer in group():

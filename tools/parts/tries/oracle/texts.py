@@ -1,10 +1,12 @@
 """Listings at random: of invented programs, spelled in all the ways that LISTING allows, and changed so that most have
 a fault, near the edges of the rules."""
+import random
 import re
+from collections.abc import Iterable, Iterator
 
 from .inventing import Inventor, invented
-from .listing import NOT_WRITTEN, Printer, needed_labels, zero_of
-from .model import MNEMONICS, OPCODE_OF, form_of
+from .listing import Bytes, NOT_WRITTEN, Printer, needed_labels, zero_of
+from .model import Class, Code, MNEMONICS, Method, OPCODE_OF, form_of
 
 LABEL_UNITS = "ABLZabz019_"
 
@@ -12,48 +14,48 @@ LABEL_UNITS = "ABLZabz019_"
 class LoosePrinter(Printer):
     """Spells each thing in one of the ways that the page allows; `loose` is how often it isn't as `print` has it."""
 
-    def __init__(self, rng, form, loose):
+    def __init__(self, rng: random.Random, form: int, loose: float) -> None:
         super().__init__(form)
         self.rng, self.loose = rng, loose
 
-    def chance(self, share=1.0):
+    def chance(self, share: float = 1.0) -> bool:
         return self.rng.random() < self.loose * share
 
-    def any_case(self, digits):
+    def any_case(self, digits: str) -> str:
         if not self.chance():
             return digits
         return "".join(self.rng.choice((digit.lower(), digit.upper())) for digit in digits)
 
-    def number(self, number, is_signed):
+    def number(self, number: int, is_signed: bool) -> str:
         sign = "-" if number < 0 or number == 0 and is_signed and self.chance(0.2) else ""
         zeros = "0" * self.rng.choice((1, 2, 30)) if self.chance(0.2) else ""
         if self.chance(0.5):
             return sign + "0x" + zeros + self.any_case(f"{abs(number):x}")
         return sign + zeros + str(abs(number))
 
-    def flags(self, flags):
+    def flags(self, flags: int) -> str:
         return self.number(flags, False) if self.chance() else super().flags(flags)
 
-    def register(self, register):
+    def register(self, register: int) -> str:
         return "v" + self.number(register, False)
 
-    def bits(self, bits, digits):
+    def bits(self, bits: int, digits: int) -> str:
         return self.any_case(super().bits(bits, digits))
 
-    def bytes(self, data):
+    def bytes(self, data: bytes) -> str:
         return self.any_case(data.hex())
 
-    def escape(self, unit):
+    def escape(self, unit: str) -> str:
         return "\\u" + self.any_case(f"{ord(unit):04x}")
 
-    def name(self, units):
+    def name(self, units: str) -> str:
         if not self.chance(0.2):
             return NOT_WRITTEN.sub(lambda found: self.escape(found[0]), units)
         share = self.rng.choice((0.05, 0.3, 1))
         return "".join(self.escape(unit) if not " " <= unit <= "~" or self.rng.random() < share else unit
                        for unit in units)
 
-    def text(self, units):
+    def text(self, units: str) -> str:
         share = self.rng.choice((0.05, 0.3, 1)) if self.chance(0.2) else 0
         said = ""
         for unit in units:
@@ -63,23 +65,24 @@ class LoosePrinter(Printer):
                 said += "\\" + unit if unit in '"\\' else unit
         return f'"{said}"'
 
-    def target(self, k):
+    def target(self, k: int) -> str:
         if self.form == 1:
             return "@" + self.number(k, False)
         return self.rng.choice(self.labels_of[k])
 
-    def instruction_number(self, k):
+    def instruction_number(self, k: int) -> str:
         return self.number(k, False) + ":"
 
-    def begin_code(self, code):
+    def begin_code(self, code: Code) -> None:
         """Labels for each place that needs one, for some more than one, and some that nothing uses."""
+        taken: set[str]
         needed, taken = needed_labels(code), set()
-        self.labels_of = {}
+        self.labels_of: dict[int, list[str]] = {}
         for k in range(len(code.instructions) + 1):
             count = (k in needed) + (self.rng.choice((1, 2)) if self.chance(0.1) else 0)
             self.labels_of[k] = [self.new_label(k, taken) for _ in range(count)]
 
-    def new_label(self, k, taken):
+    def new_label(self, k: int, taken: set[str]) -> str:
         label = f":L{k}"
         while label in taken or self.chance(0.5):
             length = self.rng.choice((1, 2, 3, 31, 32))
@@ -89,10 +92,10 @@ class LoosePrinter(Printer):
         taken.add(label)
         return label
 
-    def labels(self, k):
+    def labels(self, k: int) -> list[str]:
         return self.labels_of[k]
 
-    def head_lines(self, made):
+    def head_lines(self, made: Class) -> list[list[str]]:
         """Superclass and source file stand anywhere among the interfaces."""
         lines = list(super().head_lines(made))
         for line in list(lines):
@@ -101,33 +104,33 @@ class LoosePrinter(Printer):
                 lines.insert(self.rng.randrange(len(lines) + 1), line)
         return lines
 
-    def is_value_written(self, made, i):
+    def is_value_written(self, made: Class, i: int) -> bool:
         if i + 1 < len(made.values) and made.values[i] == zero_of(made.statics[i].type):
             return not self.chance(0.7)
         return super().is_value_written(made, i)
 
-    def member_blocks(self, made):
+    def member_blocks(self, made: Class) -> list[list[list[str]]]:
         blocks = list(super().member_blocks(made))
         if self.chance():
             self.rng.shuffle(blocks)
         return blocks
 
-    def spaces(self, least):
+    def spaces(self, least: int) -> str:
         return " " * (least + (self.rng.choice((1, 1, 2, 9)) if self.chance(0.2) else 0))
 
-    def spaced(self, words):
+    def spaced(self, words: list[str]) -> Bytes:
         text = self.spaces(0) + words[0]
         for word in words[1:]:
             text += self.spaces(1) + word
         return (text + self.spaces(0)).encode("ascii")
 
-    def says_nothing(self):
+    def says_nothing(self) -> Iterator[Bytes]:
         """Lines that say nothing, most times none."""
         while self.chance(0.1):
             comment = bytes(self.rng.choice(b"ab \t\r\"\\\xff\x00") for _ in range(self.rng.randrange(9)))
             yield self.spaces(0).encode() + (b"#" + comment if self.chance(0.5) else b"")
 
-    def listing(self, classes):
+    def listing(self, classes: Iterable[Class]) -> Bytes:
         lines = []
         for words in self.lines(classes):
             lines += [*self.says_nothing(), self.spaced(words)]
@@ -136,7 +139,7 @@ class LoosePrinter(Printer):
         return b"\n".join(lines) + end
 
 
-def loosely_printed(rng, classes):
+def loosely_printed(rng: random.Random, classes: Iterable[Class]) -> bytes:
     return LoosePrinter(rng, rng.choice((1, 2)), rng.choice((0, 0.2, 0.5, 1))).listing(classes)
 
 
@@ -302,12 +305,12 @@ LINES = [line.strip() for line in r"""
 # -------------------------------------------------------------------------------------------------------------- changes
 
 
-def any_word(rng, words):
+def any_word(rng: random.Random, words: list[str]) -> str:
     """A word of the text, or one of a list of awkward ones."""
     return rng.choice(words) if words and rng.random() < 0.4 else rng.choice(rng.choice(GROUPS))
 
 
-def group_of(word):
+def group_of(word: str) -> list[str]:
     """Words of the same kind as this one, as far as it can be seen."""
     patterns = (("v[0-9]", REGISTERS), ("[:@]", TARGETS), ("-?[0-9]", NUMBERS), ('"', TEXTS), (r"\(", PROTOS),
                 (r".*->.*\(", METHODS), (".*->", FIELDS), (r"[L\[]|.$", TYPES))
@@ -319,7 +322,7 @@ def group_of(word):
     return KEYWORDS if word in KEYWORDS else NAMES
 
 
-def beside(rng, word):
+def beside(rng: random.Random, word: str) -> str:
     """The word with its last number changed by a little, or with something cut off or added."""
     found = re.search(r"\d+(?=\D*$)", word)
     if found and rng.random() < 0.6:
@@ -330,7 +333,7 @@ def beside(rng, word):
     return rng.choice((word[:at], word[at:], word + word[:at], "-" + word, other_case, f'"{word}"'))
 
 
-def change_word(rng, lines):
+def change_word(rng: random.Random, lines: list[bytes]) -> None:
     at = rng.randrange(len(lines))
     words = lines[at].decode("latin1").split(" ")
     others = [word for line in rng.sample(lines, min(4, len(lines))) for word in line.decode("latin1").split(" ")]
@@ -351,7 +354,7 @@ def change_word(rng, lines):
     lines[at] = " ".join(words).encode("latin1")
 
 
-def change_line(rng, lines):
+def change_line(rng: random.Random, lines: list[bytes]) -> None:
     at, other, way = rng.randrange(len(lines)), rng.randrange(len(lines)), rng.randrange(10)
     if way <= 3:
         lines.insert(at, rng.choice(LINES).encode())
@@ -374,7 +377,7 @@ def change_line(rng, lines):
 AWKWARD = b" \"\\#:@={}()[];<>->/.,vxXLVI0123456789aAfFgu_\t\r\x00\x7f"
 
 
-def change_character(rng, lines):
+def change_character(rng: random.Random, lines: list[bytes]) -> None:
     at = rng.randrange(len(lines))
     line, way = lines[at], rng.randrange(4)
     place = rng.randrange(len(line) + 1)
@@ -389,7 +392,7 @@ def change_character(rng, lines):
         lines[at] = line[:place] + made + line[place + 1 :]
 
 
-def change_bytes(rng, lines):
+def change_bytes(rng: random.Random, lines: list[bytes]) -> None:
     data = bytearray(b"\n".join(lines))
     for _ in range(rng.choice((1, 1, 2, 5))):
         at = rng.randrange(len(data) + 1)
@@ -406,14 +409,14 @@ def change_bytes(rng, lines):
     lines[:] = bytes(data).split(b"\n")
 
 
-def change_form(rng, lines):
+def change_form(rng: random.Random, lines: list[bytes]) -> None:
     lines[0] = rng.choice((b"dex 035", b"dex 035 listing 2", b"dex 035 listing", b"dex 035 listing 1", b"dex", b"#"))
 
 
 CHANGES = change_word, change_line, change_character, change_bytes, change_form
 
 
-def changed(rng, text):
+def changed(rng: random.Random, text: bytes) -> bytes:
     """The text with one to three changes."""
     lines = text.split(b"\n")
     for _ in range(rng.choice((1, 1, 1, 1, 2, 3))):
@@ -423,7 +426,7 @@ def changed(rng, text):
     return b"\n".join(lines)
 
 
-def random_lines(rng):
+def random_lines(rng: random.Random) -> bytes:
     """A text of lines that nobody put in order, but for their beginning."""
     lines = [b"dex 035" if rng.random() < 0.5 else b"dex 035 listing 2", b"class LA; 1"]
     if rng.random() < 0.7:
@@ -437,17 +440,17 @@ def random_lines(rng):
 class SmallInventor(Inventor):
     """Short codes and few members, so that a change meets something that matters."""
 
-    def code(self):
+    def code(self) -> Code:
         code = super().code()
         return code if len(code.instructions) <= 12 else self.code()
 
-    def methods(self, shared):
+    def methods(self, shared: list[Code]) -> list[Method]:
         return super().methods(shared)[:2]
 
 
-def random_texts(rng):
+def random_texts(rng: random.Random) -> Iterator[tuple[bytes, bool]]:
     """Texts without end, each with whether it's assembled with --align: of programs, in any spelling, most changed."""
-    pool = []
+    pool: list[bytes] = []
     while True:
         way = rng.random()
         if way < 0.05:

@@ -7,19 +7,22 @@ import copy
 import hashlib
 import struct
 import zlib
+from collections.abc import Iterable, Iterator, Sequence
+from typing import Any
 
 from .faults import ARRAY_OF_VALUES, CLASS_DATA, CODE, MAP, NONE, STRING_DATA, TYPE_LIST, is_array_type, is_class_type
-from .model import Instruction, Payload, REGISTER_BITS, WITH_NAME, WITH_TARGET, addresses_of, form_of, kind_of_name
-from .model import units_of
+from .model import Class, Code, Field, Instruction, Method, Name, Payload, Proto, REGISTER_BITS, Try, Value, WITH_NAME
+from .model import WITH_TARGET, addresses_of, form_of, kind_of_name, units_of
 from .pages import Refusal
 from .rules import fits_signed
 
 MOST_ROWS = 65535
+Rank = dict[str, dict[Any, int]]  # of each kind of name that of each
 
 # ------------------------------------------------------------------------------------------ Names: what a program needs
 
 
-def shorty(proto):
+def shorty(proto: Proto) -> str:
     result, parameters = proto
     return "".join("L" if is_class_type(text) or is_array_type(text) else text for text in (result, *parameters))
 
@@ -27,13 +30,13 @@ def shorty(proto):
 class Needs:
     """The names that a program needs, and the rank of each: a kind of name is string, type, proto, field or method."""
 
-    def __init__(self, classes):
-        self.names = {kind: set() for kind in ("string", "type", "proto", "field", "method")}
+    def __init__(self, classes: Iterable[Class]) -> None:
+        self.names: dict[str, set[Any]] = {kind: set() for kind in ("string", "type", "proto", "field", "method")}
         for made in classes:
             self.mention_class(made)
         self.rank = {kind: {name: i for i, name in enumerate(sorted(names))} for kind, names in self.names.items()}
 
-    def mention(self, kind, name):
+    def mention(self, kind: str, name: Name) -> None:
         """The name and its parts."""
         if name in self.names[kind]:
             return
@@ -51,11 +54,12 @@ class Needs:
             self.mention_types(name[0])
             self.mention("proto", name[2])
 
-    def mention_types(self, *types):
+    def mention_types(self, *types: str) -> None:
         for text in types:
             self.mention("type", text)
 
-    def mention_class(self, made):
+    def mention_class(self, made: Class) -> None:
+        each: Field | Method
         self.mention_types(made.type, *made.interfaces, *([] if made.superclass is None else [made.superclass]))
         if made.source is not None:
             self.mention("string", made.source)
@@ -68,7 +72,7 @@ class Needs:
         for code in made.codes():
             self.mention_code(code)
 
-    def mention_value(self, value):
+    def mention_value(self, value: Value) -> None:
         kind, held = value
         if kind == "array":
             for each in held:
@@ -76,7 +80,7 @@ class Needs:
         elif kind in ("string", "type", "field", "method", "enum"):
             self.mention("field" if kind == "enum" else kind, held)
 
-    def mention_code(self, code):
+    def mention_code(self, code: Code) -> None:
         for each in code.instructions:
             if isinstance(each, Instruction) and each.name is not None:
                 self.mention(kind_of_name(each.opcode), each.name)
@@ -87,7 +91,7 @@ class Needs:
 # -------------------------------------------------------------------------------------------------- Numbers and strings
 
 
-def uleb128(number):
+def uleb128(number: int) -> bytes:
     out = bytearray()
     while number > 0x7F:
         out.append(number & 0x7F | 0x80)
@@ -95,7 +99,7 @@ def uleb128(number):
     return bytes(out) + bytes([number])
 
 
-def sleb128(number):
+def sleb128(number: int) -> bytes:
     out = bytearray()
     while not -0x40 <= number <= 0x3F:
         out.append(number & 0x7F | 0x80)
@@ -103,7 +107,7 @@ def sleb128(number):
     return bytes(out) + bytes([number & 0x7F])
 
 
-def string_item(text):
+def string_item(text: str) -> bytes:
     """A string_data_item. In Python's surrogatepass a unit is what MUTF-8 has for it, but for the unit 0."""
     units = b"".join(b"\xc0\x80" if unit == "\0" else unit.encode("utf8", "surrogatepass") for unit in text)
     return uleb128(len(text)) + units + b"\0"
@@ -117,8 +121,9 @@ SIGNED = ("byte", "short", "int", "long")
 FLOATING = {"float": 4, "double": 8}
 
 
-def value_item(rank, value):
+def value_item(rank: Rank, value: Value) -> bytes:
     """An encoded_value in its shortest form."""
+    data: bytes
     kind, held = value
     if kind == "array":
         return b"\x1c" + values_item(rank, held)
@@ -134,7 +139,7 @@ def value_item(rank, value):
     return bytes([HEADS[kind] | len(data) - 1 << 5]) + data
 
 
-def values_item(rank, values):
+def values_item(rank: Rank, values: list[Value]) -> bytes:
     """An encoded_array."""
     return uleb128(len(values)) + b"".join(value_item(rank, value) for value in values)
 
@@ -144,7 +149,7 @@ def values_item(rank, values):
 OFFSET_BITS = {"10t": 8, "20t": 16, "21t": 16, "22t": 16, "30t": 32, "31t": 32}
 
 
-def fields_of(rank, each, offset):
+def fields_of(rank: Rank, each: Instruction, offset: int) -> Sequence[tuple[Any, int]]:
     """The parts of an instruction after its opcode, from the low bits on: (number, bits)."""
     form, registers = form_of(each.opcode), each.registers
     index = rank[kind_of_name(each.opcode)][each.name] if form in WITH_NAME else None
@@ -166,7 +171,7 @@ def fields_of(rank, each, offset):
     return parts
 
 
-def instruction_item(rank, each, offset):
+def instruction_item(rank: Rank, each: Instruction, offset: int) -> bytes:
     number, width = each.opcode, 8
     for part, bits in fields_of(rank, each, offset):
         number |= (part & (1 << bits) - 1) << width
@@ -174,7 +179,7 @@ def instruction_item(rank, each, offset):
     return number.to_bytes(width // 8, "little")
 
 
-def payload_item(each, offsets):
+def payload_item(each: Payload, offsets: list[int]) -> bytes:
     if each.kind == "array":
         head = struct.pack("<HHI", 0x0300, each.width, len(each.data) // each.width)
         return head + each.data + bytes(len(each.data) % 2)
@@ -182,7 +187,7 @@ def payload_item(each, offsets):
     return head + struct.pack(f"<{len(each.keys)}i{len(offsets)}i", *each.keys, *offsets)
 
 
-def bases_of(code, addresses):
+def bases_of(code: Code, addresses: list[int]) -> dict[int, int]:
     """From where the targets of each payload of a switch count: its switch."""
     return {each.target: addresses[k] for k, each in enumerate(code.instructions)
             if isinstance(each, Instruction) and form_of(each.opcode) == "31t"}
@@ -191,7 +196,7 @@ def bases_of(code, addresses):
 # ----------------------------------------------------------------------------------------------------------- Code items
 
 
-def handler_item(rank, one, addresses):
+def handler_item(rank: Rank, one: Try, addresses: list[int]) -> bytes:
     """An encoded_catch_handler."""
     count = len(one.catches)
     out = sleb128(count if one.other is None else -count)
@@ -200,7 +205,7 @@ def handler_item(rank, one, addresses):
     return out if one.other is None else out + uleb128(addresses[one.other])
 
 
-def handlers_of(rank, code, addresses):
+def handlers_of(rank: Rank, code: Code, addresses: list[int]) -> tuple[bytes, list[int]]:
     """The list of handlers, and where each try's begins."""
     items = [handler_item(rank, one, addresses) for one in code.tries]
     distinct = list(dict.fromkeys(items))
@@ -211,7 +216,7 @@ def handlers_of(rank, code, addresses):
     return listed, [begins[item] for item in items]
 
 
-def code_item(rank, code):
+def code_item(rank: Rank, code: Code) -> bytes:
     addresses = addresses_of(code.instructions)
     bases = bases_of(code, addresses)
     out = struct.pack("<4H2I", code.registers, code.ins, code.outs, len(code.tries), 0, addresses[-1])
@@ -233,9 +238,10 @@ def code_item(rank, code):
 # ----------------------------------------------------------------------------------------------------------- Class data
 
 
-def class_data_item(rank, made, code_offs):
+def class_data_item(rank: Rank, made: Class, code_offs: Iterable[int]) -> bytes:
     """A class_data_item; `code_offs` has the offset of each code of the class, in their order."""
     code_offs = iter(code_offs)
+    groups: Any  # lists of fields, then of methods
     groups = made.statics, made.instances, made.directs, made.virtuals
     out = b"".join(uleb128(len(members)) for members in groups)
     for members in groups[:2]:
@@ -257,7 +263,7 @@ def class_data_item(rank, made, code_offs):
 # --------------------------------------------------------------------------------------------- The written file: faults
 
 
-def has_far_name(rank, codes, kind):
+def has_far_name(rank: Rank, codes: list[Code], kind: str) -> bool:
     """Whether an instruction has 16 bits for an index of this kind that doesn't fit them."""
     return any(
         isinstance(each, Instruction) and form_of(each.opcode) in WITH_NAME and form_of(each.opcode) != "31c"
@@ -266,7 +272,7 @@ def has_far_name(rank, codes, kind):
     )
 
 
-def has_far_branch(codes):
+def has_far_branch(codes: list[Code]) -> bool:
     for code in codes:
         addresses = addresses_of(code.instructions)
         for k, each in enumerate(code.instructions):
@@ -276,14 +282,14 @@ def has_far_branch(codes):
     return False
 
 
-def is_misaligned(codes):
+def is_misaligned(codes: list[Code]) -> bool:
     return any(
         isinstance(each, Payload) and address % 2 == 1
         for code in codes for each, address in zip(code.instructions, addresses_of(code.instructions))
     )
 
 
-def has_long_try(codes):
+def has_long_try(codes: list[Code]) -> bool:
     for code in codes:
         addresses = addresses_of(code.instructions)
         if any(addresses[one.after - 1] - addresses[one.first] > 65534 for one in code.tries):
@@ -291,14 +297,14 @@ def has_long_try(codes):
     return False
 
 
-def has_far_handler(rank, codes):
+def has_far_handler(rank: Rank, codes: list[Code]) -> bool:
     return any(
         begin > 65535 for code in codes if code.tries
         for begin in handlers_of(rank, code, addresses_of(code.instructions))[1]
     )
 
 
-def limit_fault(classes, needs):
+def limit_fault(classes: list[Class], needs: Needs) -> Refusal | None:
     """The refusal of a program that breaks a limit; None where it fits."""
     rank, types, protos = needs.rank, len(needs.names["type"]), len(needs.names["proto"])
     if types > MOST_ROWS:
@@ -316,7 +322,7 @@ def limit_fault(classes, needs):
         ("HandlerTooFar", lambda codes: has_far_handler(rank, codes)),
     ):
         for i, made in enumerate(classes):
-            if breaks(made.codes()):
+            if breaks(made.codes()):  # type: ignore[no-untyped-call]  # (a lambda)
                 return Refusal("written", name, i)
     return None
 
@@ -327,10 +333,12 @@ def limit_fault(classes, needs):
 class Data:
     """The data section: items one after the other, and of each kind how many there are and where the first stands."""
 
-    def __init__(self, begin):
+    entries: list[list[int]]
+
+    def __init__(self, begin: int) -> None:
         self.begin, self.bytes, self.entries = begin, bytearray(), []
 
-    def put(self, kind, item, alignment):
+    def put(self, kind: int, item: bytes, alignment: int) -> int:
         """Where the item stands."""
         self.bytes += bytes(-(self.begin + len(self.bytes)) % alignment)
         off = self.begin + len(self.bytes)
@@ -341,7 +349,7 @@ class Data:
             self.entries.append([kind, 1, off])
         return off
 
-    def put_once(self, kind, items, alignment):
+    def put_once(self, kind: int, items: list[bytes], alignment: int) -> list[int]:
         """Where each item stands: an empty one nowhere, equal ones at one place."""
         offs = {b"": 0}
         for item in items:
@@ -350,24 +358,25 @@ class Data:
         return [offs[item] for item in items]
 
 
-def type_list_item(rank, types):
+def type_list_item(rank: Rank, types: Sequence[str]) -> bytes:
     return struct.pack(f"<I{len(types)}H", len(types), *(rank["type"][text] for text in types)) if types else b""
 
 
-def table_sizes(needs, classes):
+def table_sizes(needs: Needs, classes: list[Class]) -> list[int]:
     return [len(needs.names[kind]) for kind in ("string", "type", "proto", "field", "method")] + [len(classes)]
 
 
 WIDTHS = (4, 4, 12, 8, 8, 32)
 
 
-def put_data(classes, needs, data):
+def put_data(classes: list[Class], needs: Needs, data: Data) -> tuple[list[int], list[int], list[tuple[int, int, int]]]:
     """Puts all items but the map; answers the offsets of lists of parameters and of strings, and those of classes."""
     rank, protos = needs.rank, sorted(needs.names["proto"])
     lists = [type_list_item(rank, proto[1]) for proto in protos]
     lists += [type_list_item(rank, made.interfaces) for made in classes]
     list_offs = data.put_once(TYPE_LIST, lists, 4)
     codes = [[code_item(rank, code) for code in made.codes()] for made in classes]
+    code_offs: Iterator[int] | list[list[int]]
     code_offs = iter(data.put_once(CODE, [item for items in codes for item in items], 4))
     code_offs = [[next(code_offs) for _ in items] for items in codes]
     string_offs = [data.put(STRING_DATA, string_item(text), 1) for text in sorted(needs.names["string"])]
@@ -380,7 +389,13 @@ def put_data(classes, needs, data):
     return list_offs[: len(protos)], string_offs, list(zip(list_offs[len(protos) :], data_offs, array_offs))
 
 
-def tables_of(classes, needs, list_offs, string_offs, class_offs):
+def tables_of(
+    classes: list[Class],
+    needs: Needs,
+    list_offs: list[int],
+    string_offs: list[int],
+    class_offs: list[tuple[int, int, int]],
+) -> Iterator[bytes]:
     """The bytes of the six tables."""
     rank, names = needs.rank, {kind: sorted(names) for kind, names in needs.names.items()}
     yield b"".join(struct.pack("<I", off) for off in string_offs)
@@ -397,7 +412,7 @@ def tables_of(classes, needs, list_offs, string_offs, class_offs):
         for made, (lists, members, values) in zip(classes, class_offs))
 
 
-def header_and_tables(sizes):
+def header_and_tables(sizes: list[int]) -> tuple[list[int], int]:
     """Where each table stands, 0 where it has no rows, and where they end."""
     offs, at = [], 0x70
     for size, width in zip(sizes, WIDTHS):
@@ -406,18 +421,19 @@ def header_and_tables(sizes):
     return offs, at
 
 
-def closed(data):
+def closed(data: bytes) -> bytes:
     """The file with its signature and its checksum."""
     data = data[:12] + hashlib.sha1(data[32:]).digest() + data[32:]
     return data[:8] + struct.pack("<I", zlib.adler32(data[12:])) + data[12:]
 
 
-def file_of(classes, needs):
+def file_of(classes: list[Class], needs: Needs) -> bytes:
     sizes = table_sizes(needs, classes)
     table_offs, data_off = header_and_tables(sizes)
     data = Data(data_off)
     offs = put_data(classes, needs, data)
     tables = b"".join(tables_of(classes, needs, *offs))
+    entries: Any  # tuples, and the lists of `data`
     entries = [(0, 1, 0)] + [(kind, size, off) for kind, (size, off) in enumerate(zip(sizes, table_offs), 1) if size]
     entries += data.entries
     map_off = data_off + len(data.bytes) + -(data_off + len(data.bytes)) % 4
@@ -431,7 +447,7 @@ def file_of(classes, needs):
     return closed(b"dex\n035\0" + bytes(24) + header + tables + bytes(data.bytes))
 
 
-def write(classes):
+def write(classes: list[Class]) -> bytes | Refusal:
     """The bytes of the file of the program, or the refusal."""
     needs = Needs(classes)
     return limit_fault(classes, needs) or file_of(classes, needs)
@@ -440,8 +456,9 @@ def write(classes):
 # ------------------------------------------------------------------------------------------------------------ `--align`
 
 
-def aligned_code(code):
+def aligned_code(code: Code) -> Code:
     """The code with a nop before each payload that would stand at an odd address."""
+    made: list[Instruction | Payload]
     made, numbers, address = [], [], 0
     for each in code.instructions:
         if isinstance(each, Payload) and address % 2 == 1:
@@ -454,7 +471,7 @@ def aligned_code(code):
     return moved_code(code, made, numbers)
 
 
-def moved_code(code, instructions, numbers):
+def moved_code(code: Code, instructions: list[Instruction | Payload], numbers: list[int]) -> Code:
     """These instructions, and the tries of the code, with the number that each instruction has now."""
     for each in instructions:
         if isinstance(each, Payload):
@@ -469,7 +486,7 @@ def moved_code(code, instructions, numbers):
     return type(code)(code.registers, code.ins, code.outs, instructions, tries)
 
 
-def align(classes):
+def align(classes: list[Class]) -> list[Class]:
     classes = copy.deepcopy(classes)
     for made in classes:
         for method in made.directs + made.virtuals:

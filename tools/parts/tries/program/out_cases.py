@@ -4,22 +4,29 @@ A case is its name, what makes it, the exit status and the line on standard erro
 looked at, and what stands there, in words: `answer` is the whole one, `old` what the file held, `front` a beginning of the
 answer. Cases of another user, and those on a disk of their own, are left out where they can't be set up.
 """
+# (what makes a case may do several things: a tuple of what they answer, which is nothing)
+# mypy: disable-error-code="func-returns-value"
 import os
 import shutil
 import stat
 import subprocess
 import tempfile
+from collections.abc import Callable
+from typing import IO, Any
 
 READ, WRITE = "dexasm: cannot read\n", "dexasm: cannot write\n"
 LIMIT = 120  # seconds for a command
 USER = 1000
+Check = Callable[[str, bool, object], None]
+Make = Callable[["Home"], object]
+Case = tuple[str, Make, int, str, tuple[str, ...], str | None]
 
 
 class CantBeMade(Exception):
     """No such case can be set up here."""
 
 
-def get(path):
+def get(path: str) -> bytes:
     with open(path, "rb") as file:
         return file.read()
 
@@ -27,44 +34,47 @@ def get(path):
 class Home:
     """The folder of one case, with FILE in it."""
 
-    def __init__(self, folder, given, answer):
+    reader: subprocess.Popen[bytes]  # (where OUT is a pipe)
+
+    def __init__(self, folder: str, given: bytes, answer: bytes) -> None:
+        self.mounts: list[str]
         self.path, self.given, self.answer, self.mounts = folder, given, answer, []
         self.put("in.dex", given)
 
-    def at(self, name):
+    def at(self, name: str) -> str:
         return os.path.join(self.path, name)
 
-    def put(self, name, given=b"old", mode=0o644, owner=None):
+    def put(self, name: str, given: bytes = b"old", mode: int = 0o644, owner: int | None = None) -> None:
         with open(self.at(name), "wb") as file:
             file.write(given)
         os.chmod(self.at(name), mode)
         if owner is not None:
             os.chown(self.at(name), owner, owner)
 
-    def folder(self, name, mode=0o755, owner=None):
+    def folder(self, name: str, mode: int = 0o755, owner: int | None = None) -> None:
         os.mkdir(self.at(name))
         os.chmod(self.at(name), mode)
         if owner is not None:
             os.chown(self.at(name), owner, owner)
 
-    def mount(self, place, *words):
+    def mount(self, place: str, *words: str) -> None:
         done = subprocess.run(["mount", *words, self.at(place)], stderr=subprocess.DEVNULL)
         if done.returncode != 0:
             raise CantBeMade()
         self.mounts.append(place)
 
-    def disk(self, options, **files):
+    def disk(self, options: str, **files: bytes) -> None:
         """A disk of its own at `c`."""
         self.folder("c")
         self.mount("c", "-t", "tmpfs", "-o", options, "tmpfs")
         for name, given in files.items():
             self.put(f"c/{name}", given)
 
-    def unmount(self):
+    def unmount(self) -> None:
         while self.mounts:
             subprocess.run(["umount", "-l", self.at(self.mounts.pop())], stderr=subprocess.DEVNULL)
 
-    def show(self, name):
+    def show(self, name: str) -> str:
         """What stands there, in a word."""
         try:
             mode = os.lstat(self.at(name)).st_mode
@@ -78,7 +88,7 @@ class Home:
                 return word
         return "front" if self.answer.startswith(held) else f"{len(held)} bytes"
 
-    def looks(self, *names):
+    def looks(self, *names: str) -> str:
         """What stands at these names, and each part in their folders."""
         folders = {os.path.dirname(name) for name in names}
         found = [os.path.join(folder, name) for folder in sorted(folders) for name in sorted(os.listdir(self.at(folder)))]
@@ -86,41 +96,41 @@ class Home:
         return "; ".join(f"{name[:12]} {self.show(name)}" for name in [*names, *parts])
 
 
-def pipe_with_reader(home):
+def pipe_with_reader(home: Home) -> None:
     os.mkfifo(home.at("out"))
     with open(home.at("got"), "wb") as got:
         home.reader = subprocess.Popen(["cat", home.at("out")], stdout=got)
 
 
-def bind(home, source, place):
+def bind(home: Home, source: str, place: str) -> None:
     home.put(source)
     home.put(place)
     home.mount(place, "--bind", home.at(source))
 
 
-def taken(home, count):
+def taken(home: Home, count: int) -> None:
     home.put("out")
     for number in range(count):
         home.put(f"out.{number}.part")
 
 
-def loop(home):
+def loop(home: Home) -> None:
     os.symlink("b", home.at("out"))
     os.symlink("out", home.at("b"))
 
 
-def chain(home):
+def chain(home: Home) -> None:
     home.folder("d")
     os.symlink("d/b", home.at("out"))
     os.symlink("c", home.at("d/b"))
 
 
-def linked(home, name="out", other="other", given=b"old"):
+def linked(home: Home, name: str = "out", other: str = "other", given: bytes = b"old") -> None:
     home.put(name, given)
     os.link(home.at(name), home.at(other))
 
 
-def leads(home, target, is_there=True, second=None):
+def leads(home: Home, target: str, is_there: bool = True, second: str | None = None) -> None:
     if is_there:
         home.put(target)
     if second:
@@ -128,19 +138,19 @@ def leads(home, target, is_there=True, second=None):
     os.symlink(target, home.at("out"))
 
 
-def room_for_one(home):
+def room_for_one(home: Home) -> None:
     home.disk(f"size={(len(home.answer) + 400000) // 4096 * 4}k")
     linked(home, "c/out", "c/other", b"x" * 300000)
 
 
-def read_only(home):
+def read_only(home: Home) -> None:
     home.disk("size=4m", out=b"old")
     subprocess.run(["mount", "-o", "remount,ro", home.at("c")], check=True)
 
 
 LONG = "o" * 255
 # (name, what makes it, status, line, what is looked at, what stands there; OUT where it isn't `out`)
-CASES = (
+CASES: tuple[Case | tuple[str, Make, int, str, tuple[str, ...], str | None, str], ...] = (
     ("OUT absent", lambda home: None, 0, "", ("out",), "out answer"),
     (
         "OUT with a mode and an owner of its own",
@@ -196,7 +206,7 @@ CASES = (
     ("OUT a named pipe with a reader", pipe_with_reader, 0, "", ("out", "got"), "out device; got answer"),
 )
 # As root, on disks of their own.
-DISKS = (
+DISKS: tuple[Case, ...] = (
     ("a full disk, OUT there", lambda home: home.disk("size=64k", out=b"old"), 3, WRITE, ("c/out",), "c/out old"),
     ("a full disk, OUT absent", lambda home: home.disk("size=64k"), 3, WRITE, ("c/out",), "c/out absent"),
     (
@@ -226,7 +236,7 @@ DISKS = (
     ),
 )
 # As another user.
-OTHERS = (
+OTHERS: tuple[tuple[str, Make, int, str, str], ...] = (
     (
         "its own file in another's folder",
         lambda home: (home.folder("c"), home.put("c/out", owner=USER)),
@@ -256,13 +266,15 @@ OTHERS = (
 )
 
 
-def as_user():
+def as_user() -> None:
     os.setgroups([])
     os.setgid(USER)
     os.setuid(USER)
 
 
-def try_one(check, program, folder, given, answer, case, out="out", **options):
+def try_one(
+    check: Check, program: str, folder: str, given: bytes, answer: bytes, case: Case, out: str = "out", **options: Any
+) -> None:
     """Sets one case up, runs strip, and looks at what it left."""
     name, make, status, line, looked_at, want = case
     home = Home(tempfile.mkdtemp(dir=folder), given, answer)
@@ -270,7 +282,7 @@ def try_one(check, program, folder, given, answer, case, out="out", **options):
     try:
         make(home)
         words = [program, "strip", "in.dex", "--output", out]
-        where = {"cwd": home.path, "stdin": subprocess.DEVNULL, "timeout": LIMIT}
+        where: dict[str, Any] = {"cwd": home.path, "stdin": subprocess.DEVNULL, "timeout": LIMIT}
         done = subprocess.run(words, capture_output=True, **where, **options)
         if hasattr(home, "reader"):
             home.reader.wait(LIMIT)
@@ -286,12 +298,14 @@ def try_one(check, program, folder, given, answer, case, out="out", **options):
         shutil.rmtree(home.path, ignore_errors=True)
 
 
-def try_others(check, program, folder, given, answer):
+def try_others(check: Check, program: str, folder: str, given: bytes, answer: bytes) -> None:
     """What the table has no column for: other words, and OUT that is standard output or FILE."""
     home = Home(tempfile.mkdtemp(dir=folder), given, answer)
 
-    def ends(name, want, *words, stdout=subprocess.PIPE):
-        where = {"cwd": home.path, "stdin": subprocess.DEVNULL, "timeout": LIMIT}
+    def ends(
+        name: str, want: tuple[int, bytes, bytes | bool], *words: str, stdout: int | IO[bytes] = subprocess.PIPE
+    ) -> None:
+        where: dict[str, Any] = {"cwd": home.path, "stdin": subprocess.DEVNULL, "timeout": LIMIT}
         done = subprocess.run([program, *words], stdout=stdout, stderr=subprocess.PIPE, **where)
         seen = (done.returncode, done.stdout or b"", done.returncode == 2 or done.stderr)
         check(name, seen == want, f"{done.returncode} {seen[1][:60]!r} {done.stderr[:200]!r}")
@@ -311,7 +325,7 @@ def try_others(check, program, folder, given, answer):
     shutil.rmtree(home.path, ignore_errors=True)
 
 
-def try_all(check, program, folder, given, answer):
+def try_all(check: Check, program: str, folder: str, given: bytes, answer: bytes) -> None:
     """Each case; `answer` is what strip gives of the file `given`, and has more than 64 KB."""
     for case in CASES:
         try_one(check, program, folder, given, answer, case[:6], *case[6:])

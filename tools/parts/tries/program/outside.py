@@ -1,4 +1,5 @@
 """The built program from outside: words, help, each exit status with its line, files and pipes, big inputs."""
+import argparse
 import os
 import re
 import resource
@@ -11,10 +12,13 @@ import sys
 import tempfile
 import time
 import zipfile
+from collections.abc import Callable, Sequence
+from typing import Any
 
-from ... import TOP
+from ... import TOP, sought
 from ..trying import MEGABYTE, NUMBERED, ODD, check, closed, ended, get, last_line, limited, not_built, without_classes
 from ..trying import ONE_CLASS as LISTING
+from ..trying import Ended
 from . import out_cases, terminal_cases
 
 sys.path.append(os.path.join(TOP, "bench/hostile"))
@@ -52,12 +56,12 @@ ff ff ff ff 00 00 00 00 f1 00 00 00 00 00 00 00
 00 10 00 00 01 00 00 00 fc 00 00 00
 """)
 with open(TEXTS, encoding="ascii") as texts:
-    VERSION = re.search(r'VERSION: &str = "([^"]*)"', texts.read()).group(1)
+    VERSION = sought(r'VERSION: &str = "([^"]*)"', texts.read()).group(1)
 LIMIT = 120  # seconds for a command
 program = folder = ""  # what is tried, and where; main says so
 
 
-def run(*words, given=b"", **options):
+def run(*words: str | bytes, given: bytes = b"", **options: Any) -> Ended:
     """Runs the program; answers status, standard output, standard error."""
     if "stdin" not in options:
         options["input"] = given
@@ -65,19 +69,19 @@ def run(*words, given=b"", **options):
     return ended([program, *words], LIMIT, stderr=subprocess.PIPE, **options)
 
 
-def answers(what, want, *words, **options):
+def answers(what: str, want: bytes, *words: str, **options: Any) -> None:
     """It answers these bytes, status 0, and nothing on standard error."""
     status, out, said = run(*words, **options)
     check(what, (status, out, said) == (0, want, ""), f"{status} {out[:60]!r} {said[:200]!r}")
 
 
-def tells(what, status, line, *words, **options):
+def tells(what: str, status: int, line: str, *words: str, **options: Any) -> None:
     """It ends with this status and this line, and answers nothing."""
     got, out, said = run(*words, **options)
     check(what, (got, out or b"", said) == (status, b"", line), f"{got} {(out or b'')[:60]!r} {said[:200]!r}")
 
 
-def misuses(what, *words):
+def misuses(what: str, *words: str) -> None:
     """Wrong words: status 2, clap's text, which shows where the usage is."""
     status, out, said = run(*words)
     is_so = status == 2 and out == b"" and said.startswith("error: ") and said.endswith("For more information, try '--help'.\n")
@@ -85,17 +89,18 @@ def misuses(what, *words):
     check(what, is_so, f"{status} {out[:60]!r} {said[:200]!r}")
 
 
-def in_folder(*names):
+def in_folder(*names: str) -> str:
     return os.path.join(folder, *names)
 
 
-def put(name, given):
+def put(name: str, given: bytes) -> str:
     with open(in_folder(name), "wb") as file:
         file.write(given)
     return in_folder(name)
 
 
-def try_words():
+def try_words() -> None:
+    words: list[str] | str
     for what, *words in (
         ("no words",),
         ("another command", "disassemble"),
@@ -136,7 +141,7 @@ def try_words():
             check(f"{words}, where standard error is {what}", (done.returncode, done.stdout) == (status, b""), done.returncode)
 
 
-def try_answers():
+def try_answers() -> None:
     empty = without_classes()
     file = run("assemble", given=LISTING.encode())[1]
     path = put("a.dex", file)
@@ -173,7 +178,7 @@ def try_answers():
     check("OUT that is another name of FILE", get(same) == b"dex 035 listing 2\n")
 
 
-def try_refusals():
+def try_refusals() -> None:
     file = run("assemble", given=LISTING.encode())[1]
     changed = file[:-1] + b"\1"
     for what, line, job, given in (
@@ -196,7 +201,7 @@ def try_refusals():
         check(f"{what}: OUT isn't made", not os.path.exists(in_folder("none")))
 
 
-def try_ends():
+def try_ends() -> None:
     empty, path = without_classes(), put("empty.dex", without_classes())
     for job in JOBS:
         tells(f"{job} of no such file", 3, CANNOT_READ, job, in_folder("no-such"))
@@ -223,6 +228,7 @@ def try_ends():
     answers("strip to a named pipe", b"", "strip", "--output", in_folder("pipe"), given=empty)
     check("the pipe has the answer", reader.communicate()[0] == empty)
     slow = subprocess.Popen([program, "check"], stdin=subprocess.PIPE, stdout=subprocess.PIPE)
+    assert slow.stdin is not None  # (a pipe)
     for at in range(0, 140, 35):
         slow.stdin.write(empty[at : at + 35])
         slow.stdin.flush()
@@ -230,14 +236,14 @@ def try_ends():
     check("an input that comes in pieces", slow.communicate()[0] == b"ok\n" and slow.returncode == 0)
 
 
-def try_out():
+def try_out() -> None:
     """OUT is as it was whatever fails, and what it was beside its bytes stays."""
     empty = without_classes()
     home = in_folder("home")
     os.mkdir(home)
     out, link = os.path.join(home, "out.dex"), os.path.join(home, "link")
 
-    def is_alone(*names):
+    def is_alone(*names: str) -> None:
         check(f"nothing is left beside {names}", sorted(os.listdir(home)) == sorted(names), os.listdir(home))
 
     put("home/out.dex", b"kept")
@@ -278,7 +284,11 @@ def try_out():
     is_alone("out.dex")
     # No room: a file may not grow beyond 64 bytes.
     put("home/out.dex", b"kept")
-    limit = lambda: (signal.signal(signal.SIGXFSZ, signal.SIG_IGN), resource.setrlimit(resource.RLIMIT_FSIZE, (64, 64)))
+
+    def limit() -> None:
+        signal.signal(signal.SIGXFSZ, signal.SIG_IGN)
+        resource.setrlimit(resource.RLIMIT_FSIZE, (64, 64))
+
     tells("strip where there is no room", 3, CANNOT_WRITE, "strip", "--output", out, given=empty, preexec_fn=limit)
     check("OUT is as it was where there is no room", get(out) == b"kept")
     is_alone("out.dex")
@@ -287,7 +297,7 @@ def try_out():
         try_closed_doors()
 
 
-def try_out_cases():
+def try_out_cases() -> None:
     """What a command leaves, by what OUT is: the table of out_cases.py, with an answer of half a megabyte."""
     classes = "".join(f"class LA{number}; 0x1\nend class\n" for number in range(10000))
     answer = run("assemble", given=("dex 035 listing 2\n" + classes).encode())[1]
@@ -301,7 +311,7 @@ def try_out_cases():
     out_cases.try_all(check, mine, folder, longer, answer)
 
 
-def try_terminals():
+def try_terminals() -> None:
     """What a terminal is told: the table of terminal_cases.py."""
     empty = without_classes()
     damaged = empty[:8] + bytes(4) + empty[12:]
@@ -309,13 +319,13 @@ def try_terminals():
         check(what, is_so, repr(seen)[:300])
 
 
-def as_nobody():
+def as_nobody() -> None:
     os.setgroups([])
     os.setgid(65534)
     os.setuid(65534)
 
 
-def run_as_nobody(*words, given=b""):
+def run_as_nobody(*words: str, given: bytes = b"") -> Ended:
     """As a user who owns nothing here; by a copy of the program, which that user can reach."""
     mine = in_folder("program")
     if not os.path.exists(mine):
@@ -324,8 +334,8 @@ def run_as_nobody(*words, given=b""):
     return ended([mine, *words], LIMIT, input=given, capture_output=True, preexec_fn=as_nobody)
 
 
-def try_out_as_another(empty, home, out):
-    def strips():
+def try_out_as_another(empty: bytes, home: str, out: str) -> None:
+    def strips() -> tuple[int | str, str]:
         status, _, said = run_as_nobody("strip", "--output", out, given=empty)
         return status, said
 
@@ -349,7 +359,7 @@ def try_out_as_another(empty, home, out):
     os.chmod(home, 0o755)
 
 
-def try_out_in_place(empty, home, out, strips):
+def try_out_in_place(empty: bytes, home: str, out: str, strips: Callable[[], tuple[int | str, str]]) -> None:
     """What can be written and not replaced: another user's file in a sticky folder, a mount point."""
     put("home/out.dex", b"kept")
     os.chmod(out, 0o666)
@@ -366,7 +376,7 @@ def try_out_in_place(empty, home, out, strips):
         try_out_in_full(home, out)
 
 
-def try_out_in_full(home, out):
+def try_out_in_full(home: str, out: str) -> None:
     """A mount point whose disk has no room: the answer isn't lost."""
     disk, part = os.path.join(home, "disk"), out + ".0.part"
     os.mkdir(disk)
@@ -384,7 +394,7 @@ def try_out_in_full(home, out):
     os.rmdir(disk)
 
 
-def try_closed_doors():
+def try_closed_doors() -> None:
     """Files and folders that another user may not read, search or write."""
     home = in_folder("doors")
     os.mkdir(home)
@@ -406,14 +416,14 @@ def try_closed_doors():
     check("a FILE that can't be read: OUT isn't made", said == refused and not os.path.exists(out), said)
 
 
-def shell(command, home, given=None):
+def shell(command: str, home: str, given: bytes | None = None) -> tuple[int | str, str]:
     """What bash prints of this command in that folder, where `dexasm` is the program."""
     env = {**os.environ, "PATH": os.pathsep.join([in_folder("bin"), os.path.join(TOP, "contrib/bin"), os.environ["PATH"]])}
     status, out, _ = ended(["bash", "-c", command], LIMIT, cwd=home, env=env, input=given, stdout=subprocess.PIPE, stderr=subprocess.STDOUT)
     return status, out.decode()
 
 
-def try_readme():
+def try_readme() -> None:
     """README's session and recipes, as they stand there."""
     os.mkdir(in_folder("bin"))
     os.symlink(program, in_folder("bin", "dexasm"))
@@ -421,13 +431,15 @@ def try_readme():
     os.mkdir(home)
     with open(os.path.join(TOP, "README.md"), encoding="utf8") as file:
         text = file.read()
-    session = re.search(r"```console\n(.*?)```", text, re.S).group(1)
+    session = sought(r"```console\n(.*?)```", text, re.S).group(1)
     for step in re.split(r"^\$ ", session, flags=re.M)[1:]:
         command, _, rest = step.partition("\n")
         is_typed = command.startswith("cat >")
         _, said = shell(command, home, rest.encode() if is_typed else None)
         check(f"README: {command}", said == ("" if is_typed else rest), repr(said[:200]))
-    recipes = [line for line in re.search(r"```bash\n(.*?)```", text, re.S).group(1).splitlines() if not line.startswith("#")]
+    recipes = [
+        line for line in sought(r"```bash\n(.*?)```", text, re.S).group(1).splitlines() if not line.startswith("#")
+    ]
     shell("dexasm assemble hello.txt --output a.dex; sed s/41/43/ hello.txt | dexasm assemble --output b.dex; cp a.dex build1.dex", home)
     shell("cp a.dex build2.dex; cp a.dex classes.dex; git init -q . 2>/dev/null", home)
     with zipfile.ZipFile(os.path.join(home, "app.apk"), "w") as apk:
@@ -445,7 +457,7 @@ def try_readme():
     check("README: a constant is changed", "v0 42\n" in shell("dexasm list b.dex", home)[1])
 
 
-def changed(at, given, size=None):
+def changed(at: int, given: bytes, size: int | None = None) -> bytes:
     """The file of LISTING with these bytes at a place, or cut to a size, closed again."""
     file = bytearray(ONE_CLASS)
     file[at : at + len(given)] = given
@@ -455,7 +467,7 @@ def changed(at, given, size=None):
     return closed(bytes(file[32:]))
 
 
-def try_hostile():
+def try_hostile() -> None:
     """Sizes, offsets and counts that lie: each is told, in no more memory than a file takes."""
     ends = (112, 128, 140, 152, 160, 192, 376)
     for first, end, place in zip(ends, ends[1:], (56, 64, 72, 88, 96, 104)):
@@ -488,10 +500,10 @@ def try_hostile():
         tells(f"{rows} types", 1, f"dexasm: refused {line}\n", "check", given=closed(header + bytes(262144)))
 
 
-def of_handlers(order):
+def of_handlers(order: Sequence[int]) -> File:
     """A file with three tries and a handler for each: of 1 catch, of 30,000 and of 5,000, which begin in the list at 1, 4 and 60007."""
 
-    def body(file):
+    def body(file: File) -> bytes:
         caught = uleb(file.type_at["LE;"]) + uleb(0)
         handlers = uleb(3) + b"".join(sleb(n) + caught * n for n in (1, 30000, 5000))
         return code([0] * 4 + [0x0E], tries=b"".join(struct.pack("<IHH", i, 1, at) for i, at in enumerate(order)) + handlers, count=3)
@@ -501,11 +513,11 @@ def of_handlers(order):
     return file_of_body(file, body)
 
 
-def try_limits():
+def try_limits() -> None:
     """The limits that a program can break which a file means: strip tells them, and check doesn't ask."""
     path = in_folder("limit.dex")
 
-    def write(file):
+    def write(file: File) -> None:
         file.index()
         file.write(path)
 
@@ -521,7 +533,7 @@ def try_limits():
     tells("strip of them", 1, "dexasm: refused 90 TooBig at 0\n", "strip", path)
 
 
-def code_off_of(file):
+def code_off_of(file: bytes) -> int | None:
     """The offset of the code of the one method, as its class data at 0xf1 spells it."""
     number = shift = 0
     for byte in file[0xF7:]:
@@ -529,9 +541,10 @@ def code_off_of(file):
         shift += 7
         if byte < 0x80:
             return number
+    return None
 
 
-def try_each_byte():
+def try_each_byte() -> None:
     """Each byte of the file from 0x20 on, made 0, 7f, 80 and ff: a program, or a fault at a place of the file or where a code is said to be."""
     for at in range(0x20, len(ONE_CLASS)):
         for byte in (0, 0x7F, 0x80, 0xFF):
@@ -562,7 +575,7 @@ PAIRS = (
 )
 
 
-def try_pairs():
+def try_pairs() -> None:
     """Of two faults of one row, entry or instruction the first in FORMAT's order is told, by check, list and strip alike."""
     for bytes_there, line in PAIRS:
         file = bytearray(ONE_CLASS)
@@ -572,7 +585,7 @@ def try_pairs():
             tells(f"{job} of {bytes_there}", 1, f"dexasm: refused {line}\n", job, given=closed(bytes(file[32:])))
 
 
-def try_memory():
+def try_memory() -> None:
     """An input of 64 MB where 48 MB can be had."""
     path = put("long", bytes(64 * MEGABYTE))
     for job in JOBS:
@@ -583,7 +596,7 @@ def try_memory():
     os.remove(path)
 
 
-def try_texts():
+def try_texts() -> None:
     """Listings as editors and other tools leave them, and files that are named otherwise."""
     crlf, at_line = LISTING.replace("\n", "\r\n"), LISTING.splitlines()
     for what, line, given in (
@@ -614,7 +627,7 @@ def try_texts():
         tells(f"{job} of an empty FILE", 1, f"dexasm: refused {line}\n", job, nothing)
 
 
-def try_big():
+def try_big() -> None:
     """10 MB in the shape of an app, through each command."""
     path = in_folder("big.dex")
     subprocess.run([sys.executable, "bench/read/make.py", "apps", "1500", path], check=True)
@@ -630,6 +643,7 @@ def try_big():
     check("strip gives what its listing gives", get(again) == get(small))
     answers("a second strip changes nothing", get(small), "strip", small)
     reader = subprocess.Popen([program, "list", path], stdout=subprocess.PIPE, stderr=subprocess.PIPE)
+    assert reader.stdout is not None and reader.stderr is not None  # (pipes)
     begin = reader.stdout.read(1000)
     reader.stdout.close()
     said = reader.stderr.read().decode()
@@ -650,7 +664,7 @@ PARTS = (
 )
 
 
-def main(given):
+def main(given: argparse.Namespace) -> int:
     global program, folder
     program = os.path.abspath(given.program or "dexasm")
     if subprocess.run([program, "--help"], stdout=subprocess.PIPE).returncode != 0:

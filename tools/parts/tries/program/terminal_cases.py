@@ -7,21 +7,24 @@ import pty
 import select
 import subprocess
 import termios
+from collections.abc import Iterator, Sequence
+from typing import Any
 
 LIMIT = 120  # seconds for a command
+Tried = tuple[str, bool, object]
 SENTENCE = "dexasm: a .dex file isn't for a terminal: use --output FILE or a pipe\n"
 
 
 class Terminal:
     """A pseudo terminal, and what is written to it."""
 
-    def __init__(self):
+    def __init__(self) -> None:
         self.ours, self.theirs = pty.openpty()
         modes = termios.tcgetattr(self.theirs)
         modes[1] &= ~termios.OPOST  # a line feed stays one
         termios.tcsetattr(self.theirs, termios.TCSANOW, modes)
 
-    def read(self):
+    def read(self) -> str:
         """What has been written, once the program has ended."""
         os.close(self.theirs)
         parts = []
@@ -37,10 +40,14 @@ class Terminal:
         return b"".join(parts).decode("utf8", "replace")
 
 
-def seen(words, given=b"", terminals=(), at=None):
+def seen(
+    words: Sequence[str], given: bytes = b"", terminals: Sequence[str] = (), at: str | None = None
+) -> tuple[int, bytes, str]:
     """Status, standard output and standard error of these words, where those named in `terminals` are terminals."""
     made = {name: Terminal() for name in terminals}
-    streams = {name: made[name].theirs if name in made else subprocess.PIPE for name in ("stdout", "stderr")}
+    streams: dict[str, Any] = {
+        name: made[name].theirs if name in made else subprocess.PIPE for name in ("stdout", "stderr")
+    }
     running = subprocess.Popen(words, stdin=subprocess.PIPE, cwd=at, **streams)
     try:
         out, said = running.communicate(given, LIMIT)
@@ -53,7 +60,7 @@ def seen(words, given=b"", terminals=(), at=None):
     return running.returncode, texts["stdout"] or b"", (texts["stderr"] or b"").decode("utf8", "replace")
 
 
-def tries(program, folder, empty, refused):
+def tries(program: str, folder: str, empty: bytes, refused: bytes) -> Iterator[Tried]:
     """Each case as its name, whether it is so, and what was seen. `empty` is a file of no classes, `refused` one that breaks rule 8."""
     listing, line = b"dex 035 listing 2\n", "dexasm: refused 8 Checksum at 8\n"
     path = os.path.join(folder, "terminal")
@@ -90,6 +97,7 @@ def tries(program, folder, empty, refused):
         ("-o ./- is a file", ("list", "a.dex", "-o", "./-"), b"", (), (0, b"", "")),
         ("-oOUT", ("list", "a.dex", "-od.txt"), b"", (), (0, b"", "")),
     )
+    want: tuple[int, bytes, str] | bytes
     for what, words, given, terminals, want in cases:
         got = seen([program, *words], given, terminals, path)
         yield what, got == want, got
@@ -101,7 +109,7 @@ def tries(program, folder, empty, refused):
     yield from closed_stream(program, path)
 
 
-def closed_stream(program, path):
+def closed_stream(program: str, path: str) -> Iterator[Tried]:
     """Standard input that is closed, and standard output that is full, with the system's words on a terminal."""
     for what, words, shell, want in (
         ("a closed standard input", ("check",), '"$@" <&-', (3, "dexasm: cannot read\n  Bad file descriptor (os error 9)\n")),
