@@ -9,7 +9,7 @@ import zlib
 
 from dexasm_contrib import DEX, Failed, escaped, reason
 
-TYPE_CHECKING = False
+TYPE_CHECKING = False  # (as in typing)
 if TYPE_CHECKING:
     from typing import IO
 
