@@ -7,7 +7,7 @@ import subprocess
 
 from . import Seen
 
-FOLDERS = ("tools", "contrib", "bindings", "bench")
+FOLDERS = ("tools", "tests", "contrib", "bindings", "bench")
 FLAKES = ("pyflakes3", "pyflakes")
 KNOWN = "tools/parts/out/mypy"  # what mypy has found before, which takes it a minute
 

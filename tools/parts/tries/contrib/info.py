@@ -13,9 +13,9 @@ from collections.abc import Iterable
 from .rooms import ESC, HEAD, LISTING, NAMES, TOP, Ended, assembled, check, dexasm, is_one_line, put, room, shell, tool
 
 sys.path.append(os.path.join(TOP, "contrib/share/dexasm"))
-from ..oracle import examples
-from ..oracle import making
-from ..oracle import mutating
+from tests.oracle import examples
+from tests.oracle import making
+from tests.oracle import mutating
 from dexasm_dump import Dump, dump
 from dexasm_info import Readable, rows_read, sections, tables
 

@@ -9,7 +9,7 @@ from .harm import EVIL, MNEMONICS, WRONG  # (this finds the module below)
 
 import dexasm
 from dexasm import Catch, Field, Insn, Label, Method, Program, Proto, Refused, Try, Type, Value
-from ..oracle.loose import random_files
+from tests.oracle.loose import random_files
 
 
 def try_laws(what: str, data: bytes) -> None:

@@ -12,8 +12,8 @@ from . import harm  # noqa: F401 (this finds the module below)
 
 import dexasm
 from dexasm import faultline, formats
-from ..oracle.model import LITERAL_BITS, MNEMONICS, REGISTER_BITS, WITH_NAME, WITH_TARGET, form_of, kind_of_name
-from ..oracle.texts import random_texts
+from tests.oracle.model import LITERAL_BITS, MNEMONICS, REGISTER_BITS, WITH_NAME, WITH_TARGET, form_of, kind_of_name
+from tests.oracle.texts import random_texts
 
 HEAD, CLASS, CODE = "dex 035 listing 2", "class LA; 0x1", ("direct m ()V 0x9", "code 4 0 0")
 LONG = 65536

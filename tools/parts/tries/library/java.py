@@ -10,7 +10,7 @@ import sys
 from typing import Any, Callable
 
 from ... import TOP, sought
-from ..program import out_cases
+from tests.program import out_cases
 from .java_outs import QUICK, try_java_outs
 from .java_places import try_places
 

@@ -10,7 +10,7 @@ from collections.abc import Iterator
 from typing import TYPE_CHECKING, Any
 
 from .faultlines import BODIES, CLASS, CODE, HEAD, filled, large, marked, refused, surrounded
-from ..oracle.texts import random_texts
+from tests.oracle.texts import random_texts
 
 if TYPE_CHECKING:
     from .java import Java

@@ -23,7 +23,7 @@ import tempfile
 from collections.abc import Iterator
 from typing import Any
 
-from ..trying import Counted, last_line
+from parts.tries.trying import Counted, last_line
 from . import faults
 from .examples import examples
 from .listing import parse, print_listing

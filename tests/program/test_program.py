@@ -15,10 +15,10 @@ import zipfile
 from collections.abc import Callable, Sequence
 from typing import Any
 
-from ... import TOP, sought
-from ..trying import MEGABYTE, NUMBERED, ODD, check, closed, ended, get, last_line, limited, not_built, without_classes
-from ..trying import ONE_CLASS as LISTING
-from ..trying import Ended
+from parts import TOP, sought
+from parts.tries.trying import MEGABYTE, NUMBERED, ODD, check, closed, ended, get, last_line, limited, not_built, without_classes
+from parts.tries.trying import ONE_CLASS as LISTING
+from parts.tries.trying import Ended
 from . import out_cases, terminal_cases
 
 sys.path.append(os.path.join(TOP, "bench/hostile"))

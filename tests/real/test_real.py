@@ -17,7 +17,7 @@ import sys
 import tempfile
 import time
 
-from .trying import ended
+from parts.tries.trying import ended
 
 LIMIT = 600  # seconds for a command
 

@@ -32,8 +32,8 @@ import tempfile
 from collections.abc import Iterator
 from typing import Any, NamedTuple
 
-from .. import sought
-from .trying import can_trace, check, last_line, without_classes
+from parts import sought
+from parts.tries.trying import can_trace, check, last_line, without_classes
 
 LIMIT = 60  # seconds for a run
 ERRORS = ("EIO", "ENOSPC", "EINTR", "EACCES", "EBUSY")

@@ -3,7 +3,7 @@ import dataclasses
 import os
 import re
 
-from ... import TOP
+from .. import TOP
 
 DOCS = os.path.join(TOP, "docs")
 # The tables of faults: what each is called here, its page, and the heading above it.

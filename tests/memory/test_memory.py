@@ -12,7 +12,7 @@ import subprocess
 import sys
 import tempfile
 
-from ..trying import BRANCHES, Counted, NUMBERED, ODD, compiler, fail
+from parts.tries.trying import BRANCHES, Counted, NUMBERED, ODD, compiler, fail
 
 LINE = b"dexasm: out of memory\n"
 LIMIT = 120  # seconds for a command
