@@ -7,19 +7,15 @@ interrupted, at that call, in each setting of OUT: absent, present, with two nam
 alone). Each time OUT is what it was, or the answer, or the whole answer stands beside it; nothing else is touched, and
 after a failure nothing is left. And in a run that is left alone the calls come in the order that keeps OUT: the part is
 new and stands beside OUT, nobody else may open it until it has OUT's mode, it is whole and on the disk before it takes
-OUT's place, and nothing is written in place before that. It needs strace; where that is missing, or may not trace, the
-last line says so, and nothing is tried.
+OUT's place, and nothing is written in place before that. It needs strace; where that is missing, or may not trace,
+nothing is tried.
 
 (The part contrib does so with dexasm-split, dexasm-browse and deliver.py itself, in more settings, and the part library
 with the jar.)
 
 A folder that takes no new file is tried too, as root alone: one that is somebody else's, and one with the attribute i.
-There OUT is written in place, and may be lost, as README says. The last line says in how many runs it was; nothing else
-is.
-
-The last line begins with 'N tried, M failed'.
+There OUT is written in place, and may be lost, as README says. A line says in how many runs it was; nothing else is.
 """
-import argparse
 import collections
 import concurrent.futures
 import os
@@ -32,10 +28,10 @@ import tempfile
 from collections.abc import Iterator
 from typing import Any, NamedTuple
 
-from parts import sought
-from parts.tries.trying import can_trace, check, last_line, without_classes
+from .. import TOP, sought, tried
+from ..base import LIMIT, TestCase, can_trace
+from ..samples import without_classes
 
-LIMIT = 60  # seconds for a run
 ERRORS = ("EIO", "ENOSPC", "EINTR", "EACCES", "EBUSY")
 SIGNALS = ("SIGKILL", "SIGINT")
 # What asks for memory (the part memory has its turn there), and what no program can see fail.
@@ -51,9 +47,9 @@ IN_ONE_STEP = {"absent", "present", "a link"}
 
 
 FILE, ANSWER = without_classes(1000), without_classes()
-scratch = ""  # the folder of all runs; main says so
 # A file whose sums don't hold, and what dexasm-close makes of it.
 WRONG = FILE[:8] + bytes(24) + FILE[32:]
+
 
 class Subject(NamedTuple):
     """What is run: its words but OUT, FILE, what comes to OUT, what the names of its calls that are failed begin after,
@@ -69,17 +65,26 @@ class Subject(NamedTuple):
     env: dict[str, str] | None
 
 
-def subjects(program: str) -> tuple[Subject, ...]:
+SOME, FEW = ["error=ENOSPC", "signal=SIGKILL", "signal=SIGTERM"], ("absent", "present", "two names")
+
+
+def program_of(program: str) -> Subject:
     every = [f"error={error}" for error in ERRORS] + [f"signal={name}" for name in SIGNALS]
-    some, few = ["error=ENOSPC", "signal=SIGKILL", "signal=SIGTERM"], ("absent", "present", "two names")
-    python = [sys.executable, "-B"]
-    env = {**os.environ, "DEXASM_COMMAND": program, "PYTHONPATH": os.path.abspath("bindings/python")}
-    close = [*python, os.path.abspath("contrib/bin/dexasm-close")]
-    return (
-        Subject("", [program, "strip"], FILE, ANSWER, '"in.dex"', SETTINGS, every, None),
-        Subject("python3 -m dexasm, ", [*python, "-m", "dexasm", "strip"], FILE, ANSWER, '"out"', few, some, env),
-        Subject("dexasm-close, ", close, WRONG, FILE, '"out"', few, some, env),
-    )
+    return Subject("", [program, "strip"], FILE, ANSWER, '"in.dex"', SETTINGS, every, None)
+
+
+def environment(program: str) -> dict[str, str]:
+    return {**os.environ, "DEXASM_COMMAND": program, "PYTHONPATH": os.path.join(TOP, "bindings/python")}
+
+
+def module_of(program: str) -> Subject:
+    words = [sys.executable, "-B", "-m", "dexasm", "strip"]
+    return Subject("python3 -m dexasm, ", words, FILE, ANSWER, '"out"', FEW, SOME, environment(program))
+
+
+def close_of(program: str) -> Subject:
+    words = [sys.executable, "-B", os.path.join(TOP, "contrib/bin/dexasm-close")]
+    return Subject("dexasm-close, ", words, WRONG, FILE, '"out"', FEW, SOME, environment(program))
 
 
 def get(path: str) -> bytes | None:
@@ -172,34 +177,6 @@ def found_wrong(subject: Subject, setting: str, home: str, beside: str, status: 
     return None if status in (0, 3, -9, -2, -15) else f"status {status}"
 
 
-def run(subject: Subject, setting: str, injected: str | None = None) -> Ended:
-    """Runs the subject with OUT in this setting; answers how it ended, its calls, and what is wrong."""
-    home = tempfile.mkdtemp(dir=scratch)
-    try:
-        beside = set_up(setting, home, subject.file)
-        inject = ["-e", "inject=" + injected] if injected else []
-        words = ["strace", "-qq", "-s", "0", "-o", "log", *inject, *subject.words, "in.dex", "--output", "out"]
-        try:
-            user: dict[str, Any] = {"user": NOBODY, "group": NOBODY, "extra_groups": ()} if setting == "a closed folder" else {}
-            done = subprocess.run(
-                words, cwd=home, stdin=subprocess.DEVNULL, capture_output=True, timeout=LIMIT, env=subject.env, **user
-            )
-        except subprocess.TimeoutExpired:
-            return Ended(None, [], f"no end within {LIMIT} s", None)
-        status = {137: -9, 130: -2, 143: -15}.get(done.returncode, done.returncode)
-        log = (get(f"{home}/log") or b"").decode("utf8", "replace").splitlines()
-        is_remove = injected is not None and injected.startswith("unlink") or status == -9 or status == -2 and not subject.name
-        order = None if injected else order_wrong(subject, setting, home, beside, log)
-        return Ended(status, log, found_wrong(subject, setting, home, beside, status, is_remove), order)
-    finally:
-        if setting == "an immutable folder":
-            subprocess.run(["chattr", "-i", f"{home}/d"], stderr=subprocess.DEVNULL)
-        if setting == "a mount point":
-            # (lazily: a process that another thread begins may hold OUT for a moment)
-            subprocess.run(["umount", "-l", f"{home}/out"], stderr=subprocess.DEVNULL)
-        shutil.rmtree(home, ignore_errors=True)
-
-
 def calls_of(subject: Subject, log: list[str]) -> Iterator[tuple[str, int, str]]:
     """(call, which of its name it is, line), from the call on that names what it begins with."""
     counts, is_begun = collections.Counter[str](), False
@@ -230,7 +207,11 @@ def order_wrong(subject: Subject, setting: str, home: str, beside: str, log: lis
                     return f"others may open the part: {line}"
                 if value >= 0:
                     part, number = path, value
-            elif value >= 0 and setting not in CLOSED and (written < len(subject.answer) or setting != "absent" and not is_kept):
+            elif (
+                value >= 0
+                and setting not in CLOSED
+                and (written < len(subject.answer) or setting != "absent" and not is_kept)
+            ):
                 return f"written in place before the answer stands beside: {line}"
             elif value >= 0:
                 number, written, is_kept = value, 0, False
@@ -257,39 +238,91 @@ def faults_of(subject: Subject, log: list[str]) -> Iterator[str]:
             yield f"{call}:{how}:when={which}"
 
 
-def tried_in(subject: Subject, setting: str, pool: concurrent.futures.Executor) -> list[tuple[str, str | None]]:
-    """What came of each run in this setting: what was done, and what is wrong."""
-    alone = run(subject, setting)
-    wrong = alone.wrong or alone.order_wrong or (None if alone.status == 0 else f"status {alone.status}")
-    runs = {injected: pool.submit(run, subject, setting, injected) for injected in faults_of(subject, alone.log)}
-    return [("left alone", wrong), *((injected, ended.result().wrong) for injected, ended in runs.items())]
+class Faults(TestCase):
+    def setUp(self) -> None:
+        if not can_trace():
+            self.skipTest("strace is missing here, or may not trace")
+        self.program, self.scratch = tried.program(), os.path.realpath(self.new_folder())
+        os.chmod(self.scratch, 0o711)  # (for a run as another user)
 
-
-def try_all(program: str) -> str:
-    """Tries each subject in each setting; answers what the last line says besides."""
-    more = ""
-    with concurrent.futures.ThreadPoolExecutor(os.cpu_count() or 1) as pool:
-        for subject, setting in ((one, setting) for one in subjects(program) for setting in one.settings):
+    def ran(self, subject: Subject, setting: str, injected: str | None = None) -> Ended:
+        """Runs the subject with OUT in this setting; answers how it ended, its calls, and what is wrong."""
+        home = tempfile.mkdtemp(dir=self.scratch)
+        try:
+            beside = set_up(setting, home, subject.file)
+            inject = ["-e", "inject=" + injected] if injected else []
+            words = ["strace", "-qq", "-s", "0", "-o", "log", *inject, *subject.words, "in.dex", "--output", "out"]
             try:
-                seen = tried_in(subject, setting, pool)
-            except (OSError, subprocess.CalledProcessError):
-                if setting not in OF_ROOT:
-                    raise
-                more += f"; {setting} isn't tried, since none can be made here"
-                continue
-            lost = [what for what, wrong in seen if setting in CLOSED and (wrong or "").startswith(LOST)]
-            more += f"; in {setting} {len(lost)} of {len(seen)} lost OUT" if setting in CLOSED else ""
-            for what, wrong in seen:
-                check(f"{subject.name}OUT {setting}, {what}", wrong is None or what in lost, wrong)
-    return more
+                user: dict[str, Any] = (
+                    {"user": NOBODY, "group": NOBODY, "extra_groups": ()} if setting == "a closed folder" else {}
+                )
+                done = subprocess.run(
+                    words,
+                    cwd=home,
+                    stdin=subprocess.DEVNULL,
+                    capture_output=True,
+                    timeout=LIMIT,
+                    env=subject.env,
+                    **user,
+                )
+            except subprocess.TimeoutExpired:
+                return Ended(None, [], f"no end within {LIMIT} s", None)
+            status = {137: -9, 130: -2, 143: -15}.get(done.returncode, done.returncode)
+            log = (get(f"{home}/log") or b"").decode("utf8", "replace").splitlines()
+            is_remove = (
+                injected is not None
+                and injected.startswith("unlink")
+                or status == -9
+                or status == -2
+                and not subject.name
+            )
+            order = None if injected else order_wrong(subject, setting, home, beside, log)
+            return Ended(status, log, found_wrong(subject, setting, home, beside, status, is_remove), order)
+        finally:
+            if setting == "an immutable folder":
+                subprocess.run(["chattr", "-i", f"{home}/d"], stderr=subprocess.DEVNULL)
+            if setting == "a mount point":
+                # (lazily: a process that another thread begins may hold OUT for a moment)
+                subprocess.run(["umount", "-l", f"{home}/out"], stderr=subprocess.DEVNULL)
+            shutil.rmtree(home, ignore_errors=True)
 
+    def tried_in(
+        self, subject: Subject, setting: str, pool: concurrent.futures.Executor
+    ) -> list[tuple[str, str | None]]:
+        """What came of each run in this setting: what was done, and what is wrong."""
+        alone = self.ran(subject, setting)
+        wrong = alone.wrong or alone.order_wrong or (None if alone.status == 0 else f"status {alone.status}")
+        runs = {
+            injected: pool.submit(self.ran, subject, setting, injected) for injected in faults_of(subject, alone.log)
+        }
+        return [("left alone", wrong), *((injected, ended.result().wrong) for injected, ended in runs.items())]
 
-def main(given: argparse.Namespace) -> int:
-    global scratch
-    if not can_trace():
-        print("not tried: strace is missing here, or may not trace")
-        return 0
-    with tempfile.TemporaryDirectory() as made:
-        scratch = os.path.realpath(made)
-        os.chmod(scratch, 0o711)  # (for a run as another user)
-        return last_line(try_all(os.path.abspath(given.program)))
+    def check_settings(self, subject: Subject) -> None:
+        with concurrent.futures.ThreadPoolExecutor(os.cpu_count() or 1) as pool:
+            for setting in subject.settings:
+                try:
+                    seen = self.tried_in(subject, setting, pool)
+                except (OSError, subprocess.CalledProcessError):
+                    if setting not in OF_ROOT:
+                        raise
+                    print(f"OUT {setting} isn't tried, since none can be made here")
+                    continue
+                self.check_seen(subject, setting, seen)
+
+    def check_seen(self, subject: Subject, setting: str, seen: list[tuple[str, str | None]]) -> None:
+        lost = [what for what, wrong in seen if setting in CLOSED and (wrong or "").startswith(LOST)]
+        if setting in CLOSED:
+            print(f"OUT in {setting}: {len(lost)} of {len(seen)} runs lost it")
+        for what, wrong in seen:
+            self.check(f"{subject.name}OUT {setting}, {what}", wrong is None or what in lost, wrong)
+
+    def test_program(self) -> None:
+        self.check_settings(program_of(self.program))
+
+    def test_module(self) -> None:
+        """The module for Python as a command."""
+        self.check_settings(module_of(self.program))
+
+    def test_close(self) -> None:
+        """dexasm-close."""
+        self.check_settings(close_of(self.program))

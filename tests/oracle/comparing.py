@@ -4,26 +4,27 @@ definitions, by hand. Where the two differ, one of them or a page is wrong; wher
 same way.
 
 There are three comparisons, each on worked examples and on cases made at random:
-  check  `check` with faults.py, on files changed at random, most of them at fault (N of them, or 3000)
-  texts  `assemble` and `list` with listing.py and writing.py, on listings, most of them at fault (N, or 1500); with
-         --large also on those that are at the edges of the limits of a file, which takes a minute or two
-  files  `strip` and `list` with reading.py, writing.py and listing.py, on files without fault (N, or 500), among them
-         one program spelled in nineteen ways
-With --only one of them alone. The files of `check` are made of random programs, and of those .dex files below --files
-that have no fault and at most 64 KB; larger ones are compared as they are. `files` compares the .dex files below it
-too. The same seed gives the same cases. A case on which the two differ is kept in a temporary folder, and a line says what each answers. """
-import argparse
+  check  `check` with faults.py, on files changed at random, most of them at fault (3000 of them)
+  texts  `assemble` and `list` with listing.py and writing.py, on listings, most of them at fault (1500); where large
+         ones are asked for also on those that are at the edges of the limits of a file, which takes a minute or two
+  files  `strip` and `list` with reading.py, writing.py and listing.py, on files without fault (500), among them one
+         program spelled in nineteen ways
+The files of `check` are made of random programs, and of those .dex files below a folder that is named that have no
+fault and at most 64 KB; larger ones are compared as they are. `files` compares the .dex files below it too. A case on
+which the two differ is kept in a temporary folder, and a line says what each answers. tried.py says by what these are
+named.
+"""
 import collections
 import itertools
 import os
 import random
 import subprocess
-import sys
 import tempfile
 from collections.abc import Iterator
 from typing import Any
 
-from parts.tries.trying import Counted, last_line
+from .. import tried
+from ..base import LIMIT
 from . import faults
 from .examples import examples
 from .listing import parse, print_listing
@@ -36,7 +37,6 @@ from .textexamples import text_examples
 from .texts import random_texts
 from .writing import align, write
 
-LIMIT = 60  # seconds for a case
 LARGEST = 1 << 16  # bytes of a file below FOLDER that is changed
 OK = b"ok\n"
 Answer = bytes | str
@@ -67,24 +67,28 @@ class Comparison:
 
     def __init__(self, program: str, tables: list[str]) -> None:
         self.program, self.tables = program, tables
-        self.tried, self.failed, self.folder = 0, 0, None
+        self.tried, self.folder = 0, None
+        self.differing: list[tuple[str, str]] = []
         self.counts = collections.Counter()
 
     def keep(self, data: bytes, suffix: str) -> str:
         self.folder = self.folder or tempfile.mkdtemp(prefix="oracle-")
-        path = os.path.join(self.folder, f"{self.failed}{suffix}")
+        path = os.path.join(self.folder, f"{len(self.differing)}{suffix}")
         with open(path, "wb") as file:
             file.write(data)
         return path
 
-    def told(self, what: str, data: bytes, suffix: str, answers: list[tuple[str, Answer]]) -> bool:
-        """Counts a case; where the answers, as (whose, answer), aren't one, says so. Answers whether they are."""
+    def are_one(self, what: str, data: bytes, suffix: str, answers: list[tuple[str, Answer]]) -> bool:
+        """Whether the answers, as (whose, answer), are one; where they aren't, the case is noted and kept."""
         if all(answer == answers[0][1] for _, answer in answers):
             return True
-        self.failed += 1
         said = "; ".join(f"{whose}: {shown(answer)}" for whose, answer in answers)
-        print(f"{what}: DIFFERS: {said}; kept in {self.keep(data, suffix)}", flush=True)
+        self.differing.append((what, f"{said}; kept in {self.keep(data, suffix)}"))
         return False
+
+    def run(self) -> None:
+        """Compares all cases."""
+        raise NotImplementedError
 
     def summary(self) -> str:
         names = [(table, name) for table in self.tables for name in NUMBERS[table] if name not in ("Memory", "TooBig")]
@@ -107,7 +111,7 @@ class CheckComparison(Comparison):
         reading = faults.fault(data)
         self.counts[reading and ("file", reading[0])] += 1
         answers = [("program", answer_of(self.program, ["check"], data)), ("second reading", self.line(reading))]
-        self.told(what, data, ".dex", answers + [("example", self.line(each)) for each in given])
+        self.are_one(what, data, ".dex", answers + [("example", self.line(each)) for each in given])
 
     def compare_sample(self, what: str, data: bytes, *given: tuple[str, int] | None) -> None:
         """The same of a file that is changed afterwards, where it has no fault and isn't too large."""
@@ -115,16 +119,17 @@ class CheckComparison(Comparison):
         if len(data) <= LARGEST and faults.fault(data) is None:
             self.samples.append(Spots(data))
 
-    def run(self, given: argparse.Namespace) -> None:
+    def run(self) -> None:
         for what, data, answer in examples():
             self.compare_sample(what, data, answer)
-        for path, data in files_below(given.files):
+        for path, data in files_below(tried.files()):
             self.compare_sample(path, data)
-        rng = random.Random(given.seed)
+        seed = tried.seed()
+        rng = random.Random(seed)
         for i, data in enumerate(random_samples(rng, 100)):
-            self.compare_sample(f"sample {i} of seed {given.seed}", data)
-        for i, data in enumerate(itertools.islice(mutated(rng, self.samples), given.count or 3000)):
-            self.compare(f"file {i} of seed {given.seed}", data)
+            self.compare_sample(f"sample {i} of seed {seed}", data)
+        for i, data in enumerate(itertools.islice(mutated(rng, self.samples), tried.count(3000))):
+            self.compare(f"file {i} of seed {seed}", data)
 
 
 class TextComparison(Comparison):
@@ -146,17 +151,18 @@ class TextComparison(Comparison):
         for example in given:
             answers.append(("example", str(Refusal(*example)) if example else b"" if is_refused else reading))
         what = " ".join([what, *words[1:]])
-        if self.told(what, text, ".txt", answers) and not is_refused:
+        if self.are_one(what, text, ".txt", answers) and not is_refused:
             listed = answer_of(self.program, ["list"], reading)
-            self.told(f"{what}, listed", text, ".txt", [("program", listed), ("second reading",
+            self.are_one(f"{what}, listed", text, ".txt", [("program", listed), ("second reading",
                 print_listing(classes))])
 
-    def run(self, given: argparse.Namespace) -> None:
-        for what, text, is_aligned, answer in text_examples(given.large):
+    def run(self) -> None:
+        for what, text, is_aligned, answer in text_examples(tried.is_large()):
             self.compare(what, text, is_aligned, answer)
-        cases = random_texts(random.Random(given.seed))
-        for i, (text, is_aligned) in enumerate(itertools.islice(cases, given.count or 1500)):
-            self.compare(f"text {i} of seed {given.seed}", text, is_aligned)
+        seed = tried.seed()
+        cases = random_texts(random.Random(seed))
+        for i, (text, is_aligned) in enumerate(itertools.islice(cases, tried.count(1500))):
+            self.compare(f"text {i} of seed {seed}", text, is_aligned)
 
 
 class FileComparison(Comparison):
@@ -172,12 +178,12 @@ class FileComparison(Comparison):
         self.counts[(written.table, written.name) if is_refused else None] += 1
         stripped = answer_of(self.program, ["strip"], data)
         answers = [("program", stripped), ("second reading", str(written) if is_refused else written)]
-        self.told(f"{what}, stripped", data, ".dex", answers + [("the wanted file", each) for each in wanted])
+        self.are_one(f"{what}, stripped", data, ".dex", answers + [("the wanted file", each) for each in wanted])
         listed = answer_of(self.program, ["list"], data)
-        self.told(f"{what}, listed", data, ".dex", [("program", listed), ("second reading", print_listing(classes))])
+        self.are_one(f"{what}, listed", data, ".dex", [("program", listed), ("second reading", print_listing(classes))])
 
-    def run(self, given: argparse.Namespace) -> None:
-        found = [*((path, data) for path, data in files_below(given.files)),
+    def run(self) -> None:
+        found = [*((path, data) for path, data in files_below(tried.files())),
                  *((f"example: {what}", data) for what, data, _ in examples()),
                  *((f"example: {what}", data) for what, data in file_examples())]
         for what, data in found:
@@ -186,36 +192,21 @@ class FileComparison(Comparison):
         classes, files = spelled()
         written = write(classes)
         if len({written, *(data for _, data in files)}) <= len(files):
-            self.failed += 1
-            print("spelled otherwise: two of the files are one")
+            self.differing.append(("spelled otherwise", "two of the files are one"))
         for what, data in files:
             self.compare(f"spelled otherwise: {what}", data, written)
-        cases = random_files(random.Random(given.seed))
-        for i, (data, is_packed) in enumerate(itertools.islice(cases, given.count or 500)):
-            self.compare(f"file {i} of seed {given.seed}", data, *[data] * is_packed)
+        seed = tried.seed()
+        cases = random_files(random.Random(seed))
+        for i, (data, is_packed) in enumerate(itertools.islice(cases, tried.count(500))):
+            self.compare(f"file {i} of seed {seed}", data, *[data] * is_packed)
 
 
-COMPARISONS: dict[str, type[CheckComparison] | type[TextComparison] | type[FileComparison]]
-COMPARISONS = {"check": CheckComparison, "texts": TextComparison, "files": FileComparison}
-
-
-def files_below(folder: str | None) -> Iterator[tuple[str, bytes]]:
+def files_below(folder: str) -> Iterator[tuple[str, bytes]]:
     """The .dex files of a folder, each as its path and its bytes."""
-    for at, folders, names in os.walk(folder or ""):
+    for at, folders, names in os.walk(folder):
         folders.sort()
         for name in sorted(names):
             if name.endswith(".dex"):
                 path = os.path.join(at, name)
                 with open(path, "rb") as file:
                     yield path, file.read()
-
-
-def main(given: argparse.Namespace) -> int:
-    sys.setrecursionlimit(10000)  # a value may be more than 64 deep before it's refused
-    sys.set_int_max_str_digits(0)  # a number may have many zeros
-    for name in [given.only] if given.only else COMPARISONS:
-        comparison = COMPARISONS[name](os.path.abspath(given.program))
-        comparison.run(given)
-        Counted.tried, Counted.failed = Counted.tried + comparison.tried, Counted.failed + comparison.failed
-        print(f"{name}: {comparison.tried} tried, {comparison.failed} failed; {comparison.summary()}", flush=True)
-    return last_line()

@@ -1,4 +1,4 @@
-"""What a command leaves, by what OUT is: a table of cases, each in a folder of its own, for tools/try program.
+"""What a command leaves, by what OUT is: a table of cases, each in a folder of its own.
 
 A case is its name, what makes it, the exit status and the line on standard error that are wanted, what of the folder is
 looked at, and what stands there, in words: `answer` is the whole one, `old` what the file held, `front` a beginning of the
@@ -14,8 +14,9 @@ import tempfile
 from collections.abc import Callable
 from typing import IO, Any
 
+from ..base import LIMIT, get
+
 READ, WRITE = "dexasm: cannot read\n", "dexasm: cannot write\n"
-LIMIT = 120  # seconds for a command
 USER = 1000
 Check = Callable[[str, bool, object], None]
 Make = Callable[["Home"], object]
@@ -24,11 +25,6 @@ Case = tuple[str, Make, int, str, tuple[str, ...], str | None]
 
 class CantBeMade(Exception):
     """No such case can be set up here."""
-
-
-def get(path: str) -> bytes:
-    with open(path, "rb") as file:
-        return file.read()
 
 
 class Home:
@@ -272,7 +268,7 @@ def as_user() -> None:
     os.setuid(USER)
 
 
-def try_one(
+def check_one(
     check: Check, program: str, folder: str, given: bytes, answer: bytes, case: Case, out: str = "out", **options: Any
 ) -> None:
     """Sets one case up, runs strip, and looks at what it left."""
@@ -298,7 +294,7 @@ def try_one(
         shutil.rmtree(home.path, ignore_errors=True)
 
 
-def try_others(check: Check, program: str, folder: str, given: bytes, answer: bytes) -> None:
+def check_others(check: Check, program: str, folder: str, given: bytes, answer: bytes) -> None:
     """What the table has no column for: other words, and OUT that is standard output or FILE."""
     home = Home(tempfile.mkdtemp(dir=folder), given, answer)
 
@@ -325,15 +321,15 @@ def try_others(check: Check, program: str, folder: str, given: bytes, answer: by
     shutil.rmtree(home.path, ignore_errors=True)
 
 
-def try_all(check: Check, program: str, folder: str, given: bytes, answer: bytes) -> None:
+def check_all(check: Check, program: str, folder: str, given: bytes, answer: bytes) -> None:
     """Each case; `answer` is what strip gives of the file `given`, and has more than 64 KB."""
     for case in CASES:
-        try_one(check, program, folder, given, answer, case[:6], *case[6:])
-    try_others(check, program, folder, given, answer)
+        check_one(check, program, folder, given, answer, case[:6], *case[6:])
+    check_others(check, program, folder, given, answer)
     if os.geteuid() != 0:
         return
     for case in DISKS:
-        try_one(check, program, folder, given, answer, case, "c/out")
+        check_one(check, program, folder, given, answer, case, "c/out")
     for name, make, status, line, want in OTHERS:
         case = ("another user, " + name, make, status, line, ("c/out",), want)
-        try_one(check, program, folder, given, answer, case, "c/out", preexec_fn=as_user)
+        check_one(check, program, folder, given, answer, case, "c/out", preexec_fn=as_user)

@@ -1,4 +1,4 @@
-"""What a terminal is told, and what it isn't given: the cases of tools/try program with a pseudo terminal.
+"""What a terminal is told, and what it isn't given: the cases of a pseudo terminal.
 
 A case is its name, its words, what stands on which terminal, the exit status and what is wanted there.
 """
@@ -10,8 +10,9 @@ import termios
 from collections.abc import Iterator, Sequence
 from typing import Any
 
-LIMIT = 120  # seconds for a command
-Tried = tuple[str, bool, object]
+from ..base import LIMIT
+
+Case = tuple[str, bool, object]
 SENTENCE = "dexasm: a .dex file isn't for a terminal: use --output FILE or a pipe\n"
 
 
@@ -60,7 +61,7 @@ def seen(
     return running.returncode, texts["stdout"] or b"", (texts["stderr"] or b"").decode("utf8", "replace")
 
 
-def tries(program: str, folder: str, empty: bytes, refused: bytes) -> Iterator[Tried]:
+def cases_of(program: str, folder: str, empty: bytes, refused: bytes) -> Iterator[Case]:
     """Each case as its name, whether it is so, and what was seen. `empty` is a file of no classes, `refused` one that breaks rule 8."""
     listing, line = b"dex 035 listing 2\n", "dexasm: refused 8 Checksum at 8\n"
     path = os.path.join(folder, "terminal")
@@ -109,7 +110,7 @@ def tries(program: str, folder: str, empty: bytes, refused: bytes) -> Iterator[T
     yield from closed_stream(program, path)
 
 
-def closed_stream(program: str, path: str) -> Iterator[Tried]:
+def closed_stream(program: str, path: str) -> Iterator[Case]:
     """Standard input that is closed, and standard output that is full, with the system's words on a terminal."""
     for what, words, shell, want in (
         ("a closed standard input", ("check",), '"$@" <&-', (3, "dexasm: cannot read\n  Bad file descriptor (os error 9)\n")),

@@ -1,5 +1,4 @@
 """The built program from outside: words, help, each exit status with its line, files and pipes, big inputs."""
-import argparse
 import os
 import re
 import resource
@@ -9,16 +8,15 @@ import stat
 import struct
 import subprocess
 import sys
-import tempfile
 import time
 import zipfile
 from collections.abc import Callable, Sequence
 from typing import Any
 
-from parts import TOP, sought
-from parts.tries.trying import MEGABYTE, NUMBERED, ODD, check, closed, ended, get, last_line, limited, not_built, without_classes
-from parts.tries.trying import ONE_CLASS as LISTING
-from parts.tries.trying import Ended
+from .. import TOP, sought, tried
+from ..base import LIMIT, MEGABYTE, Ended, TestCase, ended, get, limited
+from ..samples import NUMBERED, ODD, closed, without_classes
+from ..samples import ONE_CLASS as LISTING
 from . import out_cases, terminal_cases
 
 sys.path.append(os.path.join(TOP, "bench/hostile"))
@@ -29,7 +27,8 @@ CANNOT_READ, CANNOT_WRITE = "dexasm: cannot read\n", "dexasm: cannot write\n"
 JOBS = ("check", "list", "assemble", "strip")
 
 # The file of LISTING from byte 0x20 on, worked out by hand from the format: header, tables, data, map.
-ONE_CLASS = bytes(32) + bytes.fromhex("""
+ONE_CLASS = bytes(32) + bytes.fromhex(
+    """
 78 01 00 00 70 00 00 00 78 56 34 12 00 00 00 00
 00 00 00 00 fc 00 00 00 04 00 00 00 70 00 00 00
 03 00 00 00 80 00 00 00 01 00 00 00 8c 00 00 00
@@ -54,407 +53,16 @@ ff ff ff ff 00 00 00 00 f1 00 00 00 00 00 00 00
 02 20 00 00 04 00 00 00 d2 00 00 00
 00 20 00 00 01 00 00 00 f1 00 00 00
 00 10 00 00 01 00 00 00 fc 00 00 00
-""")
+"""
+)
 with open(TEXTS, encoding="ascii") as texts:
     VERSION = sought(r'VERSION: &str = "([^"]*)"', texts.read()).group(1)
-LIMIT = 120  # seconds for a command
-program = folder = ""  # what is tried, and where; main says so
-
-
-def run(*words: str | bytes, given: bytes = b"", **options: Any) -> Ended:
-    """Runs the program; answers status, standard output, standard error."""
-    if "stdin" not in options:
-        options["input"] = given
-    options.setdefault("stdout", subprocess.PIPE)
-    return ended([program, *words], LIMIT, stderr=subprocess.PIPE, **options)
-
-
-def answers(what: str, want: bytes, *words: str, **options: Any) -> None:
-    """It answers these bytes, status 0, and nothing on standard error."""
-    status, out, said = run(*words, **options)
-    check(what, (status, out, said) == (0, want, ""), f"{status} {out[:60]!r} {said[:200]!r}")
-
-
-def tells(what: str, status: int, line: str, *words: str, **options: Any) -> None:
-    """It ends with this status and this line, and answers nothing."""
-    got, out, said = run(*words, **options)
-    check(what, (got, out or b"", said) == (status, b"", line), f"{got} {(out or b'')[:60]!r} {said[:200]!r}")
-
-
-def misuses(what: str, *words: str) -> None:
-    """Wrong words: status 2, clap's text, which shows where the usage is."""
-    status, out, said = run(*words)
-    is_so = status == 2 and out == b"" and said.startswith("error: ") and said.endswith("For more information, try '--help'.\n")
-    is_so = is_so and all(char.isprintable() or char == "\n" for char in said)
-    check(what, is_so, f"{status} {out[:60]!r} {said[:200]!r}")
-
-
-def in_folder(*names: str) -> str:
-    return os.path.join(folder, *names)
-
-
-def put(name: str, given: bytes) -> str:
-    with open(in_folder(name), "wb") as file:
-        file.write(given)
-    return in_folder(name)
-
-
-def try_words() -> None:
-    words: list[str] | str
-    for what, *words in (
-        ("no words",),
-        ("another command", "disassemble"),
-        ("help as a command", "help"),
-        ("an option before the command", "--output", "x", "check"),
-        ("two files", "check", "a", "b"),
-        ("--output without a file", "check", "--output"),
-        ("--output twice", "check", "--output", "a", "--output", "b"),
-        ("another option", "list", "--all"),
-        ("--align of check", "check", "--align"),
-        ("--align of list", "list", "--align"),
-        ("--align of strip", "strip", "--align"),
-        ("--align with a value", "assemble", "--align=yes"),
-        ("--align twice", "assemble", "--align", "--align"),
-    ):
-        misuses(what, *words)
-    misuses("a wrong word that a terminal would obey", "\x1b[31mred")
-    misuses("an option that it would", "check", "--\x1b]0;title\x07\u009b")
-    status, out, said = run(b"check", b"\xff.dex")
-    check("words that aren't UTF-8", (status, out) == (2, b"") and said.startswith("dexasm: "), f"{status} {said!r}")
-    for words in (["--help"], ["-h"]) + tuple([job, flag] for job in JOBS for flag in ("--help", "-h")):
-        status, out, said = run(*words)
-        text = out.decode()
-        is_so = status == 0 and said == "" and "Usage: dexasm" in text and "Example: dexasm" in text and "version 035" in text
-        check(" ".join(words), is_so, f"{status} {text[:200]!r} {said!r}")
-    for flag in ("--version", "-V"):
-        answers(flag, f"dexasm {VERSION}\n".encode(), flag)
-    misuses("--version of a command", "check", "--version")
-    text = run("--help")[1].decode()
-    check("--help begins with the version", text.startswith(f"dexasm {VERSION}\n"), text[:80])
-    check("--help names each command", all(f"\n  {job} " in text for job in JOBS), text)
-    with open("/dev/full", "wb") as full:
-        tells("--help to a full device", 3, CANNOT_WRITE, "--help", stdout=full)
-        tells("--version to a full device", 3, CANNOT_WRITE, "--version", stdout=full)
-    for what, end in (("closed", ">&-"), ("full", "> /dev/full")):
-        for words, status in (("disassemble", 2), ("check --all", 2), ("check no-such-file", 3)):
-            done = subprocess.run(["sh", "-c", f'"$0" {words} 2{end}', program], stdout=subprocess.PIPE)
-            check(f"{words}, where standard error is {what}", (done.returncode, done.stdout) == (status, b""), done.returncode)
-
-
-def try_answers() -> None:
-    empty = without_classes()
-    file = run("assemble", given=LISTING.encode())[1]
-    path = put("a.dex", file)
-    listing = put("a.txt", LISTING.encode())
-    answers("check of a file without classes", b"ok\n", "check", given=empty)
-    answers("check of an assembled listing", b"ok\n", "check", given=file)
-    check("the assembled listing", file == closed(ONE_CLASS[32:]), len(file))
-    answers("check FILE", b"ok\n", "check", path)
-    answers("list", LISTING.encode(), "list", given=file)
-    answers("list FILE", LISTING.encode(), "list", path)
-    answers("assemble FILE", file, "assemble", listing)
-    answers("strip of what is stripped", file, "strip", given=file)
-    answers("strip FILE", file, "strip", path)
-    answers("list of a file without classes", b"dex 035 listing 2\n", "list", given=empty)
-    answers("assemble of no classes", empty, "assemble", given=b"dex 035 listing 2\n")
-    answers("assemble of the first form", file, "assemble", given=NUMBERED.encode())
-    answers("assemble --align where nothing is odd", file, "assemble", "--align", given=LISTING.encode())
-    aligned = run("assemble", "--align", given=ODD.encode())[1]
-    answers("assemble --align moves", b"ok\n", "check", given=aligned)
-    text = run("list", given=aligned)[1].decode()
-    check("a nop stands before the payload", "\n:L0\npacked-switch v0 :L2\nnop\n:L2\npacked-switch-payload 0 :L0\n" in text, text)
-    for job, given, want in (("check", path, b"ok\n"), ("list", path, LISTING.encode()), ("assemble", listing, file), ("strip", path, file)):
-        made = put("out", b"x" * 100000)
-        answers(f"{job} --output", b"", job, given, "--output", made)
-        check(f"{job} --output: what is written", get(made) == want)
-        os.remove(made)
-        answers(f"{job} --output=, from standard input", b"", job, f"--output={made}", given=get(given))
-        check(f"{job} --output=: what is written", get(made) == want)
-    same = put("same", without_classes(1000))
-    answers("strip with OUT that is FILE", b"", "strip", same, "--output", same)
-    check("OUT that is FILE is written anew", get(same) == empty)
-    os.link(same, in_folder("name"))
-    answers("list with OUT that is another name of FILE", b"", "list", same, "--output", in_folder("name"))
-    check("OUT that is another name of FILE", get(same) == b"dex 035 listing 2\n")
-
-
-def try_refusals() -> None:
-    file = run("assemble", given=LISTING.encode())[1]
-    changed = file[:-1] + b"\1"
-    for what, line, job, given in (
-        ("nothing", "1 TooShort at 0", "check", b""),
-        ("another version", "3 Version at 4", "check", file[:4] + b"037" + file[7:]),
-        ("a changed byte", "8 Checksum at 8", "check", changed),
-        ("list of a changed byte", "8 Checksum at 8", "list", changed),
-        ("strip of a changed byte", "8 Checksum at 8", "strip", changed),
-        ("list of a listing", "2 Magic at 0", "list", b"dex 035\n".ljust(112, b"#")),
-        ("assemble of a file", "100 Word at 1", "assemble", file),
-        ("a listing that isn't ended", "106 NotEnded at 7", "assemble", LISTING.replace("end class\n", "").encode()),
-        ("a rule of programs", "115 Target at 0", "assemble", LISTING.replace("return-void", ":a\ngoto :a").encode()),
-        ("a payload at an odd address", "86 Misaligned at 0", "assemble", ODD.encode()),
-    ):
-        tells(what, 1, f"dexasm: refused {line}\n", job, given=given)
-        same = put("same", given)
-        tells(f"{what}, with OUT that is FILE", 1, f"dexasm: refused {line}\n", job, same, "--output", same)
-        check(f"{what}: OUT that is FILE is as it was", get(same) == given)
-        tells(f"{what}, with OUT", 1, f"dexasm: refused {line}\n", job, same, "--output", in_folder("none"))
-        check(f"{what}: OUT isn't made", not os.path.exists(in_folder("none")))
-
-
-def try_ends() -> None:
-    empty, path = without_classes(), put("empty.dex", without_classes())
-    for job in JOBS:
-        tells(f"{job} of no such file", 3, CANNOT_READ, job, in_folder("no-such"))
-        tells(f"{job} of a folder", 3, CANNOT_READ, job, folder)
-        with open(folder + "/w", "wb") as file:
-            tells(f"{job} of an input that can't be read", 3, CANNOT_READ, job, stdin=file)
-        tells(f"{job} of a folder, with OUT", 3, CANNOT_READ, job, folder, "--output", in_folder("none"))
-        check(f"{job} of a folder: OUT isn't made", not os.path.exists(in_folder("none")))
-    for job, given in (("check", empty), ("list", empty), ("assemble", b"dex 035\n"), ("strip", empty)):
-        tells(f"{job} to a folder", 3, CANNOT_WRITE, job, "--output", folder, given=given)
-        tells(f"{job} below no such folder", 3, CANNOT_WRITE, job, "--output", in_folder("no", "such"), given=given)
-        tells(f"{job} to no name", 3, CANNOT_WRITE, job, "--output", "", given=given)
-        tells(f"{job} to OUT that is full", 3, CANNOT_WRITE, job, "--output", "/dev/full", given=given)
-        with open("/dev/full", "wb") as full:
-            tells(f"{job} to a full device", 3, CANNOT_WRITE, job, given=given, stdout=full)
-        with open(path, "rb") as file:
-            tells(f"{job} to an output that can't be written", 3, CANNOT_WRITE, job, given=given, stdout=file)
-        answers(f"{job} to OUT that is a device", b"", job, "--output", "/dev/null", given=given)
-    os.mkfifo(in_folder("pipe"))
-    feeder = subprocess.Popen(["sh", "-c", 'cat "$1" > "$2"', "sh", path, in_folder("pipe")])
-    answers("check of a named pipe", b"ok\n", "check", in_folder("pipe"))
-    feeder.wait()
-    reader = subprocess.Popen(["cat", in_folder("pipe")], stdout=subprocess.PIPE)
-    answers("strip to a named pipe", b"", "strip", "--output", in_folder("pipe"), given=empty)
-    check("the pipe has the answer", reader.communicate()[0] == empty)
-    slow = subprocess.Popen([program, "check"], stdin=subprocess.PIPE, stdout=subprocess.PIPE)
-    assert slow.stdin is not None  # (a pipe)
-    for at in range(0, 140, 35):
-        slow.stdin.write(empty[at : at + 35])
-        slow.stdin.flush()
-        time.sleep(0.05)
-    check("an input that comes in pieces", slow.communicate()[0] == b"ok\n" and slow.returncode == 0)
-
-
-def try_out() -> None:
-    """OUT is as it was whatever fails, and what it was beside its bytes stays."""
-    empty = without_classes()
-    home = in_folder("home")
-    os.mkdir(home)
-    out, link = os.path.join(home, "out.dex"), os.path.join(home, "link")
-
-    def is_alone(*names: str) -> None:
-        check(f"nothing is left beside {names}", sorted(os.listdir(home)) == sorted(names), os.listdir(home))
-
-    put("home/out.dex", b"kept")
-    os.chmod(out, 0o640)
-    inode = os.stat(out).st_ino
-    answers("strip over a file", b"", "strip", "--output", out, given=empty)
-    check("OUT has its mode", (get(out), stat.S_IMODE(os.stat(out).st_mode)) == (empty, 0o640))
-    check("OUT is another file", os.stat(out).st_ino != inode)
-    os.symlink("out.dex", link)
-    answers("list through a link", b"", "list", "--output", link, given=empty)
-    check("the link stays", os.path.islink(link) and get(out) == b"dex 035 listing 2\n")
-    os.remove(out)
-    answers("strip through a link that leads nowhere", b"", "strip", "--output", link, given=empty)
-    check("the file is made where it leads", os.path.islink(link) and get(out) == empty)
-    os.remove(link)
-    put("home/out.dex.0.part", b"of somebody else")
-    answers("strip where the first name is taken", b"", "strip", "--output", out, given=empty)
-    check("what is of somebody else stays", get(out + ".0.part") == b"of somebody else")
-    for number in range(100):
-        put(f"home/out.dex.{number}.part", b"of a run that was killed")
-    put("home/out.dex", b"kept")
-    tells("a refusal where a hundred names are taken", 1, "dexasm: refused 1 TooShort at 0\n", "strip", "--output", out)
-    check("OUT is as it was where a hundred names are taken", get(out) == b"kept")
-    answers("strip where a hundred names are taken", b"", "strip", "--output", out, given=empty)
-    check("OUT is written where a hundred names are taken", get(out) == empty and len(os.listdir(home)) == 101)
-    for number in range(100):
-        os.remove(f"{out}.{number}.part")
-    is_alone("out.dex")
-    # What is written in place: as it was after a refusal too.
-    second = os.path.join(home, "second")
-    put("home/out.dex", b"kept")
-    os.link(out, second)
-    tells("a refusal over a file with two names", 1, "dexasm: refused 1 TooShort at 0\n", "strip", "--output", out)
-    check("a file with two names is as it was", get(out) == b"kept")
-    answers("strip over a file with two names", b"", "strip", "--output", out, given=empty)
-    check("both names have the answer", (get(second), os.stat(out).st_ino) == (empty, os.stat(second).st_ino))
-    os.remove(second)
-    is_alone("out.dex")
-    # No room: a file may not grow beyond 64 bytes.
-    put("home/out.dex", b"kept")
-
-    def limit() -> None:
-        signal.signal(signal.SIGXFSZ, signal.SIG_IGN)
-        resource.setrlimit(resource.RLIMIT_FSIZE, (64, 64))
-
-    tells("strip where there is no room", 3, CANNOT_WRITE, "strip", "--output", out, given=empty, preexec_fn=limit)
-    check("OUT is as it was where there is no room", get(out) == b"kept")
-    is_alone("out.dex")
-    if os.geteuid() == 0:
-        try_out_as_another(empty, home, out)
-        try_closed_doors()
-
-
-def try_out_cases() -> None:
-    """What a command leaves, by what OUT is: the table of out_cases.py, with an answer of half a megabyte."""
-    classes = "".join(f"class LA{number}; 0x1\nend class\n" for number in range(10000))
-    answer = run("assemble", given=("dex 035 listing 2\n" + classes).encode())[1]
-    # (what strip takes off: zeros after the map)
-    data_size = struct.unpack_from("<I", answer, 104)[0]
-    sizes = [struct.pack("<I", size + 1000) for size in (len(answer), data_size)]
-    longer = closed(sizes[0] + answer[36:104] + sizes[1] + answer[108:] + bytes(1000))
-    mine = in_folder("tried-by-all")
-    os.chmod(folder, 0o755)
-    os.chmod(shutil.copy(program, mine), 0o755)
-    out_cases.try_all(check, mine, folder, longer, answer)
-
-
-def try_terminals() -> None:
-    """What a terminal is told: the table of terminal_cases.py."""
-    empty = without_classes()
-    damaged = empty[:8] + bytes(4) + empty[12:]
-    for what, is_so, seen in terminal_cases.tries(os.path.abspath(program), folder, empty, damaged):
-        check(what, is_so, repr(seen)[:300])
 
 
 def as_nobody() -> None:
     os.setgroups([])
     os.setgid(65534)
     os.setuid(65534)
-
-
-def run_as_nobody(*words: str, given: bytes = b"") -> Ended:
-    """As a user who owns nothing here; by a copy of the program, which that user can reach."""
-    mine = in_folder("program")
-    if not os.path.exists(mine):
-        os.chmod(folder, 0o755)
-        os.chmod(shutil.copy(program, mine), 0o755)
-    return ended([mine, *words], LIMIT, input=given, capture_output=True, preexec_fn=as_nobody)
-
-
-def try_out_as_another(empty: bytes, home: str, out: str) -> None:
-    def strips() -> tuple[int | str, str]:
-        status, _, said = run_as_nobody("strip", "--output", out, given=empty)
-        return status, said
-
-    for mode, folder_mode, want, is_written in (
-        (0o444, 0o755, (3, CANNOT_WRITE), False),
-        (0o666, 0o755, (0, ""), True),
-        (0o444, 0o777, (3, CANNOT_WRITE), False),
-    ):
-        put("home/out.dex", b"kept")
-        os.chmod(out, mode)
-        os.chmod(home, folder_mode)
-        said = strips()
-        is_so = said == want and get(out) == (empty if is_written else b"kept")
-        check(f"OUT of mode {mode:o} in a folder of mode {folder_mode:o}", is_so, said)
-    try_out_in_place(empty, home, out, strips)
-    os.chown(out, 65534, 65534)
-    os.chmod(out, 0o644)
-    answers("strip over a file of another user", b"", "strip", "--output", out, given=empty)
-    owner = os.stat(out)
-    check("OUT has its owner", (owner.st_uid, owner.st_gid, get(out)) == (65534, 65534, empty), owner)
-    os.chmod(home, 0o755)
-
-
-def try_out_in_place(empty: bytes, home: str, out: str, strips: Callable[[], tuple[int | str, str]]) -> None:
-    """What can be written and not replaced: another user's file in a sticky folder, a mount point."""
-    put("home/out.dex", b"kept")
-    os.chmod(out, 0o666)
-    os.chmod(home, 0o1777)
-    said = strips()
-    # (where the system protects such files, nobody may write them)
-    is_so = (said, get(out)) == ((0, ""), empty) or (said, get(out)) == ((3, CANNOT_WRITE), b"kept")
-    check("OUT is another user's, in a sticky folder", is_so and os.listdir(home) == ["out.dex"], (said, os.listdir(home)))
-    source = put("mounted", b"kept")
-    if subprocess.run(["mount", "--bind", source, out], stderr=subprocess.DEVNULL).returncode == 0:
-        answers("OUT is a mount point", b"", "strip", "--output", out, given=empty)
-        subprocess.run(["umount", "-l", out], check=True)
-        check("OUT is a mount point: it was written", get(source) == empty and os.listdir(home) == ["out.dex"], os.listdir(home))
-        try_out_in_full(home, out)
-
-
-def try_out_in_full(home: str, out: str) -> None:
-    """A mount point whose disk has no room: the answer isn't lost."""
-    disk, part = os.path.join(home, "disk"), out + ".0.part"
-    os.mkdir(disk)
-    if subprocess.run(["mount", "-t", "tmpfs", "-o", "size=4k", "tmpfs", disk], stderr=subprocess.DEVNULL).returncode != 0:
-        return
-    put("home/disk/file", b"kept")
-    subprocess.run(["mount", "--bind", os.path.join(disk, "file"), out], check=True)
-    classes = "".join(f"class LA{number}; 0x1\nend class\n" for number in range(1000))
-    text = ("dex 035 listing 2\n" + classes).encode()
-    tells("OUT is on a full disk", 3, CANNOT_WRITE, "assemble", "--output", out, given=text)
-    answers("the file that stays is the answer", get(part), "assemble", given=text)
-    for place in (out, disk):
-        subprocess.run(["umount", "-l", place], check=True)
-    os.remove(part)
-    os.rmdir(disk)
-
-
-def try_closed_doors() -> None:
-    """Files and folders that another user may not read, search or write."""
-    home = in_folder("doors")
-    os.mkdir(home)
-    file, out = put("doors/a.dex", without_classes()), os.path.join(home, "none")
-    refused, done = (3, b"", CANNOT_READ), (0, b"ok\n", "")
-    cases = ((0o644, 0o755, done), (0o600, 0o755, refused), (0o644, 0o711, done), (0o644, 0o600, refused))
-    for mode, folder_mode, want in cases:
-        os.chmod(file, mode)
-        os.chmod(home, folder_mode)
-        said = run_as_nobody("check", file)
-        check(f"a FILE of mode {mode:o} in a folder of mode {folder_mode:o}", said == want, said)
-    for mode in (0o600, 0o755):
-        os.chmod(home, mode)
-        said = run_as_nobody("strip", "--output", out, given=without_classes())
-        check(f"a new OUT in a folder of mode {mode:o}", said == (3, b"", CANNOT_WRITE), said)
-    os.chmod(home, 0o777)
-    os.chmod(file, 0o600)
-    said = run_as_nobody("strip", file, "--output", out)
-    check("a FILE that can't be read: OUT isn't made", said == refused and not os.path.exists(out), said)
-
-
-def shell(command: str, home: str, given: bytes | None = None) -> tuple[int | str, str]:
-    """What bash prints of this command in that folder, where `dexasm` is the program."""
-    env = {**os.environ, "PATH": os.pathsep.join([in_folder("bin"), os.path.join(TOP, "contrib/bin"), os.environ["PATH"]])}
-    status, out, _ = ended(["bash", "-c", command], LIMIT, cwd=home, env=env, input=given, stdout=subprocess.PIPE, stderr=subprocess.STDOUT)
-    return status, out.decode()
-
-
-def try_readme() -> None:
-    """README's session and recipes, as they stand there."""
-    os.mkdir(in_folder("bin"))
-    os.symlink(program, in_folder("bin", "dexasm"))
-    home = in_folder("session")
-    os.mkdir(home)
-    with open(os.path.join(TOP, "README.md"), encoding="utf8") as file:
-        text = file.read()
-    session = sought(r"```console\n(.*?)```", text, re.S).group(1)
-    for step in re.split(r"^\$ ", session, flags=re.M)[1:]:
-        command, _, rest = step.partition("\n")
-        is_typed = command.startswith("cat >")
-        _, said = shell(command, home, rest.encode() if is_typed else None)
-        check(f"README: {command}", said == ("" if is_typed else rest), repr(said[:200]))
-    recipes = [
-        line for line in sought(r"```bash\n(.*?)```", text, re.S).group(1).splitlines() if not line.startswith("#")
-    ]
-    shell("dexasm assemble hello.txt --output a.dex; sed s/41/43/ hello.txt | dexasm assemble --output b.dex; cp a.dex build1.dex", home)
-    shell("cp a.dex build2.dex; cp a.dex classes.dex; git init -q . 2>/dev/null", home)
-    with zipfile.ZipFile(os.path.join(home, "app.apk"), "w") as apk:
-        apk.write(os.path.join(home, "a.dex"), "classes.dex")
-        apk.writestr("classes2.dex", b"no file")
-    refused = "classes2.dex: dexasm: refused 1 TooShort at 7\n"
-    wants = (
-        "  SHA-256  ", "-const/16 v0 41\n+const/16 v0 43\n", "all\n", "both define LHello;", "", refused, "a.dex: ok\n", "a.txt",
-        "end class\n", "ok\n", "", "", "a.dex: ok\n", "a.dex: ok\n", "", "", "",
-    )
-    check("README: as many recipes as are tried", len(recipes) == len(wants), recipes)
-    for recipe, want in zip(recipes, wants):
-        _, said = shell(recipe, home)
-        check(f"README: {recipe}", want in said, repr(said[:200]))
-    check("README: a constant is changed", "v0 42\n" in shell("dexasm list b.dex", home)[1])
 
 
 def changed(at: int, given: bytes, size: int | None = None) -> bytes:
@@ -467,70 +75,21 @@ def changed(at: int, given: bytes, size: int | None = None) -> bytes:
     return closed(bytes(file[32:]))
 
 
-def try_hostile() -> None:
-    """Sizes, offsets and counts that lie: each is told, in no more memory than a file takes."""
-    ends = (112, 128, 140, 152, 160, 192, 376)
-    for first, end, place in zip(ends, ends[1:], (56, 64, 72, 88, 96, 104)):
-        for size in range(first, end):
-            tells(f"cut to {size} bytes", 1, f"dexasm: refused 10 SectionRange at {place}\n", "check", given=changed(0, b"", size))
-    sizes = {56: 268, 64: 280, 72: 292, 88: 304, 96: 316}
-    for at, place in sizes.items():
-        tells(f"no rows by {at}", 1, f"dexasm: refused 13 MapEntry at {place}\n", "check", given=changed(at, bytes(4)))
-    tells("no data section", 1, "dexasm: refused 12 MapPlace at 52\n", "check", given=changed(104, bytes(4)))
-    for at in (56, 64, 72, 80, 88, 96, 104):
-        tells(f"the most rows by {at}", 1, f"dexasm: refused 10 SectionRange at {at}\n", "check", given=changed(at, b"\xff" * 4))
-    tells("a link section", 1, "dexasm: refused 7 Linked at 44\n", "check", given=changed(44, b"\xff" * 4))
-    for at in (48, 84, 0xB4, 0xC8):
-        answers(f"strip of an offset that isn't looked at, {at}", changed(0, b""), "strip", given=changed(at, b"\xff" * 4))
-    for count, line in ((0, "14 MapMissing"), (9, "14 MapMissing"), (11, "12 MapPlace"), (0xFFFFFFFF, "12 MapPlace")):
-        tells(f"a map of {count} entries", 1, f"dexasm: refused {line} at 52\n", "check", given=changed(0xFC, struct.pack("<I", count)))
-    for at, byte, line in (
-        (0x70, 0xC0, "20 StringPlace at 112"),
-        (0x94, 0xC0, "28 ParameterList at 140"),
-        (0xAC, 0xC0, "43 InterfaceList at 160"),
-        (0xB8, 0xD2, "44 ClassData at 160"),
-        (0xBC, 0xF1, "48 Values at 160"),
-        (0xF7, 0xD4, "60 CodePlace at 212"),
-    ):
-        tells(f"an item elsewhere, by {at:#x}", 1, f"dexasm: refused {line}\n", "check", given=changed(at, bytes([byte])))
-    most = changed(0xF1, b"\xff\xff\xff\xff\x0f")
-    tells("4294967295 static fields", 1, "dexasm: refused 44 ClassData at 160\n", "check", given=most, preexec_fn=limited(48 * MEGABYTE))
-    for rows, line in ((65536, "11 TooManyRows at 64"), (65535, "12 MapPlace at 52")):
-        header = struct.pack("<6I", 262256, 0x70, 0x12345678, 0, 0, 0) + bytes(8) + struct.pack("<2I", rows, 0x70) + bytes(40)
-        tells(f"{rows} types", 1, f"dexasm: refused {line}\n", "check", given=closed(header + bytes(262144)))
-
-
 def of_handlers(order: Sequence[int]) -> File:
     """A file with three tries and a handler for each: of 1 catch, of 30,000 and of 5,000, which begin in the list at 1, 4 and 60007."""
 
     def body(file: File) -> bytes:
         caught = uleb(file.type_at["LE;"]) + uleb(0)
         handlers = uleb(3) + b"".join(sleb(n) + caught * n for n in (1, 30000, 5000))
-        return code([0] * 4 + [0x0E], tries=b"".join(struct.pack("<IHH", i, 1, at) for i, at in enumerate(order)) + handlers, count=3)
+        return code(
+            [0] * 4 + [0x0E],
+            tries=b"".join(struct.pack("<IHH", i, 1, at) for i, at in enumerate(order)) + handlers,
+            count=3,
+        )
 
     file = File()
     file.type("LE;")
     return file_of_body(file, body)
-
-
-def try_limits() -> None:
-    """The limits that a program can break which a file means: strip tells them, and check doesn't ask."""
-    path = in_folder("limit.dex")
-
-    def write(file: File) -> None:
-        file.index()
-        file.write(path)
-
-    # in the order of first use the last of them begins at 70006
-    write(of_handlers((4, 60007, 1)))
-    answers("check of handlers of which the first is used last", b"ok\n", "check", path)
-    tells("strip of them", 1, "dexasm: refused 89 HandlerTooFar at 0\n", "strip", path)
-    write(of_handlers((1, 4, 60007)))
-    answers("strip of handlers in the order of first use", get(path), "strip", path)
-    # 47,000 times the plain sum of one, of 26 + 2 * 47,000 bytes
-    write(shared_code(47000))
-    answers("check of 47,000 methods with one code", b"ok\n", "check", path)
-    tells("strip of them", 1, "dexasm: refused 90 TooBig at 0\n", "strip", path)
 
 
 def code_off_of(file: bytes) -> int | None:
@@ -542,21 +101,6 @@ def code_off_of(file: bytes) -> int | None:
         if byte < 0x80:
             return number
     return None
-
-
-def try_each_byte() -> None:
-    """Each byte of the file from 0x20 on, made 0, 7f, 80 and ff: a program, or a fault at a place of the file or where a code is said to be."""
-    for at in range(0x20, len(ONE_CLASS)):
-        for byte in (0, 0x7F, 0x80, 0xFF):
-            file = changed(at, bytes([byte]))
-            status, out, said = run("check", given=file)
-            fault = re.fullmatch(r"dexasm: refused (\d+) \w+ at (\d+)\n", said)
-            is_so = (status, out, said) == (0, b"ok\n", "")
-            if status == 1 and fault:
-                number, place = map(int, fault.groups())
-                is_so = place == code_off_of(file) if number == 60 else place <= 376
-            check(f"byte {at:#x} made {byte:#x}", is_so, f"{status} {said!r}")
-    tells("byte 0xf8 made 7f", 1, "dexasm: refused 60 CodePlace at 16320\n", "check", given=changed(0xF8, b"\x7f"))
 
 
 # Two faults of one row, entry or instruction: the bytes of the file that are changed, and the fault that is told of the two.
@@ -575,101 +119,719 @@ PAIRS = (
 )
 
 
-def try_pairs() -> None:
-    """Of two faults of one row, entry or instruction the first in FORMAT's order is told, by check, list and strip alike."""
-    for bytes_there, line in PAIRS:
-        file = bytearray(ONE_CLASS)
-        for at, byte in (each.split("=") for each in bytes_there.split()):
-            file[int(at, 16)] = int(byte, 16)
-        for job in ("check", "list", "strip"):
-            tells(f"{job} of {bytes_there}", 1, f"dexasm: refused {line}\n", job, given=closed(bytes(file[32:])))
+class ProgramTest(TestCase):
+    """A test of the program, with a folder of its own."""
+
+    def setUp(self) -> None:
+        self.program, self.folder = tried.program(), self.new_folder()
+
+    def dexasm(self, *words: str | bytes, given: bytes = b"", **options: Any) -> Ended:
+        """Runs the program; answers status, standard output, standard error."""
+        if "stdin" not in options:
+            options["input"] = given
+        options.setdefault("stdout", subprocess.PIPE)
+        return ended([self.program, *words], LIMIT, stderr=subprocess.PIPE, **options)
+
+    def answers(self, what: str, want: bytes, *words: str, **options: Any) -> None:
+        """It answers these bytes, status 0, and nothing on standard error."""
+        status, out, said = self.dexasm(*words, **options)
+        self.check_equal(what, (status, out, said), (0, want, ""))
+
+    def tells(self, what: str, status: int, line: str, *words: str, **options: Any) -> None:
+        """It ends with this status and this line, and answers nothing."""
+        got, out, said = self.dexasm(*words, **options)
+        self.check_equal(what, (got, out or b"", said), (status, b"", line))
+
+    def misuses(self, what: str, *words: str) -> None:
+        """Wrong words: status 2, clap's text, which shows where the usage is."""
+        status, out, said = self.dexasm(*words)
+        is_so = (
+            status == 2
+            and out == b""
+            and said.startswith("error: ")
+            and said.endswith("For more information, try '--help'.\n")
+        )
+        is_so = is_so and all(char.isprintable() or char == "\n" for char in said)
+        self.check(what, is_so, f"{status} {out[:60]!r} {said[:200]!r}")
+
+    def in_folder(self, *names: str) -> str:
+        return os.path.join(self.folder, *names)
+
+    def put(self, name: str, given: bytes) -> str:
+        with open(self.in_folder(name), "wb") as file:
+            file.write(given)
+        return self.in_folder(name)
 
 
-def try_memory() -> None:
-    """An input of 64 MB where 48 MB can be had."""
-    path = put("long", bytes(64 * MEGABYTE))
-    for job in JOBS:
-        line = "dexasm: out of memory\n"
-        tells(f"{job} of more than there is memory", 4, line, job, path, preexec_fn=limited(48 * MEGABYTE))
-        tells(f"{job} of more, with OUT", 4, line, job, path, "--output", in_folder("none"), preexec_fn=limited(48 * MEGABYTE))
-        check(f"{job} of more: OUT isn't made", not os.path.exists(in_folder("none")))
-    os.remove(path)
+class Words(ProgramTest):
+    def test_words(self) -> None:
+        words: list[str] | str
+        for what, *words in (
+            ("no words",),
+            ("another command", "disassemble"),
+            ("help as a command", "help"),
+            ("an option before the command", "--output", "x", "check"),
+            ("two files", "check", "a", "b"),
+            ("--output without a file", "check", "--output"),
+            ("--output twice", "check", "--output", "a", "--output", "b"),
+            ("another option", "list", "--all"),
+            ("--align of check", "check", "--align"),
+            ("--align of list", "list", "--align"),
+            ("--align of strip", "strip", "--align"),
+            ("--align with a value", "assemble", "--align=yes"),
+            ("--align twice", "assemble", "--align", "--align"),
+        ):
+            self.misuses(what, *words)
+        self.misuses("a wrong word that a terminal would obey", "\x1b[31mred")
+        self.misuses("an option that it would", "check", "--\x1b]0;title\x07\u009b")
+        status, out, said = self.dexasm(b"check", b"\xff.dex")
+        self.check(
+            "words that aren't UTF-8", (status, out) == (2, b"") and said.startswith("dexasm: "), f"{status} {said!r}"
+        )
+        for words in (["--help"], ["-h"]) + tuple([job, flag] for job in JOBS for flag in ("--help", "-h")):
+            status, out, said = self.dexasm(*words)
+            text = out.decode()
+            is_so = (
+                status == 0
+                and said == ""
+                and "Usage: dexasm" in text
+                and "Example: dexasm" in text
+                and "version 035" in text
+            )
+            self.check(" ".join(words), is_so, f"{status} {text[:200]!r} {said!r}")
+        for flag in ("--version", "-V"):
+            self.answers(flag, f"dexasm {VERSION}\n".encode(), flag)
+        self.misuses("--version of a command", "check", "--version")
+        text = self.dexasm("--help")[1].decode()
+        self.check("--help begins with the version", text.startswith(f"dexasm {VERSION}\n"), text[:80])
+        self.check("--help names each command", all(f"\n  {job} " in text for job in JOBS), text)
+        with open("/dev/full", "wb") as full:
+            self.tells("--help to a full device", 3, CANNOT_WRITE, "--help", stdout=full)
+            self.tells("--version to a full device", 3, CANNOT_WRITE, "--version", stdout=full)
+        for what, end in (("closed", ">&-"), ("full", "> /dev/full")):
+            for words, status in (("disassemble", 2), ("check --all", 2), ("check no-such-file", 3)):
+                done = subprocess.run(["sh", "-c", f'"$0" {words} 2{end}', self.program], stdout=subprocess.PIPE)
+                self.check_equal(
+                    f"{words}, where standard error is {what}", (done.returncode, done.stdout), (status, b"")
+                )
+
+    def test_terminals(self) -> None:
+        """What a terminal is told: the table of terminal_cases.py."""
+        empty = without_classes()
+        damaged = empty[:8] + bytes(4) + empty[12:]
+        for what, is_so, seen in terminal_cases.cases_of(os.path.abspath(self.program), self.folder, empty, damaged):
+            self.check(what, is_so, repr(seen)[:300])
+
+    def shell(self, command: str, home: str, given: bytes | None = None) -> tuple[int | str, str]:
+        """What bash prints of this command in that folder, where `dexasm` is the program."""
+        env = {
+            **os.environ,
+            "PATH": os.pathsep.join([self.in_folder("bin"), os.path.join(TOP, "contrib/bin"), os.environ["PATH"]]),
+        }
+        status, out, _ = ended(
+            ["bash", "-c", command],
+            LIMIT,
+            cwd=home,
+            env=env,
+            input=given,
+            stdout=subprocess.PIPE,
+            stderr=subprocess.STDOUT,
+        )
+        return status, out.decode()
+
+    def test_readme(self) -> None:
+        """README's session and recipes, as they stand there."""
+        os.mkdir(self.in_folder("bin"))
+        os.symlink(self.program, self.in_folder("bin", "dexasm"))
+        home = self.in_folder("session")
+        os.mkdir(home)
+        with open(os.path.join(TOP, "README.md"), encoding="utf8") as file:
+            text = file.read()
+        session = sought(r"```console\n(.*?)```", text, re.S).group(1)
+        for step in re.split(r"^\$ ", session, flags=re.M)[1:]:
+            command, _, rest = step.partition("\n")
+            is_typed = command.startswith("cat >")
+            _, said = self.shell(command, home, rest.encode() if is_typed else None)
+            self.check_equal(f"README: {command}", said, "" if is_typed else rest)
+        recipes = [
+            line for line in sought(r"```bash\n(.*?)```", text, re.S).group(1).splitlines() if not line.startswith("#")
+        ]
+        self.shell(
+            "dexasm assemble hello.txt --output a.dex; sed s/41/43/ hello.txt | dexasm assemble --output b.dex; cp a.dex build1.dex",
+            home,
+        )
+        self.shell("cp a.dex build2.dex; cp a.dex classes.dex; git init -q . 2>/dev/null", home)
+        with zipfile.ZipFile(os.path.join(home, "app.apk"), "w") as apk:
+            apk.write(os.path.join(home, "a.dex"), "classes.dex")
+            apk.writestr("classes2.dex", b"no file")
+        refused = "classes2.dex: dexasm: refused 1 TooShort at 7\n"
+        wants = (
+            "  SHA-256  ",
+            "-const/16 v0 41\n+const/16 v0 43\n",
+            "all\n",
+            "both define LHello;",
+            "",
+            refused,
+            "a.dex: ok\n",
+            "a.txt",
+            "end class\n",
+            "ok\n",
+            "",
+            "",
+            "a.dex: ok\n",
+            "a.dex: ok\n",
+            "",
+            "",
+            "",
+        )
+        self.check("README: as many recipes as are tried", len(recipes) == len(wants), recipes)
+        for recipe, want in zip(recipes, wants):
+            _, said = self.shell(recipe, home)
+            self.check(f"README: {recipe}", want in said, repr(said[:200]))
+        self.check("README: a constant is changed", "v0 42\n" in self.shell("dexasm list b.dex", home)[1])
 
 
-def try_texts() -> None:
-    """Listings as editors and other tools leave them, and files that are named otherwise."""
-    crlf, at_line = LISTING.replace("\n", "\r\n"), LISTING.splitlines()
-    for what, line, given in (
-        ("lines that end with CR", "100 Word at 1", crlf.encode()),
-        ("a byte order mark", "100 Word at 1", b"\xef\xbb\xbf" + LISTING.encode()),
-        ("a tab", "100 Word at 2", LISTING.replace("class LA;", "class\tLA;").encode()),
-        ("a byte above ASCII", "100 Word at 2", LISTING.encode().replace(b"class LA;", b"class L\xc3\xa4;")),
-        ("a zero byte", "100 Word at 2", LISTING.encode().replace(b"class LA;", b"class LA\0;")),
-        ("no text", "106 NotEnded at 0", b""),
-        ("an empty line alone", "106 NotEnded at 1", b"\n"),
-    ):
-        tells(f"assemble of {what}", 1, f"dexasm: refused {line}\n", "assemble", given=given)
-    made = run("assemble", given=LISTING.encode())[1]
-    for what, given in (
-        ("no line feed at the end", LISTING.rstrip("\n").encode()),
-        ("comments of any bytes", b"# \xc3\xa4 \0 \r\n" + LISTING.replace("\n", "\n# \u00e4\n").encode()),
-        ("spaces before, between and after", "".join(f"  {line.replace(' ', '   ')} \n\n" for line in at_line).encode()),
-    ):
-        answers(f"assemble of {what}", made, "assemble", given=given)
-    link = in_folder("dangling")
-    os.symlink("no-such", link)
-    for name in ("", link, folder + "/"):
-        tells(f"check of a file named {name!r}", 3, CANNOT_READ, "check", "--", name)
-    os.remove(link)
-    nothing = put("nothing", b"")
-    for job in JOBS:
-        line = "106 NotEnded at 0" if job == "assemble" else "1 TooShort at 0"
-        tells(f"{job} of an empty FILE", 1, f"dexasm: refused {line}\n", job, nothing)
+class Answers(ProgramTest):
+    def test_answers(self) -> None:
+        empty = without_classes()
+        file = self.dexasm("assemble", given=LISTING.encode())[1]
+        path = self.put("a.dex", file)
+        listing = self.put("a.txt", LISTING.encode())
+        self.answers("check of a file without classes", b"ok\n", "check", given=empty)
+        self.answers("check of an assembled listing", b"ok\n", "check", given=file)
+        self.check_equal("the assembled listing", file, closed(ONE_CLASS[32:]))
+        self.answers("check FILE", b"ok\n", "check", path)
+        self.answers("list", LISTING.encode(), "list", given=file)
+        self.answers("list FILE", LISTING.encode(), "list", path)
+        self.answers("assemble FILE", file, "assemble", listing)
+        self.answers("strip of what is stripped", file, "strip", given=file)
+        self.answers("strip FILE", file, "strip", path)
+        self.answers("list of a file without classes", b"dex 035 listing 2\n", "list", given=empty)
+        self.answers("assemble of no classes", empty, "assemble", given=b"dex 035 listing 2\n")
+        self.answers("assemble of the first form", file, "assemble", given=NUMBERED.encode())
+        self.answers("assemble --align where nothing is odd", file, "assemble", "--align", given=LISTING.encode())
+        aligned = self.dexasm("assemble", "--align", given=ODD.encode())[1]
+        self.answers("assemble --align moves", b"ok\n", "check", given=aligned)
+        text = self.dexasm("list", given=aligned)[1].decode()
+        self.check(
+            "a nop stands before the payload",
+            "\n:L0\npacked-switch v0 :L2\nnop\n:L2\npacked-switch-payload 0 :L0\n" in text,
+            text,
+        )
+        for job, given, want in (
+            ("check", path, b"ok\n"),
+            ("list", path, LISTING.encode()),
+            ("assemble", listing, file),
+            ("strip", path, file),
+        ):
+            made = self.put("out", b"x" * 100000)
+            self.answers(f"{job} --output", b"", job, given, "--output", made)
+            self.check_equal(f"{job} --output: what is written", get(made), want)
+            os.remove(made)
+            self.answers(f"{job} --output=, from standard input", b"", job, f"--output={made}", given=get(given))
+            self.check_equal(f"{job} --output=: what is written", get(made), want)
+        same = self.put("same", without_classes(1000))
+        self.answers("strip with OUT that is FILE", b"", "strip", same, "--output", same)
+        self.check_equal("OUT that is FILE is written anew", get(same), empty)
+        os.link(same, self.in_folder("name"))
+        self.answers(
+            "list with OUT that is another name of FILE", b"", "list", same, "--output", self.in_folder("name")
+        )
+        self.check_equal("OUT that is another name of FILE", get(same), b"dex 035 listing 2\n")
+
+    def test_refusals(self) -> None:
+        file = self.dexasm("assemble", given=LISTING.encode())[1]
+        changed = file[:-1] + b"\1"
+        for what, line, job, given in (
+            ("nothing", "1 TooShort at 0", "check", b""),
+            ("another version", "3 Version at 4", "check", file[:4] + b"037" + file[7:]),
+            ("a changed byte", "8 Checksum at 8", "check", changed),
+            ("list of a changed byte", "8 Checksum at 8", "list", changed),
+            ("strip of a changed byte", "8 Checksum at 8", "strip", changed),
+            ("list of a listing", "2 Magic at 0", "list", b"dex 035\n".ljust(112, b"#")),
+            ("assemble of a file", "100 Word at 1", "assemble", file),
+            (
+                "a listing that isn't ended",
+                "106 NotEnded at 7",
+                "assemble",
+                LISTING.replace("end class\n", "").encode(),
+            ),
+            (
+                "a rule of programs",
+                "115 Target at 0",
+                "assemble",
+                LISTING.replace("return-void", ":a\ngoto :a").encode(),
+            ),
+            ("a payload at an odd address", "86 Misaligned at 0", "assemble", ODD.encode()),
+        ):
+            self.tells(what, 1, f"dexasm: refused {line}\n", job, given=given)
+            same = self.put("same", given)
+            self.tells(f"{what}, with OUT that is FILE", 1, f"dexasm: refused {line}\n", job, same, "--output", same)
+            self.check_equal(f"{what}: OUT that is FILE is as it was", get(same), given)
+            self.tells(
+                f"{what}, with OUT", 1, f"dexasm: refused {line}\n", job, same, "--output", self.in_folder("none")
+            )
+            self.check(f"{what}: OUT isn't made", not os.path.exists(self.in_folder("none")))
+
+    def test_texts(self) -> None:
+        """Listings as editors and other tools leave them, and files that are named otherwise."""
+        crlf, at_line = LISTING.replace("\n", "\r\n"), LISTING.splitlines()
+        for what, line, given in (
+            ("lines that end with CR", "100 Word at 1", crlf.encode()),
+            ("a byte order mark", "100 Word at 1", b"\xef\xbb\xbf" + LISTING.encode()),
+            ("a tab", "100 Word at 2", LISTING.replace("class LA;", "class\tLA;").encode()),
+            ("a byte above ASCII", "100 Word at 2", LISTING.encode().replace(b"class LA;", b"class L\xc3\xa4;")),
+            ("a zero byte", "100 Word at 2", LISTING.encode().replace(b"class LA;", b"class LA\0;")),
+            ("no text", "106 NotEnded at 0", b""),
+            ("an empty line alone", "106 NotEnded at 1", b"\n"),
+        ):
+            self.tells(f"assemble of {what}", 1, f"dexasm: refused {line}\n", "assemble", given=given)
+        made = self.dexasm("assemble", given=LISTING.encode())[1]
+        for what, given in (
+            ("no line feed at the end", LISTING.rstrip("\n").encode()),
+            ("comments of any bytes", b"# \xc3\xa4 \0 \r\n" + LISTING.replace("\n", "\n# \u00e4\n").encode()),
+            (
+                "spaces before, between and after",
+                "".join(f"  {line.replace(' ', '   ')} \n\n" for line in at_line).encode(),
+            ),
+        ):
+            self.answers(f"assemble of {what}", made, "assemble", given=given)
+        link = self.in_folder("dangling")
+        os.symlink("no-such", link)
+        for name in ("", link, self.folder + "/"):
+            self.tells(f"check of a file named {name!r}", 3, CANNOT_READ, "check", "--", name)
+        os.remove(link)
+        nothing = self.put("nothing", b"")
+        for job in JOBS:
+            line = "106 NotEnded at 0" if job == "assemble" else "1 TooShort at 0"
+            self.tells(f"{job} of an empty FILE", 1, f"dexasm: refused {line}\n", job, nothing)
+
+    def test_ends(self) -> None:
+        empty, path = without_classes(), self.put("empty.dex", without_classes())
+        for job in JOBS:
+            self.tells(f"{job} of no such file", 3, CANNOT_READ, job, self.in_folder("no-such"))
+            self.tells(f"{job} of a folder", 3, CANNOT_READ, job, self.folder)
+            with open(self.folder + "/w", "wb") as file:
+                self.tells(f"{job} of an input that can't be read", 3, CANNOT_READ, job, stdin=file)
+            self.tells(
+                f"{job} of a folder, with OUT", 3, CANNOT_READ, job, self.folder, "--output", self.in_folder("none")
+            )
+            self.check(f"{job} of a folder: OUT isn't made", not os.path.exists(self.in_folder("none")))
+        for job, given in (("check", empty), ("list", empty), ("assemble", b"dex 035\n"), ("strip", empty)):
+            self.tells(f"{job} to a folder", 3, CANNOT_WRITE, job, "--output", self.folder, given=given)
+            self.tells(
+                f"{job} below no such folder",
+                3,
+                CANNOT_WRITE,
+                job,
+                "--output",
+                self.in_folder("no", "such"),
+                given=given,
+            )
+            self.tells(f"{job} to no name", 3, CANNOT_WRITE, job, "--output", "", given=given)
+            self.tells(f"{job} to OUT that is full", 3, CANNOT_WRITE, job, "--output", "/dev/full", given=given)
+            with open("/dev/full", "wb") as full:
+                self.tells(f"{job} to a full device", 3, CANNOT_WRITE, job, given=given, stdout=full)
+            with open(path, "rb") as file:
+                self.tells(f"{job} to an output that can't be written", 3, CANNOT_WRITE, job, given=given, stdout=file)
+            self.answers(f"{job} to OUT that is a device", b"", job, "--output", "/dev/null", given=given)
+        os.mkfifo(self.in_folder("pipe"))
+        feeder = subprocess.Popen(["sh", "-c", 'cat "$1" > "$2"', "sh", path, self.in_folder("pipe")])
+        self.answers("check of a named pipe", b"ok\n", "check", self.in_folder("pipe"))
+        feeder.wait()
+        reader = subprocess.Popen(["cat", self.in_folder("pipe")], stdout=subprocess.PIPE)
+        self.answers("strip to a named pipe", b"", "strip", "--output", self.in_folder("pipe"), given=empty)
+        self.check_equal("the pipe has the answer", reader.communicate()[0], empty)
+        slow = subprocess.Popen([self.program, "check"], stdin=subprocess.PIPE, stdout=subprocess.PIPE)
+        assert slow.stdin is not None  # (a pipe)
+        for at in range(0, 140, 35):
+            slow.stdin.write(empty[at : at + 35])
+            slow.stdin.flush()
+            time.sleep(0.05)
+        self.check("an input that comes in pieces", slow.communicate()[0] == b"ok\n" and slow.returncode == 0)
 
 
-def try_big() -> None:
-    """10 MB in the shape of an app, through each command."""
-    path = in_folder("big.dex")
-    subprocess.run([sys.executable, "bench/read/make.py", "apps", "1500", path], check=True)
-    text, again, small = in_folder("big.txt"), in_folder("again.dex"), in_folder("small.dex")
-    answers("check of 10 MB", b"ok\n", "check", path)
-    answers("list of 10 MB", b"", "list", path, "--output", text)
-    listing = get(text)
-    answers("list of 10 MB to a pipe", listing, "list", path)
-    answers("assemble of 10 MB", b"", "assemble", text, "--output", again)
-    answers("check of 10 MB assembled", b"ok\n", "check", again)
-    answers("list of 10 MB assembled", listing, "list", again)
-    answers("strip of 10 MB", b"", "strip", path, "--output", small)
-    check("strip gives what its listing gives", get(again) == get(small))
-    answers("a second strip changes nothing", get(small), "strip", small)
-    reader = subprocess.Popen([program, "list", path], stdout=subprocess.PIPE, stderr=subprocess.PIPE)
-    assert reader.stdout is not None and reader.stderr is not None  # (pipes)
-    begin = reader.stdout.read(1000)
-    reader.stdout.close()
-    said = reader.stderr.read().decode()
-    status = reader.wait()
-    check("a pipe that closes", (status, said) == (3, CANNOT_WRITE) and begin == listing[:1000], f"{status} {said!r}")
-    with open("/dev/full", "wb") as full:
-        tells("list of 10 MB to a full device", 3, CANNOT_WRITE, "list", path, stdout=full)
-    for job, given, megabytes in (("check", path, 26), ("list", path, 150), ("strip", path, 30), ("assemble", text, 200)):
-        line, limit = "dexasm: out of memory\n", limited(megabytes * MEGABYTE)
-        tells(f"{job} of 10 MB with {megabytes} MB", 4, line, job, given, preexec_fn=limit)
-        tells(f"{job} of 10 MB with {megabytes} MB, with OUT", 4, line, job, given, "--output", in_folder("none"), preexec_fn=limit)
-        check(f"{job} of 10 MB with {megabytes} MB: OUT isn't made", not os.path.exists(in_folder("none")))
+class Out(ProgramTest):
+    def test_out(self) -> None:
+        """OUT is as it was whatever fails, and what it was beside its bytes stays."""
+        empty = without_classes()
+        home = self.in_folder("home")
+        os.mkdir(home)
+        out, link = os.path.join(home, "out.dex"), os.path.join(home, "link")
+
+        def is_alone(*names: str) -> None:
+            self.check(f"nothing is left beside {names}", sorted(os.listdir(home)) == sorted(names), os.listdir(home))
+
+        self.put("home/out.dex", b"kept")
+        os.chmod(out, 0o640)
+        inode = os.stat(out).st_ino
+        self.answers("strip over a file", b"", "strip", "--output", out, given=empty)
+        self.check_equal("OUT has its mode", (get(out), stat.S_IMODE(os.stat(out).st_mode)), (empty, 0o640))
+        self.check("OUT is another file", os.stat(out).st_ino != inode)
+        os.symlink("out.dex", link)
+        self.answers("list through a link", b"", "list", "--output", link, given=empty)
+        self.check("the link stays", os.path.islink(link) and get(out) == b"dex 035 listing 2\n")
+        os.remove(out)
+        self.answers("strip through a link that leads nowhere", b"", "strip", "--output", link, given=empty)
+        self.check("the file is made where it leads", os.path.islink(link) and get(out) == empty)
+        os.remove(link)
+        self.put("home/out.dex.0.part", b"of somebody else")
+        self.answers("strip where the first name is taken", b"", "strip", "--output", out, given=empty)
+        self.check_equal("what is of somebody else stays", get(out + ".0.part"), b"of somebody else")
+        for number in range(100):
+            self.put(f"home/out.dex.{number}.part", b"of a run that was killed")
+        self.put("home/out.dex", b"kept")
+        self.tells(
+            "a refusal where a hundred names are taken",
+            1,
+            "dexasm: refused 1 TooShort at 0\n",
+            "strip",
+            "--output",
+            out,
+        )
+        self.check_equal("OUT is as it was where a hundred names are taken", get(out), b"kept")
+        self.answers("strip where a hundred names are taken", b"", "strip", "--output", out, given=empty)
+        self.check("OUT is written where a hundred names are taken", get(out) == empty and len(os.listdir(home)) == 101)
+        for number in range(100):
+            os.remove(f"{out}.{number}.part")
+        is_alone("out.dex")
+        # What is written in place: as it was after a refusal too.
+        second = os.path.join(home, "second")
+        self.put("home/out.dex", b"kept")
+        os.link(out, second)
+        self.tells(
+            "a refusal over a file with two names", 1, "dexasm: refused 1 TooShort at 0\n", "strip", "--output", out
+        )
+        self.check_equal("a file with two names is as it was", get(out), b"kept")
+        self.answers("strip over a file with two names", b"", "strip", "--output", out, given=empty)
+        self.check_equal(
+            "both names have the answer", (get(second), os.stat(out).st_ino), (empty, os.stat(second).st_ino)
+        )
+        os.remove(second)
+        is_alone("out.dex")
+        # No room: a file may not grow beyond 64 bytes.
+        self.put("home/out.dex", b"kept")
+
+        def limit() -> None:
+            signal.signal(signal.SIGXFSZ, signal.SIG_IGN)
+            resource.setrlimit(resource.RLIMIT_FSIZE, (64, 64))
+
+        self.tells(
+            "strip where there is no room", 3, CANNOT_WRITE, "strip", "--output", out, given=empty, preexec_fn=limit
+        )
+        self.check_equal("OUT is as it was where there is no room", get(out), b"kept")
+        is_alone("out.dex")
+        if os.geteuid() == 0:
+            self.check_out_as_another(empty, home, out)
+            self.check_closed_doors()
+
+    def test_out_cases(self) -> None:
+        """What a command leaves, by what OUT is: the table of out_cases.py, with an answer of half a megabyte."""
+        classes = "".join(f"class LA{number}; 0x1\nend class\n" for number in range(10000))
+        answer = self.dexasm("assemble", given=("dex 035 listing 2\n" + classes).encode())[1]
+        # (what strip takes off: zeros after the map)
+        data_size = struct.unpack_from("<I", answer, 104)[0]
+        sizes = [struct.pack("<I", size + 1000) for size in (len(answer), data_size)]
+        longer = closed(sizes[0] + answer[36:104] + sizes[1] + answer[108:] + bytes(1000))
+        mine = self.in_folder("tried-by-all")
+        os.chmod(self.folder, 0o755)
+        os.chmod(shutil.copy(self.program, mine), 0o755)
+        out_cases.check_all(self.check, mine, self.folder, longer, answer)
+
+    def run_as_nobody(self, *words: str, given: bytes = b"") -> Ended:
+        """As a user who owns nothing here; by a copy of the program, which that user can reach."""
+        mine = self.in_folder("program")
+        if not os.path.exists(mine):
+            os.chmod(self.folder, 0o755)
+            os.chmod(shutil.copy(self.program, mine), 0o755)
+        return ended([mine, *words], LIMIT, input=given, capture_output=True, preexec_fn=as_nobody)
+
+    def check_out_as_another(self, empty: bytes, home: str, out: str) -> None:
+        def strips() -> tuple[int | str, str]:
+            status, _, said = self.run_as_nobody("strip", "--output", out, given=empty)
+            return status, said
+
+        for mode, folder_mode, want, is_written in (
+            (0o444, 0o755, (3, CANNOT_WRITE), False),
+            (0o666, 0o755, (0, ""), True),
+            (0o444, 0o777, (3, CANNOT_WRITE), False),
+        ):
+            self.put("home/out.dex", b"kept")
+            os.chmod(out, mode)
+            os.chmod(home, folder_mode)
+            said = strips()
+            is_so = said == want and get(out) == (empty if is_written else b"kept")
+            self.check(f"OUT of mode {mode:o} in a folder of mode {folder_mode:o}", is_so, said)
+        self.check_out_in_place(empty, home, out, strips)
+        os.chown(out, 65534, 65534)
+        os.chmod(out, 0o644)
+        self.answers("strip over a file of another user", b"", "strip", "--output", out, given=empty)
+        owner = os.stat(out)
+        self.check("OUT has its owner", (owner.st_uid, owner.st_gid, get(out)) == (65534, 65534, empty), owner)
+        os.chmod(home, 0o755)
+
+    def check_out_in_place(
+        self, empty: bytes, home: str, out: str, strips: Callable[[], tuple[int | str, str]]
+    ) -> None:
+        """What can be written and not replaced: another user's file in a sticky folder, a mount point."""
+        self.put("home/out.dex", b"kept")
+        os.chmod(out, 0o666)
+        os.chmod(home, 0o1777)
+        said = strips()
+        # (where the system protects such files, nobody may write them)
+        is_so = (said, get(out)) == ((0, ""), empty) or (said, get(out)) == ((3, CANNOT_WRITE), b"kept")
+        self.check(
+            "OUT is another user's, in a sticky folder",
+            is_so and os.listdir(home) == ["out.dex"],
+            (said, os.listdir(home)),
+        )
+        source = self.put("mounted", b"kept")
+        if subprocess.run(["mount", "--bind", source, out], stderr=subprocess.DEVNULL).returncode == 0:
+            self.answers("OUT is a mount point", b"", "strip", "--output", out, given=empty)
+            subprocess.run(["umount", "-l", out], check=True)
+            self.check(
+                "OUT is a mount point: it was written",
+                get(source) == empty and os.listdir(home) == ["out.dex"],
+                os.listdir(home),
+            )
+            self.check_out_in_full(home, out)
+
+    def check_out_in_full(self, home: str, out: str) -> None:
+        """A mount point whose disk has no room: the answer isn't lost."""
+        disk, part = os.path.join(home, "disk"), out + ".0.part"
+        os.mkdir(disk)
+        if (
+            subprocess.run(
+                ["mount", "-t", "tmpfs", "-o", "size=4k", "tmpfs", disk], stderr=subprocess.DEVNULL
+            ).returncode
+            != 0
+        ):
+            return
+        self.put("home/disk/file", b"kept")
+        subprocess.run(["mount", "--bind", os.path.join(disk, "file"), out], check=True)
+        classes = "".join(f"class LA{number}; 0x1\nend class\n" for number in range(1000))
+        text = ("dex 035 listing 2\n" + classes).encode()
+        self.tells("OUT is on a full disk", 3, CANNOT_WRITE, "assemble", "--output", out, given=text)
+        self.answers("the file that stays is the answer", get(part), "assemble", given=text)
+        for place in (out, disk):
+            subprocess.run(["umount", "-l", place], check=True)
+        os.remove(part)
+        os.rmdir(disk)
+
+    def check_closed_doors(self) -> None:
+        """Files and folders that another user may not read, search or write."""
+        home = self.in_folder("doors")
+        os.mkdir(home)
+        file, out = self.put("doors/a.dex", without_classes()), os.path.join(home, "none")
+        refused, done = (3, b"", CANNOT_READ), (0, b"ok\n", "")
+        cases = ((0o644, 0o755, done), (0o600, 0o755, refused), (0o644, 0o711, done), (0o644, 0o600, refused))
+        for mode, folder_mode, want in cases:
+            os.chmod(file, mode)
+            os.chmod(home, folder_mode)
+            said = self.run_as_nobody("check", file)
+            self.check_equal(f"a FILE of mode {mode:o} in a folder of mode {folder_mode:o}", said, want)
+        for mode in (0o600, 0o755):
+            os.chmod(home, mode)
+            said = self.run_as_nobody("strip", "--output", out, given=without_classes())
+            self.check_equal(f"a new OUT in a folder of mode {mode:o}", said, (3, b"", CANNOT_WRITE))
+        os.chmod(home, 0o777)
+        os.chmod(file, 0o600)
+        said = self.run_as_nobody("strip", file, "--output", out)
+        self.check("a FILE that can't be read: OUT isn't made", said == refused and not os.path.exists(out), said)
 
 
-PARTS = (
-    try_words, try_answers, try_refusals, try_ends, try_out, try_out_cases, try_terminals, try_readme, try_hostile, try_limits, try_pairs,
-    try_each_byte, try_texts, try_memory, try_big,
-)
+class Faults(ProgramTest):
+    def test_hostile(self) -> None:
+        """Sizes, offsets and counts that lie: each is told, in no more memory than a file takes."""
+        ends = (112, 128, 140, 152, 160, 192, 376)
+        for first, end, place in zip(ends, ends[1:], (56, 64, 72, 88, 96, 104)):
+            for size in range(first, end):
+                self.tells(
+                    f"cut to {size} bytes",
+                    1,
+                    f"dexasm: refused 10 SectionRange at {place}\n",
+                    "check",
+                    given=changed(0, b"", size),
+                )
+        sizes = {56: 268, 64: 280, 72: 292, 88: 304, 96: 316}
+        for at, place in sizes.items():
+            self.tells(
+                f"no rows by {at}", 1, f"dexasm: refused 13 MapEntry at {place}\n", "check", given=changed(at, bytes(4))
+            )
+        self.tells("no data section", 1, "dexasm: refused 12 MapPlace at 52\n", "check", given=changed(104, bytes(4)))
+        for at in (56, 64, 72, 80, 88, 96, 104):
+            self.tells(
+                f"the most rows by {at}",
+                1,
+                f"dexasm: refused 10 SectionRange at {at}\n",
+                "check",
+                given=changed(at, b"\xff" * 4),
+            )
+        self.tells("a link section", 1, "dexasm: refused 7 Linked at 44\n", "check", given=changed(44, b"\xff" * 4))
+        for at in (48, 84, 0xB4, 0xC8):
+            self.answers(
+                f"strip of an offset that isn't looked at, {at}",
+                changed(0, b""),
+                "strip",
+                given=changed(at, b"\xff" * 4),
+            )
+        for count, line in (
+            (0, "14 MapMissing"),
+            (9, "14 MapMissing"),
+            (11, "12 MapPlace"),
+            (0xFFFFFFFF, "12 MapPlace"),
+        ):
+            self.tells(
+                f"a map of {count} entries",
+                1,
+                f"dexasm: refused {line} at 52\n",
+                "check",
+                given=changed(0xFC, struct.pack("<I", count)),
+            )
+        for at, byte, line in (
+            (0x70, 0xC0, "20 StringPlace at 112"),
+            (0x94, 0xC0, "28 ParameterList at 140"),
+            (0xAC, 0xC0, "43 InterfaceList at 160"),
+            (0xB8, 0xD2, "44 ClassData at 160"),
+            (0xBC, 0xF1, "48 Values at 160"),
+            (0xF7, 0xD4, "60 CodePlace at 212"),
+        ):
+            self.tells(
+                f"an item elsewhere, by {at:#x}",
+                1,
+                f"dexasm: refused {line}\n",
+                "check",
+                given=changed(at, bytes([byte])),
+            )
+        most = changed(0xF1, b"\xff\xff\xff\xff\x0f")
+        self.tells(
+            "4294967295 static fields",
+            1,
+            "dexasm: refused 44 ClassData at 160\n",
+            "check",
+            given=most,
+            preexec_fn=limited(48 * MEGABYTE),
+        )
+        for rows, line in ((65536, "11 TooManyRows at 64"), (65535, "12 MapPlace at 52")):
+            header = (
+                struct.pack("<6I", 262256, 0x70, 0x12345678, 0, 0, 0)
+                + bytes(8)
+                + struct.pack("<2I", rows, 0x70)
+                + bytes(40)
+            )
+            self.tells(f"{rows} types", 1, f"dexasm: refused {line}\n", "check", given=closed(header + bytes(262144)))
+
+    def test_limits(self) -> None:
+        """The limits that a program can break which a file means: strip tells them, and check doesn't ask."""
+        path = self.in_folder("limit.dex")
+
+        def write(file: File) -> None:
+            file.index()
+            file.write(path)
+
+        # in the order of first use the last of them begins at 70006
+        write(of_handlers((4, 60007, 1)))
+        self.answers("check of handlers of which the first is used last", b"ok\n", "check", path)
+        self.tells("strip of them", 1, "dexasm: refused 89 HandlerTooFar at 0\n", "strip", path)
+        write(of_handlers((1, 4, 60007)))
+        self.answers("strip of handlers in the order of first use", get(path), "strip", path)
+        # 47,000 times the plain sum of one, of 26 + 2 * 47,000 bytes
+        write(shared_code(47000))
+        self.answers("check of 47,000 methods with one code", b"ok\n", "check", path)
+        self.tells("strip of them", 1, "dexasm: refused 90 TooBig at 0\n", "strip", path)
+
+    def test_pairs(self) -> None:
+        """Of two faults of one row, entry or instruction the first in FORMAT's order is told, by check, list and strip alike."""
+        for bytes_there, line in PAIRS:
+            file = bytearray(ONE_CLASS)
+            for at, byte in (each.split("=") for each in bytes_there.split()):
+                file[int(at, 16)] = int(byte, 16)
+            for job in ("check", "list", "strip"):
+                self.tells(
+                    f"{job} of {bytes_there}", 1, f"dexasm: refused {line}\n", job, given=closed(bytes(file[32:]))
+                )
+
+    def test_each_byte(self) -> None:
+        """Each byte of the file from 0x20 on, made 0, 7f, 80 and ff: a program, or a fault at a place of the file or where a code is said to be."""
+        for at in range(0x20, len(ONE_CLASS)):
+            for byte in (0, 0x7F, 0x80, 0xFF):
+                file = changed(at, bytes([byte]))
+                status, out, said = self.dexasm("check", given=file)
+                fault = re.fullmatch(r"dexasm: refused (\d+) \w+ at (\d+)\n", said)
+                is_so = (status, out, said) == (0, b"ok\n", "")
+                if status == 1 and fault:
+                    number, place = map(int, fault.groups())
+                    is_so = place == code_off_of(file) if number == 60 else place <= 376
+                self.check(f"byte {at:#x} made {byte:#x}", is_so, f"{status} {said!r}")
+        self.tells(
+            "byte 0xf8 made 7f", 1, "dexasm: refused 60 CodePlace at 16320\n", "check", given=changed(0xF8, b"\x7f")
+        )
 
 
-def main(given: argparse.Namespace) -> int:
-    global program, folder
-    program = os.path.abspath(given.program or "dexasm")
-    if subprocess.run([program, "--help"], stdout=subprocess.PIPE).returncode != 0:
-        return not_built()
-    with tempfile.TemporaryDirectory() as folder:
-        for part in PARTS:
-            part()
-    return last_line()
+class Big(ProgramTest):
+    def test_memory(self) -> None:
+        """An input of 64 MB where 48 MB can be had."""
+        path = self.put("long", bytes(64 * MEGABYTE))
+        for job in JOBS:
+            line = "dexasm: out of memory\n"
+            self.tells(f"{job} of more than there is memory", 4, line, job, path, preexec_fn=limited(48 * MEGABYTE))
+            self.tells(
+                f"{job} of more, with OUT",
+                4,
+                line,
+                job,
+                path,
+                "--output",
+                self.in_folder("none"),
+                preexec_fn=limited(48 * MEGABYTE),
+            )
+            self.check(f"{job} of more: OUT isn't made", not os.path.exists(self.in_folder("none")))
+        os.remove(path)
+
+    def test_big(self) -> None:
+        """10 MB in the shape of an app, through each command."""
+        path = self.in_folder("big.dex")
+        subprocess.run([sys.executable, "bench/read/make.py", "apps", "1500", path], check=True)
+        text, again, small = self.in_folder("big.txt"), self.in_folder("again.dex"), self.in_folder("small.dex")
+        self.answers("check of 10 MB", b"ok\n", "check", path)
+        self.answers("list of 10 MB", b"", "list", path, "--output", text)
+        listing = get(text)
+        self.answers("list of 10 MB to a pipe", listing, "list", path)
+        self.answers("assemble of 10 MB", b"", "assemble", text, "--output", again)
+        self.answers("check of 10 MB assembled", b"ok\n", "check", again)
+        self.answers("list of 10 MB assembled", listing, "list", again)
+        self.answers("strip of 10 MB", b"", "strip", path, "--output", small)
+        self.check_equal("strip gives what its listing gives", get(again), get(small))
+        self.answers("a second strip changes nothing", get(small), "strip", small)
+        reader = subprocess.Popen([self.program, "list", path], stdout=subprocess.PIPE, stderr=subprocess.PIPE)
+        assert reader.stdout is not None and reader.stderr is not None  # (pipes)
+        begin = reader.stdout.read(1000)
+        reader.stdout.close()
+        said = reader.stderr.read().decode()
+        status = reader.wait()
+        self.check(
+            "a pipe that closes", (status, said) == (3, CANNOT_WRITE) and begin == listing[:1000], f"{status} {said!r}"
+        )
+        with open("/dev/full", "wb") as full:
+            self.tells("list of 10 MB to a full device", 3, CANNOT_WRITE, "list", path, stdout=full)
+        for job, given, megabytes in (
+            ("check", path, 26),
+            ("list", path, 150),
+            ("strip", path, 30),
+            ("assemble", text, 200),
+        ):
+            line, limit = "dexasm: out of memory\n", limited(megabytes * MEGABYTE)
+            self.tells(f"{job} of 10 MB with {megabytes} MB", 4, line, job, given, preexec_fn=limit)
+            self.tells(
+                f"{job} of 10 MB with {megabytes} MB, with OUT",
+                4,
+                line,
+                job,
+                given,
+                "--output",
+                self.in_folder("none"),
+                preexec_fn=limit,
+            )
+            self.check(
+                f"{job} of 10 MB with {megabytes} MB: OUT isn't made", not os.path.exists(self.in_folder("none"))
+            )

@@ -10,6 +10,7 @@ import sys
 from typing import Any, Callable
 
 from ... import TOP, sought
+from tests.base import get
 from tests.program import out_cases
 from .java_outs import QUICK, try_java_outs
 from .java_places import try_places
@@ -157,7 +158,7 @@ def try_words(java: Java, path: str) -> None:
         for program in (java.program, java.command):
             os.makedirs(folder)
             status, out, said = run(program, *asked, cwd=folder, env=java.env)
-            left = {name: out_cases.get(f"{folder}/{name}") for name in os.listdir(folder)}
+            left = {name: get(f"{folder}/{name}") for name in os.listdir(folder)}
             ends.append((status, out, said if status != 2 else bool(said), left))
             shutil.rmtree(folder)
         java.check(f"Java: the words {words}", ends[0] == ends[1], f"{ends[1]} {ends[0]}")
@@ -251,7 +252,7 @@ def try_outs(java: Java) -> None:
     java.check("Java: strip of a longer file", status == 0 and made == answer != given, status)
     for folder in (os.path.dirname(java.folder), java.folder):
         os.chmod(folder, 0o755)  # for the cases of another user
-    out_cases.try_all(lambda what, *so: java.check(f"Java: {what}", *so), java.command, java.folder, given, answer)
+    out_cases.check_all(lambda what, *so: java.check(f"Java: {what}", *so), java.command, java.folder, given, answer)
 
 
 def blocks(page: str, kind: str) -> list[str]:
@@ -285,7 +286,7 @@ def try_examples(java: Java, path: str) -> None:
             java.check(f"Java: the cookbook's {line}", out.decode() + said == want, f"{status} {out!r} {said!r}")
     by, small = f"{folder}{os.pathsep}{java.jar}", f"{folder}/small.dex"
     got = java.run(*QUICK, "-cp", by, "StripOne", path, small)
-    is_so = got == (0, b"", "") and out_cases.get(small) == run(java.program, "strip", path)[1]
+    is_so = got == (0, b"", "") and get(small) == run(java.program, "strip", path)[1]
     java.check("Java: the example of its README", is_so, got)
     status, out, said = java.run(*QUICK, "-cp", by, "Small", path)
     is_so = status == 0 and re.fullmatch(rb"\d+ bytes, stripped \d+\n", out)
