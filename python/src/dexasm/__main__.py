@@ -22,7 +22,7 @@ class Version(argparse.Action):
     def __call__(self, parser: argparse.ArgumentParser, *_: object) -> None:
         try:
             number = dexasm.version()
-        except (OSError, dexasm.Refused) as error:
+        except (ImportError, OSError, dexasm.Refused) as error:
             raise SystemExit(ended(FAILED, str(error))) from None
         print_out(f"dexasm {number}\n".encode("ascii"))
         parser.exit()
@@ -126,7 +126,7 @@ def run() -> int:
         made = answer(asked, given)
     except dexasm.Refused as refused:
         return ended(REFUSED, refused.args[0])  # (the command's line)
-    except OSError as error:
+    except (ImportError, OSError) as error:
         return ended(FAILED, str(error))
     write(asked.output, made)
     return 0

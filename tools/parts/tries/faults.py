@@ -73,8 +73,8 @@ def subjects(program: str) -> tuple[Subject, ...]:
     every = [f"error={error}" for error in ERRORS] + [f"signal={name}" for name in SIGNALS]
     some, few = ["error=ENOSPC", "signal=SIGKILL", "signal=SIGTERM"], ("absent", "present", "two names")
     python = [sys.executable, "-B"]
-    env = {**os.environ, "DEXASM_COMMAND": program, "PYTHONPATH": os.path.abspath("bindings/python")}
-    close = [*python, os.path.abspath("contrib/bin/dexasm-close")]
+    env = {**os.environ, "DEXASM_COMMAND": program, "PYTHONPATH": os.path.abspath("python/src")}
+    close = [*python, os.path.abspath("python/bin/dexasm-close")]
     return (
         Subject("", [program, "strip"], FILE, ANSWER, '"in.dex"', SETTINGS, every, None),
         Subject("python3 -m dexasm, ", [*python, "-m", "dexasm", "strip"], FILE, ANSWER, '"out"', few, some, env),

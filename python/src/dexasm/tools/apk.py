@@ -1,4 +1,3 @@
-#!/usr/bin/env python3
 """Checks, lists or strips each classes*.dex of an .apk, a .jar or another zip archive.
 
 usage: dexasm-apk [--close] check|list|strip ARCHIVE [FOLDER]
@@ -24,17 +23,19 @@ import os
 import stat
 import sys
 
-sys.dont_write_bytecode = True
-sys.path.insert(0, os.path.join(os.path.dirname(os.path.dirname(os.path.realpath(__file__))), "share", "dexasm"))
-from dexasm_archive import dex_files, opened, taken_out
-from dexasm_contrib import FAILED, Failed, deliver, dexasm, escaped, reason, run, say
-from dexasm_sums import closed, differences, unframed
+from dexasm.tools.archives import dex_files, opened, taken_out
+from dexasm.tools.asking import ask
+from dexasm.tools.basis import FAILED, Failed, reason
+from dexasm.tools.escapes import escaped
+from dexasm.tools.files import deliver
+from dexasm.tools.helper import helper, say
+from dexasm.tools.sums import closed, differences, unframed
 
 TYPE_CHECKING = False  # (as in typing)
 if TYPE_CHECKING:
     from zipfile import ZipFile, ZipInfo
 
-    from dexasm_contrib import Words
+    from dexasm.tools.helper import Words
 
 
 def place_of(job: str, folder: str | None, name: str) -> str | None:
@@ -69,7 +70,7 @@ def done(job: str, archive: ZipFile, folder: str | None, name: str, entries: lis
     """The job on one .dex file; answers the status."""
     try:
         place, given = place_of(job, folder, name), taken_out(archive, entries)
-        ended = dexasm(job, given=closed_if_open(given, name) if closes else given)
+        ended = ask(job, given=closed_if_open(given, name) if closes else given)
         if place is not None and ended.status == 0:
             deliver(place, ended.answer, through=False)
     except Failed as failed:
@@ -84,6 +85,7 @@ def done(job: str, archive: ZipFile, folder: str | None, name: str, entries: lis
     return ended.status
 
 
+@helper(unread=FAILED)
 def main(words: Words) -> int:
     words.add_argument("--close", action="store_true")
     words.add_argument("job", choices=("check", "list", "strip"))
@@ -106,4 +108,5 @@ def main(words: Words) -> int:
         return max(done(asked.job, archive, asked.folder, name, found, asked.close) for name, found in entries)
 
 
-run(main, unread=FAILED)
+if __name__ == "__main__":
+    main()

@@ -7,7 +7,8 @@ import struct
 import zipfile
 import zlib
 
-from dexasm_contrib import DEX, Failed, escaped, reason
+from dexasm.tools.basis import DEX, Failed, reason
+from dexasm.tools.escapes import escaped
 
 TYPE_CHECKING = False  # (as in typing)
 if TYPE_CHECKING:

@@ -1,9 +1,6 @@
-"""What helpers and their workers know alike. A worker reads this and no more where that does, since reading what is in
-dexasm_contrib takes as long as a hundred small files.
+"""What helpers and their workers know alike. A worker reads this and no more where that does, since reading what makes a
+program of a helper takes as long as a hundred small files.
 """
-import os
-
-TOP = os.path.dirname(os.path.dirname(os.path.dirname(os.path.realpath(__file__))))
 REFUSED, USAGE, FAILED, MEMORY = 1, 2, 3, 4  # exit statuses, as those of dexasm
 DEX, ZIP = b"dex\n", b"PK"
 

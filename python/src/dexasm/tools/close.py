@@ -1,4 +1,3 @@
-#!/usr/bin/env python3
 """Computes the signature and the checksum of a .dex file anew, and changes nothing else.
 
 usage: dexasm-close FILE [--output OUT]
@@ -19,17 +18,16 @@ words; 3 reading or writing failed; 4 out of memory.
 """
 from __future__ import annotations
 
-import os
 import sys
 
-sys.dont_write_bytecode = True
-sys.path.insert(0, os.path.join(os.path.dirname(os.path.dirname(os.path.realpath(__file__))), "share", "dexasm"))
-from dexasm_contrib import FAILED, REFUSED, Failed, deliver, get, name_of, run
-from dexasm_sums import closed, differences, unframed
+from dexasm.tools.basis import FAILED, REFUSED, Failed
+from dexasm.tools.files import deliver, get, name_of
+from dexasm.tools.helper import helper
+from dexasm.tools.sums import closed, differences, unframed
 
 TYPE_CHECKING = False  # (as in typing)
 if TYPE_CHECKING:
-    from dexasm_contrib import Words
+    from dexasm.tools.helper import Words
 
 
 def framed(given: bytes, name: str) -> bytes:
@@ -40,6 +38,7 @@ def framed(given: bytes, name: str) -> bytes:
     return given
 
 
+@helper(unread=FAILED)
 def main(words: Words) -> int:
     words.add_argument("file", metavar="FILE")
     words.add_argument("--output", "-o", metavar="OUT")
@@ -62,4 +61,5 @@ def main(words: Words) -> int:
     return 0
 
 
-run(main, unread=FAILED)
+if __name__ == "__main__":
+    main()

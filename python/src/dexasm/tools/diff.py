@@ -1,4 +1,3 @@
-#!/usr/bin/env python3
 """Shows what differs between the programs of two .dex files, by class and by member.
 
 usage: dexasm-diff [--names] [--color auto|always|never] A B
@@ -20,14 +19,15 @@ from __future__ import annotations
 
 import difflib
 import hashlib
-import os
 import re
 import sys
 
-sys.dont_write_bytecode = True
-sys.path.insert(0, os.path.join(os.path.dirname(os.path.dirname(os.path.realpath(__file__))), "share", "dexasm"))
-from dexasm_contrib import REFUSED, Failed, dexasm, escaped, get, module, name_of, program_of, run
-from dexasm_terminal import is_colored
+from dexasm.tools.asking import ask, program_of
+from dexasm.tools.basis import REFUSED, Failed
+from dexasm.tools.escapes import escaped
+from dexasm.tools.files import get, name_of
+from dexasm.tools.helper import helper
+from dexasm.tools.terminal import is_colored
 
 TYPE_CHECKING = False  # (as in typing)
 if TYPE_CHECKING:
@@ -35,7 +35,7 @@ if TYPE_CHECKING:
 
     from dexasm.members import Class as ProgramClass
     from dexasm.program import Program
-    from dexasm_contrib import Words
+    from dexasm.tools.helper import Words
 
     Marked = tuple[str, str]  # a mark and a line
     Part = tuple[str, str, Iterable[Marked]]  # its name, its mark, and its lines with theirs
@@ -61,11 +61,13 @@ class Class:
     members: dict[tuple[str, str], list[str]]
 
     def __init__(self, one: ProgramClass) -> None:
+        from dexasm.names import spelled
+
         (_, heads), *members = one.parts()
         self.heads, self.members = heads.splitlines(), {}
         for member, text in members:
             assert member is not None  # (only the first part is no member's)
-            key = text.partition(" ")[0], module().names.spelled(member.signature)
+            key = text.partition(" ")[0], spelled(member.signature)
             self.members[key] = renumbered(text.splitlines())
 
     def lines(self) -> list[str]:
@@ -76,8 +78,10 @@ class Classes:
     """The classes of a program, each by its name; one is read only where it differs."""
 
     def __init__(self, program: Program) -> None:
+        from dexasm.names import spelled
+
         self.classes, self.texts = program.classes, [*program.classes.texts()]
-        self.names = {module().names.spelled(name): at for at, name in enumerate(program.classes.names())}
+        self.names = {spelled(name): at for at, name in enumerate(program.classes.names())}
 
     def text(self, name: str) -> str:
         return self.texts[self.names[name]]
@@ -165,18 +169,21 @@ def compare(a: str, b: str, is_short: bool, has_colors: bool) -> int:
 
 def textconv(path: str) -> int:
     given = get(path)
-    ended = dexasm("list", given=given)
+    ended = ask("list", given=given)
     if ended.status == REFUSED and ended.refusal():
         print(f"{escaped(ended.told[-1])}\n{hashlib.sha256(given).hexdigest()}")
     elif ended.status:
         raise Failed(f"{name_of(path)}: {ended.last()}", 2)
     else:
-        program = module().Program.of_listing(ended.answer.decode("ascii"))
+        from dexasm.program import Program
+
+        program = Program.of_listing(ended.answer.decode("ascii"))
         print("dex 035 listing 2")
         sys.stdout.writelines(line + "\n" for one in program.classes for line in Class(one).lines())
     return 0
 
 
+@helper(trouble=2, unread=2)
 def main(words: Words) -> int:
     words.add_argument("--names", action="store_true")
     words.add_argument("--color", choices=("auto", "always", "never"), default="auto")
@@ -191,4 +198,5 @@ def main(words: Words) -> int:
     return compare(a, b, asked.names, is_colored(asked.color))
 
 
-run(main, trouble=2, unread=2)
+if __name__ == "__main__":
+    main()

@@ -1,4 +1,3 @@
-#!/usr/bin/env python3
 """Says in words what a refusal of dexasm means, and shows what stands at its place.
 
 usage: dexasm-explain [--json] [FILE]
@@ -22,19 +21,20 @@ Exit status: 0 done, 2 wrong words, 3 something can't be read or written.
 from __future__ import annotations
 
 import json
-import os
 import re
 import struct
 import sys
 import zlib
 
-sys.dont_write_bytecode = True
-sys.path.insert(0, os.path.join(os.path.dirname(os.path.dirname(os.path.realpath(__file__))), "share", "dexasm"))
-from dexasm_contrib import DEX, REFUSAL, Failed, dexasm, escaped, get, module, run, shortened
-from dexasm_faults import MENDS, OF_CLASSES, OF_COUNTS, OF_LINES, sentences
-from dexasm_file import NO_FILE, Tables
-from dexasm_sums import signature_of, signer
-from dexasm_uses import CLASS_FLAGS, FIELD_FLAGS, METHOD_FLAGS
+from dexasm.tools.asking import REFUSAL, ask
+from dexasm.tools.basis import DEX, Failed
+from dexasm.tools.escapes import escaped, shortened
+from dexasm.tools.faults import MENDS, OF_CLASSES, OF_COUNTS, OF_LINES, sentences
+from dexasm.tools.files import get
+from dexasm.tools.helper import helper
+from dexasm.tools.layout import NO_FILE, Tables
+from dexasm.tools.sums import signature_of, signer
+from dexasm.tools.uses import CLASS_FLAGS, FIELD_FLAGS, METHOD_FLAGS
 
 TYPE_CHECKING = False  # (as in typing)
 if TYPE_CHECKING:
@@ -42,7 +42,7 @@ if TYPE_CHECKING:
     from typing import Any
 
     from dexasm.faultline import Place
-    from dexasm_contrib import Words
+    from dexasm.tools.helper import Words
 
     Row = tuple[str, str, str]  # of a fault: its name, its sentence, and what its place is
 
@@ -207,10 +207,12 @@ class Explained:
 
     def at_class(self, data: bytes) -> None:
         """What is at fault in the class of this number, or where a count was too great."""
+        from dexasm.listed import Listing
+
         is_file = data.startswith(DEX)
         if is_file:
-            data = dexasm("list", given=data).answer
-        where, heads = located(self.number, self.place, data), module().listed.Listing(data).heads
+            data = ask("list", given=data).answer
+        where, heads = located(self.number, self.place, data), Listing(data).heads
         if where:
             numbers = sorted(filter(None, {where.class_line, where.member_line, where.line}))
         elif self.number not in OF_COUNTS and self.place < len(heads):
@@ -313,9 +315,9 @@ def named_class(line: bytes) -> str:
 
 def located(number: int, place: int, listing: bytes) -> Place | None:
     """The place in a listing, which was assembled with --align or without, as the module for Python finds it."""
-    of = module().faultline.of
-    found: Place | None = of(listing, number, place) or of(listing, number, place, True)
-    return found
+    from dexasm.faultline import of
+
+    return of(listing, number, place) or of(listing, number, place, True)
 
 
 def cut(line: bytes) -> str:
@@ -335,6 +337,7 @@ def explained(line: str, rows: dict[int, Row], data: bytes | None) -> Explained 
     return one
 
 
+@helper()
 def main(words: Words) -> int:
     words.add_argument("--json", action="store_true")
     words.add_argument("file", nargs="?")
@@ -354,4 +357,5 @@ def main(words: Words) -> int:
     return 0
 
 
-run(main)
+if __name__ == "__main__":
+    main()

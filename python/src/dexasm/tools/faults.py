@@ -4,7 +4,7 @@ from __future__ import annotations
 import functools
 import re
 
-from dexasm_contrib import page
+from dexasm.tools.places import page
 
 # Faults whose place is a line, how many are needed, a class of a program.
 OF_LINES, OF_COUNTS, OF_CLASSES = range(100, 110), range(80, 82), (*range(82, 90), *range(110, 120))

@@ -9,8 +9,9 @@ import subprocess
 import xml.etree.ElementTree as xml
 from bisect import bisect_left
 
-from dexasm_contrib import Failed, module
-from dexasm_uses import Uses, fresh
+from dexasm.names import spelled
+from dexasm.tools.basis import Failed
+from dexasm.tools.uses import Uses, fresh
 
 TYPE_CHECKING = False  # (as in typing)
 if TYPE_CHECKING:
@@ -152,7 +153,7 @@ def calls(uses: Uses, start: int | None = None, depth: int | None = None) -> Gra
         if to not in places:
             places[to] = len(graph.nodes)
             name = to if isinstance(to, str) else uses.full_name(to)
-            graph.nodes.append({"name": name, "outside": isinstance(to, str), "lines": [module().names.spelled(name)]})
+            graph.nodes.append({"name": name, "outside": isinstance(to, str), "lines": [spelled(name)]})
         return places[to]
 
     due = [start] if start is not None else [number for number, _ in uses.methods()]
@@ -197,7 +198,7 @@ def in_dot(text: str) -> str:
 
 def as_dot(graph: Graph, link: str = "") -> Iterator[str]:
     """The graph in the language of graphviz. `link` and a node's first instruction are where a node leads."""
-    yield f'digraph "{in_dot(module().names.spelled(graph.name))}" {{'
+    yield f'digraph "{in_dot(spelled(graph.name))}" {{'
     yield 'bgcolor="transparent" node [shape=box fontname="monospace" fontsize=10 style=filled fillcolor="#ffffff"]'
     yield 'edge [fontname="monospace" fontsize=10]'
     for at, node in enumerate(graph.nodes):

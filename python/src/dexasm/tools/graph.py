@@ -1,4 +1,3 @@
-#!/usr/bin/env python3
 """Draws the flow of a method of a .dex file, or who calls whom.
 
 usage: dexasm-graph [--format dot|svg|json] FILE METHOD
@@ -20,18 +19,17 @@ Exit status: 0 done, 1 the file is refused, 2 wrong words, 3 something can't be 
 from __future__ import annotations
 
 import json
-import os
-import sys
 
-sys.dont_write_bytecode = True
-sys.path.insert(0, os.path.join(os.path.dirname(os.path.dirname(os.path.realpath(__file__))), "share", "dexasm"))
-from dexasm_contrib import USAGE, Usage, program_of, run
+from dexasm.tools.asking import program_of
+from dexasm.tools.basis import USAGE
+from dexasm.tools.helper import Usage, helper
 
 TYPE_CHECKING = False  # (as in typing)
 if TYPE_CHECKING:
-    from dexasm_contrib import Words
+    from dexasm.tools.helper import Words
 
 
+@helper()
 def main(words: Words) -> int:
     words.add_argument("--calls", action="store_true")
     words.add_argument("--from", dest="start")
@@ -44,8 +42,8 @@ def main(words: Words) -> int:
         raise Usage(f"{words.uses}\n{words.prog}: either METHOD or --calls", USAGE)
     if asked.depth is not None and (asked.start is None or asked.depth < 0):
         raise Usage(f"{words.uses}\n{words.prog}: --depth is a number from 0 on, with --from", USAGE)
-    from dexasm_flow import as_dot, as_json, calls, drawn, flow
-    from dexasm_uses import Uses, method_of
+    from dexasm.tools.flow import as_dot, as_json, calls, drawn, flow
+    from dexasm.tools.uses import Uses, method_of
 
     uses = Uses(program_of(asked.file))
     if asked.calls:
@@ -60,4 +58,5 @@ def main(words: Words) -> int:
     return 0
 
 
-run(main)
+if __name__ == "__main__":
+    main()

@@ -6,7 +6,7 @@ import stat
 import sys
 from collections.abc import Callable, Iterator
 
-from dexasm_contrib import Failed
+from dexasm.tools.basis import Failed
 
 
 def named(words: list[str]) -> Iterator[bytes]:

@@ -8,7 +8,7 @@ import os
 import sys
 from collections.abc import Iterable, Sequence
 
-from dexasm_contrib import escaped
+from dexasm.tools.escapes import escaped
 
 SHORT = 60  # characters of a column of a table
 # As a cell begins that a spreadsheet computes (OWASP, "CSV Injection"); some take the wide forms too.

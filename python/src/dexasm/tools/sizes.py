@@ -3,8 +3,7 @@ from __future__ import annotations
 
 from collections.abc import Callable, Iterable
 
-from dexasm_contrib import part
-from dexasm_file import FILE, KINDS, NOBODY, SEVERAL, Dex, sizes
+from dexasm.tools.layout import FILE, KINDS, NOBODY, SEVERAL, Dex, sizes
 
 TYPE_CHECKING = False  # (as in typing)
 if TYPE_CHECKING:
@@ -57,9 +56,10 @@ class Methods:
 
 def spelled(dex: Dex, string: int) -> str:
     """A string as a listing spells it; of a long one the beginning, and its UTF-16 units."""
+    from dexasm.names import quoted
+
     text, units = dex.beginning(string, LONGEST_STRING)
-    said: str = part("names").quoted(text)
-    return said + (f".. ({units} units)" if units else "")
+    return quoted(text) + (f".. ({units} units)" if units else "")
 
 
 def parts_of(claims: Iterable[tuple[str, Claim]]) -> dict[Claim, str]:

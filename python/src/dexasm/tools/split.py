@@ -1,4 +1,3 @@
-#!/usr/bin/env python3
 """Cuts a listing into a file for each class, so that git and diff show changes class by class; or joins these again.
 
 usage: dexasm-split [FILE] FOLDER
@@ -34,15 +33,17 @@ import re
 import stat
 import sys
 
-sys.dont_write_bytecode = True
-sys.path.insert(0, os.path.join(os.path.dirname(os.path.dirname(os.path.realpath(__file__))), "share", "dexasm"))
-from dexasm_contrib import DEX, Failed, answer, decoded, delivery, dexasm, escaped, get, name_of, reason, run
+from dexasm.tools.asking import answer, ask, decoded
+from dexasm.tools.basis import DEX, Failed, reason
+from dexasm.tools.escapes import escaped
+from dexasm.tools.files import get, name_of
+from dexasm.tools.helper import helper
 
 TYPE_CHECKING = False  # (as in typing)
 if TYPE_CHECKING:
     from collections.abc import Iterator
 
-    from dexasm_contrib import Words
+    from dexasm.tools.helper import Words
 
 OWN = ("order", "head", "tail")
 ASIDE = ".dexasm-split"  # where files are made, by numbers, before they are put in place
@@ -232,7 +233,8 @@ class Folder:
 
 def put_new(name: str, given: bytes, at: int, like: int | None = None) -> None:
     """A file that isn't there yet, which looks as another one."""
-    rules = delivery()
+    from dexasm import deliver as rules
+
     rules.fill(rules.new_file(name, at), at, like, given)
 
 
@@ -286,7 +288,7 @@ def checked(given: bytes, name: str) -> bytes:
     """
     if given.startswith(DEX):
         return answer("list", given=given, name=name)
-    ended = dexasm("assemble", "--align", given=given)
+    ended = ask("assemble", "--align", given=given)
     refusal = ended.refusal()
     # (from 80 on, below 100: a listing whose program no file can hold)
     if ended.status and not (refusal and 80 <= refusal[0] < 100):
@@ -305,7 +307,9 @@ def split(listing: bytes, path: str) -> None:
         raise Failed(f"{escaped(path)}: it holds other files and no order: nothing was changed")
     order = "".join(file + "\n" for file in files).encode("ascii")
     gone = {*(old or ()), *(ended or ())}.difference(files)
-    with delivery().held():
+    from dexasm.deliver import held
+
+    with held():
         folder.put_all({**files, "head": head, "tail": tail, "order": order}, gone)
 
 
@@ -324,6 +328,7 @@ def join(path: str) -> Iterator[bytes]:
         yield given
 
 
+@helper()
 def main(words: Words) -> int:
     words.add_argument("--join", action="store_true")
     words.add_argument("paths", nargs="+")
@@ -340,4 +345,5 @@ def main(words: Words) -> int:
     return 0
 
 
-run(main)
+if __name__ == "__main__":
+    main()

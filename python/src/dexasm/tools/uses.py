@@ -7,7 +7,8 @@ from __future__ import annotations
 import re
 from bisect import bisect_right
 
-from dexasm_contrib import USAGE, Failed, escaped, module
+from dexasm.tools.basis import USAGE, Failed
+from dexasm.tools.escapes import escaped
 
 TYPE_CHECKING = False  # (as in typing)
 if TYPE_CHECKING:
@@ -179,8 +180,10 @@ def find(uses: Uses, asked: str) -> list[int]:
 
 def method_of(uses: Uses, asked: str, has_code: bool = False) -> int:
     """The method that a word of the command line names, which may have the escapes of a listing."""
+    from dexasm.names import unspelled
+
     try:
-        name = module().names.unspelled(asked)
+        name = unspelled(asked)
     except ValueError:
         name = asked
     found = find(uses, name)

@@ -9,9 +9,10 @@ from __future__ import annotations
 import re
 from typing import Any
 
-from dexasm_check import Verdict
-from dexasm_contrib import FAILED, MEMORY, REFUSED, escaped
-from dexasm_faults import OF_CLASSES, OF_COUNTS, sentences
+from dexasm.tools.basis import FAILED, MEMORY, REFUSED
+from dexasm.tools.check.checkers import Verdict
+from dexasm.tools.escapes import escaped
+from dexasm.tools.faults import OF_CLASSES, OF_COUNTS, sentences
 
 # (what isn't here couldn't be looked at)
 STATUSES = {"ok": 0, "empty": 0, "refused": REFUSED, "broken": REFUSED, "memory": MEMORY}
@@ -48,7 +49,7 @@ def uri_of(path: bytes) -> str:
 def sentence_of(verdict: Verdict) -> str | None:
     """What is wrong, as the pages and the help have it, or why it wasn't looked at."""
     if verdict.rule is not None:
-        from dexasm_rules import said_of
+        from dexasm.tools.lint.rules import said_of
 
         return said_of().get(verdict.rule)
     if verdict.number is None:
@@ -116,7 +117,7 @@ class Text:
         if verdict.status == "empty":
             return [f"{name}: {self.ok}{verdict.why}{self.plain}"]
         if is_of_member(verdict):
-            from dexasm_lint_code import line_of
+            from dexasm.tools.lint.code import line_of
 
             return [harmless(line_of(name, verdict, f"{self.bad}error:{self.plain}"))]
         return [f"{name}{place_of(verdict)}: {self.bad}error:{self.plain} {message_of(verdict)}"]
@@ -236,7 +237,7 @@ class Sarif(Text):
         """A rule's name and its sentence."""
         if rule.isdecimal():
             return sentences().get(int(rule), ("Unknown", "", ""))[:2]
-        from dexasm_rules import said_of
+        from dexasm.tools.lint.rules import said_of
 
         return rule, said_of().get(rule, "")
 

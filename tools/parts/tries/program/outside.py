@@ -418,7 +418,7 @@ def try_closed_doors() -> None:
 
 def shell(command: str, home: str, given: bytes | None = None) -> tuple[int | str, str]:
     """What bash prints of this command in that folder, where `dexasm` is the program."""
-    env = {**os.environ, "PATH": os.pathsep.join([in_folder("bin"), os.path.join(TOP, "contrib/bin"), os.environ["PATH"]])}
+    env = {**os.environ, "PATH": os.pathsep.join([in_folder("bin"), os.path.join(TOP, "python/bin"), os.environ["PATH"]])}
     status, out, _ = ended(["bash", "-c", command], LIMIT, cwd=home, env=env, input=given, stdout=subprocess.PIPE, stderr=subprocess.STDOUT)
     return status, out.decode()
 

@@ -1,4 +1,3 @@
-#!/usr/bin/env python3
 """Writes a folder of pages to look at a .dex file: what is in it, how big it is, who calls whom, where branches go.
 
 usage: dexasm-browse FILE --output FOLDER [--graphs METHOD|all]
@@ -20,24 +19,24 @@ Exit status: 0 done, 1 the file is refused, 2 wrong words, 3 something can't be 
 from __future__ import annotations
 
 import os
-import sys
 
-sys.dont_write_bytecode = True
-sys.path.insert(0, os.path.join(os.path.dirname(os.path.dirname(os.path.realpath(__file__))), "share", "dexasm"))
-from dexasm_contrib import dex_of, name_of, run
+from dexasm.tools.asking import dex_of
+from dexasm.tools.files import name_of
+from dexasm.tools.helper import helper
 
 TYPE_CHECKING = False  # (as in typing)
 if TYPE_CHECKING:
-    from dexasm_contrib import Words
+    from dexasm.tools.helper import Words
 
 
+@helper()
 def main(words: Words) -> int:
     words.add_argument("file")
     words.add_argument("--output", required=True)
     words.add_argument("--graphs")
     asked = words.parse_args()
-    from dexasm_browse import Browse
-    from dexasm_folder import Folder
+    from dexasm.tools.browse.folder import Folder
+    from dexasm.tools.browse.making import Browse
 
     folder = Folder(asked.output)
     pages = Browse(dex_of(asked.file), name_of(asked.file), os.path.basename(asked.file), words.prog)
@@ -50,4 +49,5 @@ def main(words: Words) -> int:
     return 0
 
 
-run(main)
+if __name__ == "__main__":
+    main()

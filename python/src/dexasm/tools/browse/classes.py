@@ -5,11 +5,11 @@ from array import array
 from collections import Counter
 from collections.abc import Callable, Iterator
 
-from dexasm_browse_code import Coder
-from dexasm_browse_cut import Part, file_of, member, others, paged
-from dexasm_browse_text import counted, facts, folded, link, some
-from dexasm_html import text
-from dexasm_uses import CLASS_FLAGS, Uses, flag_words, heading, title
+from dexasm.tools.browse.code import Coder
+from dexasm.tools.browse.cuts import Part, file_of, member, others, paged
+from dexasm.tools.browse.texts import counted, facts, folded, link, some
+from dexasm.tools.pages.markup import text
+from dexasm.tools.uses import CLASS_FLAGS, Uses, flag_words, heading, title
 
 TYPE_CHECKING = False  # (as in typing)
 if TYPE_CHECKING:

@@ -8,8 +8,8 @@ import html
 from array import array
 from collections.abc import Iterator
 
-from dexasm_contrib import module
-from dexasm_uses import CLASS_IN, Uses, fresh
+from dexasm import names
+from dexasm.tools.uses import CLASS_IN, Uses, fresh
 
 TYPE_CHECKING = False  # (as in typing)
 if TYPE_CHECKING:
@@ -26,8 +26,7 @@ STRINGS_A_PAGE = 500
 
 
 def spelled(name: str) -> str:
-    said: str = html.escape(module().names.spelled(name))
-    return said
+    return html.escape(names.spelled(name))
 
 
 class Coder:
@@ -90,7 +89,7 @@ class Coder:
         """A string, as a link to where it is used."""
         number = self.strings.setdefault(text, len(self.strings))
         note(self.of_string, number, user << 32 | place)
-        said = html.escape(module().names.quoted(text))
+        said = html.escape(names.quoted(text))
         return f'<a class="s" href="../strings/{number // STRINGS_A_PAGE}.html#{number}">{said}</a>'
 
     # ---- lines

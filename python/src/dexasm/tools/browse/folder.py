@@ -12,7 +12,10 @@ import stat
 import sys
 import tempfile
 
-from dexasm_contrib import Failed, deliver, delivery, escaped, reason
+from dexasm import deliver as rules
+from dexasm.tools.basis import Failed, reason
+from dexasm.tools.escapes import escaped
+from dexasm.tools.files import deliver
 
 TYPE_CHECKING = False  # (as in typing)
 if TYPE_CHECKING:
@@ -81,7 +84,7 @@ class Folder:
 
     def begin(self) -> None:
         """Makes the folder beside, which is nobody else's until it takes its place."""
-        with delivery().held():
+        with rules.held():
             folder, name = os.path.split(self.path)
             # (a name of 255 bytes has no room for more)
             prefix = f".{os.fsdecode(os.fsencode(name)[:100])}."
@@ -100,7 +103,7 @@ class Folder:
 
     def finish(self) -> None:
         """Puts the pages into their place, in one step where the system has one; those of an earlier run are gone."""
-        with delivery().held():
+        with rules.held():
             self.ask()  # (something may have come in the meantime)
             try:
                 self.dress()
@@ -111,7 +114,7 @@ class Folder:
                 self.remove()
 
     def __exit__(self, *_: object) -> None:
-        with delivery().held():
+        with rules.held():
             self.remove()
 
     def remove(self) -> None:
@@ -129,11 +132,11 @@ class Folder:
                 old = os.open(self.path, os.O_RDONLY | os.O_DIRECTORY | os.O_NOFOLLOW)
                 try:
                     self.give(os.fstat(new), os.fstat(old))
-                    delivery().dress(new, old)
+                    rules.dress(new, old)
                 finally:
                     os.close(old)
             else:
-                mode = delivery().new_mode(os.fsencode(os.path.dirname(self.path)), 0o777)
+                mode = rules.new_mode(os.fsencode(os.path.dirname(self.path)), 0o777)
                 os.fchmod(new, mode | os.fstat(new).st_mode & stat.S_ISGID)
         finally:
             os.close(new)

@@ -4,19 +4,22 @@ from __future__ import annotations
 import zlib
 from collections.abc import Iterable, Iterator
 
-from dexasm_browse_class import Classes
-from dexasm_browse_code import Coder
-from dexasm_browse_cut import Cuts, Part, file_of, others
-from dexasm_browse_pages import Packages, overview, reading, shards, strings, strings_cut
-from dexasm_browse_text import Frame, counted
-from dexasm_contrib import Failed, answer, dexasm, module, say
-from dexasm_file import Dex, Tables, addresses, code_sizes
-from dexasm_flow import MOST_DRAWN, as_dot, drawn, flow, for_page, graphviz
-from dexasm_folder import Folder, Progress
-from dexasm_html import plain, text
-from dexasm_page import SCRIPT, read
-from dexasm_sizes import KINDS, rows_of
-from dexasm_uses import Uses, method_of
+from dexasm.program import Program
+from dexasm.tools.asking import answer, ask
+from dexasm.tools.basis import Failed
+from dexasm.tools.browse.classes import Classes
+from dexasm.tools.browse.code import Coder
+from dexasm.tools.browse.cuts import Cuts, Part, file_of, others
+from dexasm.tools.browse.folder import Folder, Progress
+from dexasm.tools.browse.pages import Packages, overview, reading, shards, strings, strings_cut
+from dexasm.tools.browse.texts import Frame, counted
+from dexasm.tools.flow import MOST_DRAWN, as_dot, drawn, flow, for_page, graphviz
+from dexasm.tools.helper import say
+from dexasm.tools.layout import Dex, Tables, addresses, code_sizes
+from dexasm.tools.pages.markup import plain, text
+from dexasm.tools.pages.page import SCRIPT, read
+from dexasm.tools.sizes import KINDS, rows_of
+from dexasm.tools.uses import Uses, method_of
 
 TYPE_CHECKING = False  # (as in typing)
 if TYPE_CHECKING:
@@ -81,12 +84,12 @@ class Browse:
         """`name` is the file's in messages, `shown` on the pages."""
         self.data, self.name, self.shown = data, name, shown
         listing = answer("list", given=data, name=name).decode("ascii")
-        stripped = dexasm("strip", given=data)
+        stripped = ask("strip", given=data)
         if stripped.status:
             say(f"{prog}: {name}: it can't be stripped, so nothing is said of that: {stripped.last()}")
         self.stripped = None if stripped.status else stripped.answer
         self.tables = Tables(data)
-        self.uses = Uses(module().Program.of_listing(listing))
+        self.uses = Uses(Program.of_listing(listing))
         self.coder = Coder(self.uses)
         self.classes = Classes(self.uses, self.coder)
         self.sizes = Sizes(data, self.stripped, self.uses)

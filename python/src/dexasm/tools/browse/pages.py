@@ -4,14 +4,14 @@ from __future__ import annotations
 import json
 from collections.abc import Callable, Iterable, Iterator
 
-from dexasm_browse_class import Classes
-from dexasm_browse_code import STRINGS_A_PAGE
-from dexasm_browse_cut import Cuts, Part, file_of, others, paged
-from dexasm_browse_text import counted, facts, folded, in_quotes, link, quoted
-from dexasm_html import LONGEST, number, row, seen, table, text
-from dexasm_page import Node, picture, tree_of
-from dexasm_sizes import COLUMNS
-from dexasm_uses import title
+from dexasm.tools.browse.classes import Classes
+from dexasm.tools.browse.code import STRINGS_A_PAGE
+from dexasm.tools.browse.cuts import Cuts, Part, file_of, others, paged
+from dexasm.tools.browse.texts import counted, facts, folded, in_quotes, link, quoted
+from dexasm.tools.pages.markup import LONGEST, number, row, seen, table, text
+from dexasm.tools.pages.page import Node, picture, tree_of
+from dexasm.tools.sizes import COLUMNS
+from dexasm.tools.uses import title
 
 TYPE_CHECKING = False  # (as in typing)
 if TYPE_CHECKING:

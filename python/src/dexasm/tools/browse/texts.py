@@ -5,8 +5,8 @@ import html
 from collections.abc import Iterable
 from itertools import islice
 
-from dexasm_contrib import escaped
-from dexasm_html import LONGEST, plain, unpiled
+from dexasm.tools.escapes import escaped
+from dexasm.tools.pages.markup import LONGEST, plain, unpiled
 
 MOST_OF_LIST = 1000  # items of a list
 BYTES_OF_LIST = 200_000

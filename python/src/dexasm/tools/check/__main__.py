@@ -1,4 +1,3 @@
-#!/usr/bin/env python3
 """Says of many files whether dexasm accepts them, in lines for people or in a form for machines.
 
 usage: dexasm-check [--lint] [--quiet] [--color auto|always|never] [--jobs N] [--seconds N] [--memory SIZE] PATH..
@@ -47,19 +46,18 @@ from __future__ import annotations
 import os
 import sys
 
-sys.dont_write_bytecode = True
-sys.path.insert(0, os.path.join(os.path.dirname(os.path.dirname(os.path.realpath(__file__))), "share", "dexasm"))
-from dexasm_check import inputs, judge_all, lead
-from dexasm_contrib import FAILED, positive, run, seconds, size
-from dexasm_terminal import Line, is_colored
-from dexasm_verdicts import ACCEPTED, GitHub, Json, JUnit, Sarif, Text, is_of_member, status_of
+from dexasm.tools.basis import FAILED
+from dexasm.tools.check.checkers import inputs, judge_all, lead
+from dexasm.tools.helper import helper, positive, seconds, size
+from dexasm.tools.terminal import Line, is_colored
+from dexasm.tools.verdicts import ACCEPTED, GitHub, JUnit, Json, Sarif, Text, is_of_member, status_of
 
 TYPE_CHECKING = False  # (as in typing)
 if TYPE_CHECKING:
     from argparse import Namespace
 
-    from dexasm_check import Verdict
-    from dexasm_contrib import Words
+    from dexasm.tools.check.checkers import Verdict
+    from dexasm.tools.helper import Words
 
 FORMS: dict[str, type[Text]] = {"json": Json, "sarif": Sarif, "github": GitHub, "junit": JUnit}
 
@@ -118,6 +116,7 @@ def form_of(asked: Namespace) -> Text:
     return Json(asked.lint) if asked.form == "json" else FORMS[asked.form]()
 
 
+@helper(unread=FAILED)
 def main(words: Words) -> int:
     asked = words_of(words)
     form = form_of(asked)
@@ -133,4 +132,5 @@ def main(words: Words) -> int:
     return told.status
 
 
-run(main, unread=FAILED)
+if __name__ == "__main__":
+    main()

@@ -1,4 +1,4 @@
-"""Asks of many files whether they are accepted, for dexasm-check: in a few workers (dexasm_judge), which take many
+"""Asks of many files whether they are accepted, for dexasm-check: in a few workers (judge.py has their job), which take many
 files each and have limits of memory and of time.
 """
 from __future__ import annotations
@@ -9,10 +9,12 @@ import os
 from collections.abc import Callable, Generator, Iterable, Iterator
 from typing import Any, NamedTuple
 
-import dexasm_look
-from dexasm_contrib import TOP, Failed, command, reason
-from dexasm_look import ENDS, SAID, TRIES, Looker
-from dexasm_paths import named, walked
+from dexasm.tools.asking import command
+from dexasm.tools.basis import Failed, reason
+from dexasm.tools.paths import named, walked
+from dexasm.tools.places import LIBRARY
+from dexasm.tools.workers import looker
+from dexasm.tools.workers.looker import ENDS, SAID, TRIES, Looker
 
 MANY, MUCH = 1024, 4 << 20  # files and bytes that a worker is given at once
 AHEAD = 4  # times as much as the workers do is given out before
@@ -55,7 +57,7 @@ class Verdict(NamedTuple):
 class Checker(Looker):
     """Has a worker for many files, and another one when that has ended."""
 
-    script = os.path.join(os.path.dirname(os.path.realpath(__file__)), "dexasm_judge.py")
+    kind = "dexasm.tools.check.judge:Batch"
 
     def __init__(self, asked: Any) -> None:
         super().__init__(asked.seconds, asked.memory, asked.program)
@@ -116,9 +118,8 @@ class Checker(Looker):
 
 def lead() -> None:
     """Leads the workers to what came with the helpers: the library, or else the command."""
-    library = os.path.join(TOP, "lib", "libdexasm.so.0")
-    if os.path.exists(library):
-        os.environ.setdefault("DEXASM_LIBRARY", library)
+    if os.path.exists(LIBRARY):
+        os.environ.setdefault("DEXASM_LIBRARY", LIBRARY)
     if os.environ.get("DEXASM_LIBRARY"):
         return
     with contextlib.suppress(Failed):
@@ -227,6 +228,6 @@ def judge_at_once(
                 wait()
             yield from first.result()
     finally:
-        dexasm_look.end_all()
+        looker.end_all()
         pool.shutdown(wait=True, cancel_futures=True)
-        dexasm_look.close_all()
+        looker.close_all()

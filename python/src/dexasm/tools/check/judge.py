@@ -1,4 +1,4 @@
-"""Looks at files for dexasm-check: a worker, which this very file is, run as a program.
+"""Looks at files for dexasm-check: the job of a worker.
 
 It is given many paths at once and tells of each as soon as it knows, so that the file at which a limit ended it is the
 next one. It is begun anew at each run, and mostly has .dex files to look at alone: what these don't need is imported
@@ -6,15 +6,10 @@ where it is needed.
 """
 from __future__ import annotations
 
-import os
-import sys
-
-if __name__ == "__main__":  # (Python may have been told not to look for modules there)
-    sys.path.insert(0, os.path.dirname(os.path.realpath(__file__)))
 import resource
 
-from dexasm_basis import ZIP, Failed, reason
-from dexasm_worker import opened_file, work
+from dexasm.tools.basis import ZIP, Failed, reason
+from dexasm.tools.workers.loop import opened_file
 
 TYPE_CHECKING = False  # (as in typing, which takes as long to read as all else here)
 if TYPE_CHECKING:
@@ -32,8 +27,8 @@ class Batch:
     needs = ()
     # What archives and listings need, and the rules of dexasm-lint, read before the first of these so that it takes no
     # file's time.
-    more = "dexasm_archive", "dexasm_faults", "dexasm.faultline"
-    rules = "dexasm.program", "dexasm_lint_code"
+    more = "dexasm.tools.archives", "dexasm.tools.faults", "dexasm.faultline"
+    rules = "dexasm.program", "dexasm.tools.lint.code"
 
     def __init__(self, paths: list[bytes], skipped: tuple[str, ...], is_linted: bool) -> None:
         self.paths, self.skipped, self.is_linted = paths, skipped, is_linted
@@ -51,7 +46,7 @@ class Batch:
                 with opened_file(path) as file:
                     kind = kind_of(path, file)
                     if kind == "archive":
-                        from dexasm_archive import opened
+                        from dexasm.tools.archives import opened
 
                         with opened("", file) as archive:
                             self.look_into(path, archive, tell, is_hashed)
@@ -66,7 +61,7 @@ class Batch:
     def look_into(
         self, path: bytes, archive: zipfile.ZipFile, tell: Callable[..., None], is_hashed: bool
     ) -> None:
-        from dexasm_archive import dex_files, taken_out
+        from dexasm.tools.archives import dex_files, taken_out
 
         found = dex_files(archive)
         if not found:
@@ -114,7 +109,7 @@ def judged(given: bytes, kind: str | None, is_hashed: bool) -> tuple[bytes | Non
     import dexasm
 
     if kind is None:
-        from dexasm_contrib import is_listing
+        from dexasm.tools.asking import is_listing
 
         kind = "listing" if is_listing(given) else "dex"
     try:
@@ -132,7 +127,7 @@ def judged(given: bytes, kind: str | None, is_hashed: bool) -> tuple[bytes | Non
 def broken_rules(given: bytes, made: bytes, is_text: bool) -> Iterator[dict[str, object]]:
     """Which rules of dexasm-lint a program breaks, and where."""
     import dexasm
-    from dexasm_lint_code import broken_by, looked_at
+    from dexasm.tools.lint.code import broken_by, looked_at
 
     program = dexasm.Program.read(made)
     for found in (broken_by(b"", is_text, program), looked_at(b"", given, is_text, program, 1)):
@@ -141,7 +136,7 @@ def broken_rules(given: bytes, made: bytes, is_text: bool) -> Iterator[dict[str,
 
 
 def told(kind: str | None, status: str, **more: object) -> dict[str, object]:
-    """What is known of a verdict (dexasm_check.Verdict), without its path and entry."""
+    """What is known of a verdict (verdicts.Verdict), without its path and entry."""
     return {"kind": kind, "status": status, **more}
 
 
@@ -168,13 +163,9 @@ def place_in(given: bytes, refused: Any) -> dict[str, object]:
         class_, member = (name and name.spelled for name in (where.class_name, where.member))
         place = {"line": where.line, "class_": class_, "member": member and member.partition("->")[2]}
         return {"column": where.column or 1, "instruction": where.insn, "why": where.sentence() or None} | place
-    from dexasm_faults import OF_LINES
+    from dexasm.tools.faults import OF_LINES
 
     if refused.number not in OF_LINES:
         return {}
     row = given.split(b"\n", refused.place)[refused.place - 1] if refused.place else b""
     return {"line": refused.place, "column": len(row) - len(row.lstrip(b" ")) + 1}
-
-
-if __name__ == "__main__":
-    work(float(sys.argv[1]), int(sys.argv[2]), Batch)

@@ -1,4 +1,3 @@
-#!/usr/bin/env python3
 """Keeps what many .dex files have in a database, and asks it: which are one program, who holds a class, who calls.
 
 usage: dexasm-corpus add [--processes N] [--seconds N] [--memory SIZE] [--again] [--strict] DATABASE PATH..
@@ -46,22 +45,21 @@ from __future__ import annotations
 
 import os
 import re
-import sys
 
-sys.dont_write_bytecode = True
-sys.path.insert(0, os.path.join(os.path.dirname(os.path.dirname(os.path.realpath(__file__))), "share", "dexasm"))
-import dexasm_corpus_queries as queries
-from dexasm_contrib import REFUSED, Failed, escaped, positive, run, seconds, size
-from dexasm_corpus import WRONG, Corpus, connected, total, why
-from dexasm_corpus_add import add
-from dexasm_corpus_verify import verify
-from dexasm_rows import add_forms, show
+from dexasm.tools.basis import REFUSED, Failed
+from dexasm.tools.corpus import queries
+from dexasm.tools.corpus.add import add
+from dexasm.tools.corpus.database import WRONG, Corpus, connected, total, why
+from dexasm.tools.corpus.verify import verify
+from dexasm.tools.escapes import escaped
+from dexasm.tools.helper import helper, positive, seconds, size
+from dexasm.tools.rows import add_forms, show
 
 TYPE_CHECKING = False  # (as in typing)
 if TYPE_CHECKING:
     from argparse import Namespace
 
-    from dexasm_contrib import Words
+    from dexasm.tools.helper import Words
 
 # Addresses of Dask at which nobody else can answer: with certificates, or on this machine.
 SAFE = re.compile(r"tls://.+|(?:tcp://)?(?:127(?:\.[0-9]{1,3}){3}|localhost|\[::1\]):[0-9]{1,5}")
@@ -92,7 +90,7 @@ def ask(asked: Namespace) -> int:
 
 def words_of(words: Words) -> Namespace:
     jobs = words.add_subparsers(  # type: ignore[call-overload]  # (what argparse only calls needn't be a class)
-        dest="job", required=True, parser_class=lambda **_: type(words)()
+        dest="job", required=True, parser_class=lambda **_: type(words)(words.program)
     )
     by = {name: jobs.add_parser(name) for name in ("add", "merge", "sum", *queries.QUERIES)}
     for name, parser in by.items():
@@ -129,6 +127,7 @@ def look_at_address(words: Words, asked: Namespace) -> None:
         words.error("who answers at that --scheduler can run programs here: it wants tls:// or --trust")
 
 
+@helper()
 def main(words: Words) -> int:
     asked = words_of(words)
     if asked.job == "add":
@@ -142,4 +141,5 @@ def main(words: Words) -> int:
         raise Failed(f"{escaped(asked.database)}: {why(error)}") from None
 
 
-run(main)
+if __name__ == "__main__":
+    main()

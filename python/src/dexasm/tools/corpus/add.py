@@ -12,19 +12,19 @@ import time
 from collections.abc import Callable, Iterator
 from typing import TYPE_CHECKING, Any
 
-import dexasm_look
-from dexasm_contrib import FAILED, Failed, escaped, reason, say
-from dexasm_corpus import Corpus
-from dexasm_look import KEY, look_batch
-from dexasm_paths import named, walked
-from dexasm_terminal import Line
+from dexasm.tools.basis import FAILED, Failed, reason
+from dexasm.tools.corpus.database import Corpus
+from dexasm.tools.corpus.look import KEY, look_batch
+from dexasm.tools.escapes import escaped
+from dexasm.tools.helper import say
+from dexasm.tools.paths import named, walked
+from dexasm.tools.terminal import Line
+from dexasm.tools.workers import looker
 
 if TYPE_CHECKING:
-    from dexasm_corpus_verify import Verified
+    from dexasm.tools.corpus.verify import Verified
 
 MANY, MUCH = 64, 16 << 20  # files and bytes of a batch
-# What a worker of Dask gets.
-MODULES = ("dexasm_basis", "dexasm_worker", "dexasm_contrib", "dexasm_archive", "dexasm_look")
 GONE = "the scheduler is gone: the same command goes on when there is one"
 SOON, LATE = 30, 600  # seconds for which a scheduler and its workers are waited for, at first and when all were killed
 AGAIN = 10  # how often it goes on after workers of Dask were killed
@@ -108,9 +108,9 @@ class Here:
             yield one, one.result()
 
     def close(self) -> None:
-        dexasm_look.end_all()
+        looker.end_all()
         self.pool.shutdown(wait=True, cancel_futures=True)
-        dexasm_look.close_all()
+        looker.close_all()
 
 
 class Dask:
@@ -119,12 +119,11 @@ class Dask:
     def __init__(self, asked: Any, known: bytes) -> None:
         try:
             import distributed
-            from distributed.diagnostics.plugin import UploadFile
         except ImportError as error:
             raise Failed(f"--scheduler needs the module distributed, of Dask: {escaped(str(error))}") from None
         logging.disable()  # (what goes wrong is one line of ours)
         self.dask, self.is_sent, self.most_bytes = distributed, asked.send, asked.memory
-        self.scheduler, self.plugin, self.known = asked.scheduler, UploadFile, known
+        self.scheduler, self.known = asked.scheduler, known
         self.settings = secrets.token_hex(8), asked.seconds, asked.memory
         self.lost = 0  # how often workers were killed with what they had
         with self.told():
@@ -141,11 +140,8 @@ class Dask:
             raise Failed(f"{escaped(self.scheduler)}: {escaped(str(error)) or type(error).__name__}") from None
 
     def equip(self, patience: int) -> None:
-        """Gives the workers, and those that come, our modules and the keys of the files that are in."""
+        """Gives the workers, and those that come, the keys of the files that are in."""
         with self.told():
-            for module in MODULES:
-                path = os.path.join(os.path.dirname(os.path.realpath(dexasm_look.__file__)), f"{module}.py")
-                self.client.register_worker_plugin(self.plugin(path), name=module)
             self.held = self.client.scatter(self.known, broadcast=True, hash=False, timeout=patience)
 
     def prepare(self, path: bytes, is_named: bool) -> tuple[object, ...]:
@@ -186,6 +182,8 @@ class Dask:
                     is_lost = True
                     self.lose()
                 yield one, None
+            except ModuleNotFoundError as error:
+                raise Failed(f"a worker of Dask hasn't this version of the package dexasm: {escaped(str(error))}") from None
 
     def lose(self) -> None:
         """After workers were killed: where all that had the keys are gone, what needs these was cancelled."""

@@ -16,7 +16,8 @@ from collections.abc import Callable, Iterator
 from typing import Any, TypeVar
 from urllib.parse import quote
 
-from dexasm_contrib import Failed, escaped
+from dexasm.tools.basis import Failed
+from dexasm.tools.escapes import escaped
 
 APPLICATION, VERSION = 0x64786361, 1  # ("dxca")
 Answer = TypeVar("Answer")

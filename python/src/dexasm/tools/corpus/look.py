@@ -1,51 +1,27 @@
 """Looks at .dex files, for dexasm-corpus: each in a worker, a process of its own with limits of memory and of time.
 dexasm-check has other workers of the kind.
 
-A worker is this very file, run as a program: it takes jobs on standard input and answers on standard output, both by
-marshal. What it says of a file before it looks at it tells which file it was that a limit ended it at.
+What a worker says of a file before it looks at it tells which file it was that a limit ended it at.
 """
 from __future__ import annotations
 
-import contextlib
 import io
 import marshal
-import os
 import re
-import signal
-import subprocess
-import sys
-import threading
-import weakref
 from collections.abc import Callable, Generator, Iterator
 
-if __name__ == "__main__":  # (Python may have been told not to look for modules there)
-    sys.path.insert(0, os.path.dirname(os.path.realpath(__file__)))
-from dexasm_basis import DEX, MEMORY, TOP, ZIP, Failed
-from dexasm_worker import opened_file, work
+from dexasm.tools.basis import DEX, ZIP, Failed
+from dexasm.tools.workers.looker import ENDS, SAID, TRIES, Looker
+from dexasm.tools.workers.loop import opened_file
 
 TYPE_CHECKING = False  # (as in typing)
 if TYPE_CHECKING:
     import zipfile
     from typing import Any
 
-TRIES = 3  # how often a job is begun whose worker was killed by somebody
 KEY = 16  # bytes of a SHA-256 by which a worker knows the files that are in
-# Where the module dexasm is, in the repository and in a package; otherwise it is installed.
-PLACES = (("..", "bindings", "python"), ("lib", "python3", "dist-packages"))
-SAID = {
-    "time": "it takes longer than --seconds",
-    "memory": "it takes more than --memory",
-    "killed": "its worker was killed",
-}
 CALL = re.compile(r"^invoke-.* (\S+)$", re.M)
 TEXT = re.compile(r'^const-string\S* v\d+ "(.*)"$', re.M)
-ENDS = {-signal.SIGPROF: "time", -signal.SIGALRM: "time", MEMORY: "memory"}
-
-
-def add_places(ways: list[str]) -> None:
-    """Adds the folder that has the module dexasm, where it came with the helpers."""
-    found = [os.path.realpath(os.path.join(TOP, *place)) for place in PLACES]
-    ways += [way for way in found if os.path.isdir(f"{way}/dexasm")]
 
 
 # ---- in the worker
@@ -56,7 +32,7 @@ class Job:
     that aren't looked at again.
     """
 
-    needs = "hashlib", "collections", "dexasm_archive", "dexasm.program"
+    needs = "hashlib", "collections", "dexasm.tools.archives", "dexasm.program"
 
     def __init__(self, path: bytes, is_named: bool, given: bytes | None, skipped: tuple[str, ...]) -> None:
         self.path, self.is_named, self.given, self.skipped = path, is_named, given, skipped
@@ -72,7 +48,7 @@ class Job:
             first = file.read(len(DEX))
             file.seek(0)
             if first.startswith(ZIP):
-                from dexasm_archive import opened
+                from dexasm.tools.archives import opened
 
                 with opened("", file) as archive:
                     self.look_into(archive, tell, is_known)
@@ -80,7 +56,7 @@ class Job:
                 look_at("", file.read, tell, is_known)
 
     def look_into(self, archive: zipfile.ZipFile, tell: Callable[..., None], is_known: Callable[[bytes], bool]) -> None:
-        from dexasm_archive import dex_files, taken_out
+        from dexasm.tools.archives import dex_files, taken_out
 
         for name, entries in dex_files(archive):
             if name in self.skipped:
@@ -179,78 +155,10 @@ def is_in(known: bytes, sha: bytes) -> bool:
 # ---- who has workers
 
 
-everybody: weakref.WeakSet[Looker] = weakref.WeakSet()
+class CorpusLooker(Looker):
+    """Has a worker for files of a corpus."""
 
-
-class Looker:
-    """Has a worker, and another one when that has ended."""
-
-    script = os.path.realpath(__file__)
-
-    def __init__(self, seconds: float, memory: int, known: object) -> None:
-        self.words, self.known = [str(seconds), str(memory)], known
-        self.worker: subprocess.Popen[bytes] | None = None
-        self.jobs = 0  # that this worker was given
-
-        everybody.add(self)
-
-    def start(self) -> None:
-        for _ in range(TRIES):
-            self.spawn()
-            self.send(self.known)
-            ready, said = self.said() or ("killed", f"it ended with status {self.ended()}")
-            if ready == "ready":
-                return
-            self.stop()
-            if ready == "not ready":
-                break
-        from dexasm_contrib import escaped
-
-        raise Failed(f"a worker doesn't start: {escaped(said)}")
-
-    def spawn(self) -> None:
-        if ending.is_set():
-            raise Failed("no worker is begun any more")
-        ways: list[str] = []
-        add_places(ways)
-        ways.append(os.environ.get("PYTHONPATH", ""))
-        self.jobs = 0
-        self.worker = subprocess.Popen(
-            [sys.executable, "-B", self.script, *self.words],
-            stdin=subprocess.PIPE,
-            stdout=subprocess.PIPE,
-            stderr=subprocess.DEVNULL,
-            start_new_session=True,
-            env={**os.environ, "PYTHONPATH": os.pathsep.join(filter(None, ways))},
-        )
-
-    def send(self, given: Any) -> None:
-        assert self.worker is not None and self.worker.stdin is not None
-        try:
-            marshal.dump(given, self.worker.stdin)
-            self.worker.stdin.flush()
-        except OSError:
-            pass  # (it has ended, which reading will tell)
-
-    def stop(self) -> int:
-        """Ends the worker and what it started, and answers its status."""
-        worker, self.worker = self.worker, None
-        if worker is None:
-            return 0
-        end(worker)
-        close(worker)
-        return worker.returncode
-
-    def said(self) -> tuple[Any, ...] | None:
-        """What the worker says next, or None where it has ended."""
-        assert self.worker is not None and self.worker.stdout is not None
-        try:
-            # (it is waited for here: marshal takes an interrupt for the end)
-            self.worker.stdout.peek(1)  # type: ignore[attr-defined]
-            found: tuple[Any, ...] = marshal.load(self.worker.stdout)
-            return found
-        except (EOFError, ValueError, TypeError):
-            return None
+    kind = "dexasm.tools.corpus.look:Job"
 
     def look(self, path: bytes, is_named: bool, given: bytes | None = None) -> Iterator[tuple[Any, ...]]:
         """What is found of a path: `seen`, `file` or `unread`, each with the path and the entry after it.
@@ -292,15 +200,6 @@ class Looker:
             entry, begun = None, None
         return entry, begun
 
-    def ended(self) -> int:
-        """The status of a worker that said no more."""
-        assert self.worker is not None
-        try:
-            self.worker.wait(1)
-        except subprocess.TimeoutExpired:
-            pass
-        return self.stop()
-
 
 def cut(path: bytes, entry: str, begun: tuple[object, ...] | None, status: str) -> tuple[object, ...]:
     """What is told where a worker ended."""
@@ -311,8 +210,7 @@ def cut(path: bytes, entry: str, begun: tuple[object, ...] | None, status: str) 
 
 # ---- where a scheduler has the workers
 
-idle: dict[tuple[object, ...], list[Looker]] = {}
-ending = threading.Event()
+idle: dict[tuple[object, ...], list[CorpusLooker]] = {}
 
 
 def look_batch(
@@ -323,7 +221,7 @@ def look_batch(
         for looker in idle.pop(old, []):
             looker.stop()
     mine = idle.setdefault((run, seconds, memory), [])
-    looker = mine.pop() if mine else Looker(seconds, memory, known)
+    looker = mine.pop() if mine else CorpusLooker(seconds, memory, known)
     try:
         found = [one for job in jobs for one in looker.look(*job)]
     except BaseException:
@@ -331,37 +229,3 @@ def look_batch(
         raise
     mine.append(looker)
     return found
-
-
-def end(worker: subprocess.Popen[bytes]) -> None:
-    """Ends a worker, and what it started even where it has ended itself."""
-    with contextlib.suppress(ProcessLookupError):
-        os.killpg(worker.pid, signal.SIGKILL)
-    worker.wait()
-
-
-def end_all() -> None:
-    """Ends the workers of this process, whatever they do; those who have them begin no other ones."""
-    ending.set()
-    for looker in [*everybody]:
-        worker = looker.worker
-        if worker is not None and worker.poll() is None:
-            end(worker)
-
-
-def close(worker: subprocess.Popen[bytes]) -> None:
-    """Closes the pipes to a worker."""
-    for pipe in (worker.stdin, worker.stdout):
-        with contextlib.suppress(OSError):
-            pipe.close()  # type: ignore[union-attr]
-
-
-def close_all() -> None:
-    """Closes the pipes to all of them, when they have ended and nobody reads these any more."""
-    for looker in [*everybody]:
-        if looker.worker is not None:
-            close(looker.worker)
-
-
-if __name__ == "__main__":
-    work(float(sys.argv[1]), int(sys.argv[2]), Job)

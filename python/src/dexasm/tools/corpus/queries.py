@@ -2,13 +2,12 @@
 from __future__ import annotations
 
 import sqlite3
-import sys
 from collections.abc import Iterable
 from typing import Any
 
-from dexasm_contrib import Failed, escaped
-from dexasm_corpus import WRONG, attached, connected, is_damaged, why
-from dexasm_look import add_places
+from dexasm.tools.basis import Failed
+from dexasm.tools.corpus.database import WRONG, attached, connected, is_damaged, why
+from dexasm.tools.escapes import escaped
 
 Answer = tuple[list[str], Iterable[tuple[Any, ...]]]
 
@@ -88,7 +87,6 @@ def spelled(word: str, is_name: bool) -> str:
     """A word as a listing spells it: a name, or a string without its quotes."""
     if word.isascii() and word.isprintable() and not set(word) & set('\\" '):
         return word
-    add_places(sys.path)
     from dexasm import names
 
     return names.spelled(word) if is_name else names.quoted(word)[1:-1]

@@ -9,10 +9,11 @@ import stat
 from collections.abc import Iterator
 from typing import Any
 
-from dexasm_contrib import REFUSED, Failed, escaped
-from dexasm_corpus import WRONG, Corpus, connected, kept, refuse_strange, why
-from dexasm_corpus_add import Counts, Here, batches, put_all
-from dexasm_look import KEY
+from dexasm.tools.basis import REFUSED, Failed
+from dexasm.tools.corpus.add import Counts, Here, batches, put_all
+from dexasm.tools.corpus.database import WRONG, Corpus, connected, kept, refuse_strange, why
+from dexasm.tools.corpus.look import KEY
+from dexasm.tools.escapes import escaped
 
 CLAIMS = "select sha256, path, entry from file left join path on file = id"
 Claims = set[tuple[Any, ...]]

@@ -1,4 +1,3 @@
-#!/usr/bin/env python3
 """Tells what is in a .dex file: header, map, tables, sections; and byte by byte.
 
 usage: dexasm-info [--json] [FILE]
@@ -30,16 +29,15 @@ memory.
 from __future__ import annotations
 
 import json
-import os
 import re
-import sys
 
-sys.dont_write_bytecode = True
-sys.path.insert(0, os.path.join(os.path.dirname(os.path.dirname(os.path.realpath(__file__))), "share", "dexasm"))
-from dexasm_contrib import REFUSED, ZIP, Failed, dexasm, get, name_of, run, say
-from dexasm_dump import dump
-from dexasm_file import KINDS, Dex, sizes
-from dexasm_info import ROWS, as_text, hashes, header, line_of, map_entries, rows_read, sections, tables
+from dexasm.tools.asking import ask
+from dexasm.tools.basis import REFUSED, ZIP, Failed
+from dexasm.tools.files import get, name_of
+from dexasm.tools.helper import helper, say
+from dexasm.tools.info.dump import dump
+from dexasm.tools.info.tables import ROWS, as_text, hashes, header, line_of, map_entries, rows_read, sections, tables
+from dexasm.tools.layout import KINDS, Dex, sizes
 
 TYPE_CHECKING = False  # (as in typing)
 if TYPE_CHECKING:
@@ -47,7 +45,7 @@ if TYPE_CHECKING:
     from collections.abc import Iterable, Iterator
     from typing import Any
 
-    from dexasm_contrib import Words
+    from dexasm.tools.helper import Words
 
 RANGE = re.compile(r"(0x[0-9A-Fa-f]{1,16}|[0-9]{1,19})?\.\.(0x[0-9A-Fa-f]{1,16}|[0-9]{1,19})?")
 
@@ -64,7 +62,7 @@ def facts(data: bytes, refusal: tuple[int, str, int] | None, prog: str, name: st
     if refusal:
         number, fault, place = refusal
         return {"refused": {"number": number, "name": fault, "place": place}} | told | {"tables": rows_read(data)}
-    stripped = dexasm("strip", given=data)
+    stripped = ask("strip", given=data)
     if stripped.status:
         say(f"{prog}: {name}: it can't be stripped: {stripped.last()}")
     told["program"] = None if stripped.status else hashes(stripped.answer)
@@ -138,6 +136,7 @@ def asked_range(words: Words, asked: Namespace) -> tuple[int, int | None]:
     return low, high
 
 
+@helper()
 def main(words: Words) -> int:
     kinds = words.add_mutually_exclusive_group()
     kinds.add_argument("--json", action="store_true")
@@ -149,7 +148,7 @@ def main(words: Words) -> int:
     data, name = get(path), name_of(path)
     if data.startswith(ZIP):
         raise Failed(f"{name}: a zip archive: dexasm-apk looks at the .dex files in it")
-    ended = dexasm("check", given=data)
+    ended = ask("check", given=data)
     refusal = ended.refusal()
     if ended.status and not refusal:
         raise Failed(f"{name}: {ended.last()}", ended.status)
@@ -165,4 +164,5 @@ def main(words: Words) -> int:
     return 0
 
 
-run(main)
+if __name__ == "__main__":
+    main()

@@ -10,8 +10,10 @@ import struct
 from collections.abc import Callable, Iterable, Iterator
 from functools import partial
 
-from dexasm_contrib import listed, shortened
-from dexasm_file import (
+from dexasm.tools.asking import listed
+from dexasm.tools.escapes import shortened
+from dexasm.tools.info.tables import MAP_TYPES, ROWS, Readable, as_text, has_tables, header, map_place, quoted, spelled
+from dexasm.tools.layout import (
     ABSENT,
     ARRAY,
     BOOLEAN,
@@ -37,14 +39,13 @@ from dexasm_file import (
     units_of,
     values,
 )
-from dexasm_info import MAP_TYPES, ROWS, Readable, as_text, has_tables, header, map_place, quoted, spelled
-from dexasm_uses import CLASS_FLAGS, FIELD_FLAGS, METHOD_FLAGS, flag_words
+from dexasm.tools.uses import CLASS_FLAGS, FIELD_FLAGS, METHOD_FLAGS, flag_words
 
 TYPE_CHECKING = False  # (as in typing)
 if TYPE_CHECKING:
     import dexasm.code
     from dexasm.program import Program
-    from dexasm_file import Read
+    from dexasm.tools.layout import Read
 
 WIDTH = 8  # bytes a line
 UNNEEDED: dict[Read, str] = {

@@ -8,9 +8,9 @@ import hashlib
 import struct
 from collections.abc import Iterator
 
-from dexasm_contrib import DEX, part
-from dexasm_file import ABSENT, HEADER, MAP_OFF, NO_FILE, TABLES, Outside, Reader, Tables
-from dexasm_uses import CLASS_FLAGS, flag_words
+from dexasm.tools.basis import DEX
+from dexasm.tools.layout import ABSENT, HEADER, MAP_OFF, NO_FILE, TABLES, Outside, Reader, Tables
+from dexasm.tools.uses import CLASS_FLAGS, flag_words
 
 TYPE_CHECKING = False  # (as in typing)
 if TYPE_CHECKING:
@@ -103,14 +103,16 @@ class Readable(Tables):
 
 def quoted(text: str) -> str:
     """A text as a listing has it: ASCII, with nothing that a terminal obeys."""
-    said: str = part("names").quoted(text)
-    return said
+    from dexasm import names
+
+    return names.quoted(text)
 
 
 def spelled(name: str) -> str:
     """A name as a listing has it."""
-    said: str = part("names").spelled(name)
-    return said
+    from dexasm import names
+
+    return names.spelled(name)
 
 
 def has_tables(data: bytes) -> bool:

@@ -1,4 +1,3 @@
-#!/usr/bin/env python3
 """Says where a program breaks a rule that Android's verifier has and dexasm doesn't ask.
 
 usage: dexasm-lint [--code [--jobs N]] [--json|--sarif] [FILE..]
@@ -91,14 +90,15 @@ from __future__ import annotations
 import os
 import sys
 
-sys.dont_write_bytecode = True
-sys.path.insert(0, os.path.join(os.path.dirname(os.path.dirname(os.path.realpath(__file__))), "share", "dexasm"))
-from dexasm_check import Verdict
-from dexasm_contrib import FAILED, MEMORY, REFUSED, Failed, dex_from, get, is_listing, listed, name_of, positive, run
-from dexasm_contrib import say
-from dexasm_lint_code import broken_by, kind_by, line_of, looked_at, member_of
-from dexasm_rules import RULES
-from dexasm_verdicts import Json, Sarif, Text, harmless, sentence_of, status_of
+from dexasm.tools.asking import dex_from, is_listing, listed
+from dexasm.tools.basis import FAILED, MEMORY, REFUSED, Failed
+from dexasm.tools.check.checkers import Verdict
+from dexasm.tools.files import get, name_of
+from dexasm.tools.helper import helper, positive
+from dexasm.tools.helper import say
+from dexasm.tools.lint.code import broken_by, kind_by, line_of, looked_at, member_of
+from dexasm.tools.lint.rules import RULES
+from dexasm.tools.verdicts import Json, Sarif, Text, harmless, sentence_of, status_of
 
 TYPE_CHECKING = False  # (as in typing)
 if TYPE_CHECKING:
@@ -106,7 +106,7 @@ if TYPE_CHECKING:
     from collections.abc import Iterator
     from typing import Any
 
-    from dexasm_contrib import Words
+    from dexasm.tools.helper import Words
 
 ENDS = {REFUSED: "refused", MEMORY: "memory"}
 
@@ -165,6 +165,7 @@ def words_of(words: Words) -> Namespace:
     return words.parse_args()
 
 
+@helper(unread=FAILED)
 def main(words: Words) -> int:
     asked = words_of(words)
     form = FORMS[asked.form]() if asked.form else Lines()
@@ -189,4 +190,5 @@ def tell(lines: list[str]) -> None:
         print(*lines, sep="\n")
 
 
-run(main, unread=FAILED)
+if __name__ == "__main__":
+    main()

@@ -1,15 +1,15 @@
 """What the steps of dexasm-lint --code ask of registers, and how they leave values in them.
 
-`line` has the kinds of the registers, and the method is told what is wrong (dexasm_verify has both)."""
+`line` has the kinds of the registers, and the method is told what is wrong (verify.py has both)."""
 from __future__ import annotations
 
-from dexasm_kinds import ANY, NUMBERS, PAIRS, Kind
+from dexasm.tools.lint.kinds import ANY, NUMBERS, PAIRS, Kind
 
 TYPE_CHECKING = False  # (as in typing)
 if TYPE_CHECKING:
     from collections.abc import Sequence
 
-    from dexasm_verify import Method
+    from dexasm.tools.lint.verify import Method
 
 Line = list[Kind]
 

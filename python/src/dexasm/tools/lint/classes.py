@@ -7,8 +7,8 @@ from __future__ import annotations
 from collections.abc import Callable
 from typing import TYPE_CHECKING, Any, NamedTuple
 
-from dexasm_kinds import OBJECT, THROWABLE
-from dexasm_rules import ABSTRACT, INTERFACE, PRIVATE
+from dexasm.tools.lint.kinds import OBJECT, THROWABLE
+from dexasm.tools.lint.rules import ABSTRACT, INTERFACE, PRIVATE
 
 if TYPE_CHECKING:
     from dexasm.members import Class

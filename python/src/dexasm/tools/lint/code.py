@@ -1,35 +1,33 @@
 """What is wrong in a program, for dexasm-lint and dexasm-check --lint: from a file to lines, with the place of what is
 wrong in its code in the listing where one was given.
 
-With --jobs N this very file is also run as a worker, which is given the listing once and numbers of classes after it.
+With --jobs N there are workers too, which are given the listing once and numbers of classes after it.
 """
 from __future__ import annotations
 
 import concurrent.futures
-import os
 import re
-import sys
 from collections.abc import Iterator
 from itertools import accumulate
 from typing import TYPE_CHECKING, Any, NamedTuple
 
-if __name__ == "__main__":  # (Python may have been told not to look for modules there)
-    sys.path.insert(0, os.path.dirname(os.path.realpath(__file__)))
-import dexasm_worker
-from dexasm_check import Verdict, lead
-from dexasm_classes import Classes
-from dexasm_contrib import LONGEST, Failed, module
-from dexasm_kinds import Kind, Kinds
-from dexasm_look import Looker
-from dexasm_rules import PAGE, broken, classes_of, said_of
-from dexasm_rules import RULES as FILE_RULES
-from dexasm_uses import fresh
-from dexasm_verify import MOST_TOLD, TooMuch, Wrong, check
+from dexasm import listed, names
+from dexasm.formats import format_of
+from dexasm.tools.basis import Failed
+from dexasm.tools.check.checkers import Verdict, lead
+from dexasm.tools.escapes import LONGEST
+from dexasm.tools.lint.classes import Classes
+from dexasm.tools.lint.kinds import Kind, Kinds
+from dexasm.tools.lint.rules import PAGE, broken, classes_of, said_of
+from dexasm.tools.lint.rules import RULES as FILE_RULES
+from dexasm.tools.lint.verify import MOST_TOLD, TooMuch, Wrong, check
+from dexasm.tools.uses import fresh
+from dexasm.tools.workers.looker import Looker
 
 if TYPE_CHECKING:
     from collections.abc import Callable
 
-    from dexasm import listed, members
+    from dexasm import members
     from dexasm.code import Code, Insn
     from dexasm.program import Program
 
@@ -226,7 +224,7 @@ class Part:
 
 
 class Worker(Looker):
-    script = os.path.realpath(__file__)
+    kind = "dexasm.tools.lint.code:Part"
 
     def part(self, first: int, end: int) -> list[Told]:
         if self.worker is None:
@@ -288,13 +286,13 @@ class Places:
 
     def __init__(self, path: bytes, kind: str, program: Program, listing: bytes | None) -> None:
         self.path, self.kind, self.program = path, kind, program
-        self.read = module().listed.Listing(listing) if listing is not None else None
+        self.read = listed.Listing(listing) if listing is not None else None
         self.row = -1  # of the class that was looked at last, its methods, and their codes as the listing has them
         self.methods: tuple[Any, ...] = ()
         self.codes: dict[tuple[str, str, str], listed.Code] = {}
 
     def open(self, row: int) -> None:
-        one, said = self.program.classes[row], module().listed.said
+        one, said = self.program.classes[row], listed.said
         self.row, self.methods = row, one.methods
         members = self.read.one(row).members if self.read else ()
         self.codes = {
@@ -306,7 +304,7 @@ class Places:
     def verdict(self, told: Told) -> Verdict:
         if self.row != told.row:
             self.open(told.row)
-        names, one, method = module().names, self.program.classes[told.row], self.methods[told.method]
+        one, method = self.program.classes[told.row], self.methods[told.method]
         key = "direct" if told.method < len(one.directs) else "virtual"
         lines = self.codes.get((key, method.name, method.proto))
         line = column = address = None
@@ -337,23 +335,20 @@ class Places:
         if found[2].isdecimal():
             at = int(found[2])
             return f"instruction {at}" if lines is None else f"line {lines.insns[at].number}"
-        type_ = module().names.type_of(found[2])
-        said: str = module().listed.brief(type_ if found[1] else type_.pretty)
-        return said
+        type_ = names.type_of(found[2])
+        return listed.brief(type_ if found[1] else type_.pretty)
 
     def column(self, line: listed.Line, register: int) -> int:
         """That of the register, as what is read and not what is written; of the second of a pair that of the first."""
-        rules = module().listed
-        words: dict[int, listed.Word] = {rules.register_of(word): word for word in rules.registers(line)}
+        words: dict[int, listed.Word] = {listed.register_of(word): word for word in listed.registers(line)}
         return (words.get(register) or words.get(register - 1) or line.words[0]).column
 
 
 def units(insn: Insn) -> int:
     """How many units of 16 bits an instruction takes."""
-    form = module().formats.format_of(insn.mnemonic)
+    form = format_of(insn.mnemonic)
     if form is not None:
-        count: int = form.units
-        return count
+        return form.units
     if hasattr(insn, "keys"):
         return 2 + 4 * len(insn.keys)
     if hasattr(insn, "targets"):
@@ -405,7 +400,3 @@ def line_of(name: str, verdict: Verdict, error: str = "error:") -> str:
         at += f": {verdict.instruction} (0x{verdict.address:02x})"
     end = f"({verdict.rule}, {verdict.page})" if verdict.rule else f"(in {member})"
     return f"{at}: {error} {verdict.why} {end}"
-
-
-if __name__ == "__main__":
-    dexasm_worker.work(float(sys.argv[1]), int(sys.argv[2]), Part)

@@ -1,12 +1,12 @@
 """What the instructions on objects, arrays, fields and calls take of a method's registers and what they leave in them:
-steps of dexasm-lint --code, as dexasm_steps has them."""
+steps of dexasm-lint --code, as steps.py has them."""
 from __future__ import annotations
 
-import dexasm_kinds as kinds
-from dexasm_asks import ASK, Line, ask_int, ask_reference, ask_type, ask_wide, put, put_some
-from dexasm_classes import LISTED
-from dexasm_kinds import ANY, INT, OBJECT, WIDE
-from dexasm_rules import STATIC
+from dexasm.tools.lint import kinds
+from dexasm.tools.lint.asks import ASK, Line, ask_int, ask_reference, ask_type, ask_wide, put, put_some
+from dexasm.tools.lint.classes import LISTED
+from dexasm.tools.lint.kinds import ANY, INT, OBJECT, WIDE
+from dexasm.tools.lint.rules import STATIC
 
 TYPE_CHECKING = False  # (as in typing)
 if TYPE_CHECKING:
@@ -14,8 +14,8 @@ if TYPE_CHECKING:
     from typing import Any
 
     from dexasm.code import Insn
-    from dexasm_classes import Call
-    from dexasm_verify import Method
+    from dexasm.tools.lint.classes import Call
+    from dexasm.tools.lint.verify import Method
 
     Named = Any  # an Insn whose name or target is asked for: by its class each may be None
 

@@ -9,7 +9,7 @@ import os
 import re
 from typing import TYPE_CHECKING, Iterator, NamedTuple, Optional
 
-from dexasm_contrib import TOP, get, module
+from dexasm.tools.files import get
 
 if TYPE_CHECKING:
     from dexasm.program import Program
@@ -106,14 +106,15 @@ class Broken(NamedTuple):
 @functools.cache
 def said_of() -> dict[str, str]:
     """What is wrong where a rule is broken, one of these or of code, as the help of dexasm-lint has it."""
-    help_ = ast.get_docstring(ast.parse(get(os.path.join(TOP, "bin", "dexasm-lint"))), clean=False) or ""
+    help_ = ast.get_docstring(ast.parse(get(os.path.join(os.path.dirname(__file__), "__main__.py"))), clean=False) or ""
     found = re.findall(r"^  ([a-z-]+)  (\S.*(?:\n {6}.*)*)", help_, re.M)
     return {rule: " ".join(text.split()) for rule, text in found}
 
 
 def classes_of(program: "Program") -> Iterator[Class]:
     """The classes of a program, with names and the first words of values as a listing spells them."""
-    spelled = module().names.spelled
+    from dexasm.names import spelled
+
     for one in program.classes:
         members = []
         for kind, fields in (("static", one.statics), ("instance", one.instances)):

@@ -1,6 +1,6 @@
 """What each instruction takes of a method's registers and what it leaves in them: for dexasm-lint --code.
 
-A step is given the method (dexasm_verify has it), the instruction, the kinds of the registers and the instruction's
+A step is given the method (verify.py has it), the instruction, the kinds of the registers and the instruction's
 number. It asks what the page "Dalvik bytecode constraints" asks of the instruction, changes the kinds, and tells the
 method what is wrong; a register that was told of has no kind any more that anything is said of."""
 from __future__ import annotations
@@ -10,15 +10,15 @@ import re
 from collections.abc import Callable
 from typing import NamedTuple
 
-import dexasm_kinds as kinds
-import dexasm_objects as objects
-from dexasm_asks import ASK, Line, ask_int, ask_type, ask_wide, put, put_pair
-from dexasm_kinds import ANY, CONFLICT, INT, NUMBERS, PAIRS, THROWABLE, WIDE
+from dexasm.tools.lint import kinds
+from dexasm.tools.lint import objects
+from dexasm.tools.lint.asks import ASK, Line, ask_int, ask_type, ask_wide, put, put_pair
+from dexasm.tools.lint.kinds import ANY, CONFLICT, INT, NUMBERS, PAIRS, THROWABLE, WIDE
 
 TYPE_CHECKING = False  # (as in typing)
 if TYPE_CHECKING:
     from dexasm.code import Insn
-    from dexasm_verify import Method
+    from dexasm.tools.lint.verify import Method
 
 ADD = r"(?:add|sub|mul|div|rem)"
 # The instructions of which no more is asked than kinds: the register that is written and its type, and each that is

@@ -10,12 +10,12 @@ import heapq
 from bisect import bisect_right
 from typing import TYPE_CHECKING, NamedTuple
 
-from dexasm_asks import put_pair
-from dexasm_classes import Classes
-from dexasm_kinds import ANY, CONFLICT, OBJECT, REFERENCE, THROWABLE, UNSET, Kind, Kinds
-from dexasm_kinds import PAIRS as WIDE_TYPES
-from dexasm_rules import STATIC
-from dexasm_steps import step_of
+from dexasm.tools.lint.asks import put_pair
+from dexasm.tools.lint.classes import Classes
+from dexasm.tools.lint.kinds import ANY, CONFLICT, OBJECT, REFERENCE, THROWABLE, UNSET, Kind, Kinds
+from dexasm.tools.lint.kinds import PAIRS as WIDE_TYPES
+from dexasm.tools.lint.rules import STATIC
+from dexasm.tools.lint.steps import step_of
 
 if TYPE_CHECKING:
     from dexasm import members

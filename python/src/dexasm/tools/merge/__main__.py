@@ -1,4 +1,3 @@
-#!/usr/bin/env python3
 """Makes one .dex file of several: it has the classes of all of them.
 
 usage: dexasm-merge [--same] FILE.. --output OUT
@@ -22,17 +21,17 @@ out of memory.
 """
 from __future__ import annotations
 
-import os
 import sys
 
-sys.dont_write_bytecode = True
-sys.path.insert(0, os.path.join(os.path.dirname(os.path.dirname(os.path.realpath(__file__))), "share", "dexasm"))
-from dexasm_contrib import FAILED, deliver, name_of, program_of, run
-from dexasm_merge import Merged
+from dexasm.tools.asking import program_of
+from dexasm.tools.basis import FAILED
+from dexasm.tools.files import deliver, name_of
+from dexasm.tools.helper import helper
+from dexasm.tools.merge.merged import Merged
 
 TYPE_CHECKING = False  # (as in typing)
 if TYPE_CHECKING:
-    from dexasm_contrib import Words
+    from dexasm.tools.helper import Words
 
 
 def merged(paths: list[str | None], takes_same: bool) -> bytes:
@@ -43,6 +42,7 @@ def merged(paths: list[str | None], takes_same: bool) -> bytes:
     return whole.file()
 
 
+@helper(unread=FAILED)
 def main(words: Words) -> int:
     words.add_argument("--same", action="store_true")
     words.add_argument("--output", "-o", metavar="OUT", required=True)
@@ -60,4 +60,5 @@ def main(words: Words) -> int:
     return 0
 
 
-run(main, unread=FAILED)
+if __name__ == "__main__":
+    main()

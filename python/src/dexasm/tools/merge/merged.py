@@ -3,8 +3,10 @@ from __future__ import annotations
 
 from typing import Any, NamedTuple
 
-from dexasm_contrib import REFUSED, Ended, Failed, dexasm, module, shortened
-from dexasm_faults import MENDS, OF_COUNTS
+from dexasm.tools.asking import Ended, ask
+from dexasm.tools.basis import REFUSED, Failed
+from dexasm.tools.escapes import shortened
+from dexasm.tools.faults import MENDS, OF_COUNTS
 
 MOST = 4  # classes of a cycle that are named
 LOOKED_AT = 8 << 20  # bytes of a listing in which the word is looked for that is one too many: that takes 20 s
@@ -43,9 +45,11 @@ class Merged:
 
     def file(self) -> bytes:
         """The bytes of the .dex file of all of them."""
+        from dexasm.program import HEAD
+
         order = Order(self.classes).whole()
-        listing = "".join([module().program.HEAD, *(self.classes[name].text for name in order)]).encode("ascii")
-        ended = dexasm("assemble", given=listing)
+        listing = "".join([HEAD, *(self.classes[name].text for name in order)]).encode("ascii")
+        ended = ask("assemble", given=listing)
         if ended.status:
             raise Failed(self.why(ended, listing, order), ended.status)
         return ended.answer
@@ -55,8 +59,10 @@ class Merged:
         refusal = ended.refusal()
         if refusal is None:
             return ended.last()
+        from dexasm.faultline import of
+
         number, _, place = refusal
-        where = module().faultline.of(listing, number, place) if len(listing) <= LOOKED_AT else None
+        where = of(listing, number, place) if len(listing) <= LOOKED_AT else None
         name = where.class_name if where else order[place] if number not in OF_COUNTS and place < len(order) else None
         parts = [ended.last()]
         if name in self.classes:
@@ -82,7 +88,9 @@ class Order:
 
     def needs(self, name: str) -> list[str]:
         """What has to stand before a class, the last of them first."""
-        one = module().Class.of_text(self.classes[name].text)
+        from dexasm.members import Class
+
+        one = Class.of_text(self.classes[name].text)
         above = [*([] if one.superclass is None else [one.superclass]), *one.interfaces]
         return [each for each in reversed(above) if each in self.classes]
 
@@ -110,4 +118,6 @@ class Order:
 
 def said(name: Any) -> str:
     """A name as a listing spells it, the beginning of a long one."""
-    return shortened(module().names.spelled(name))
+    from dexasm.names import spelled
+
+    return shortened(spelled(name))

@@ -8,7 +8,7 @@ import re
 import unicodedata
 from collections.abc import Iterable
 
-from dexasm_contrib import escaped, shown
+from dexasm.tools.escapes import escaped, shown
 
 LONGEST = 120  # characters of a name where it isn't the listing's own line
 MARKS = 4  # that may stand on one character ("Unicode Security Mechanisms", UTS 39, 5.4: no more nonspacing marks)

@@ -7,7 +7,7 @@ import os
 import unicodedata
 from collections.abc import Callable, Iterable, Iterator
 
-from dexasm_html import drawn_text, plain, row, seen, table, text
+from dexasm.tools.pages.markup import drawn_text, plain, row, seen, table, text
 
 TYPE_CHECKING = False  # (as in typing)
 if TYPE_CHECKING:

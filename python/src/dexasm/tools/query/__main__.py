@@ -1,4 +1,3 @@
-#!/usr/bin/env python3
 """Prints what a .dex file has, as JSON or as a part of its listing: an example to start from.
 
 usage: dexasm-query classes|strings|calls|fields [FILE]
@@ -28,16 +27,14 @@ written, 4 out of memory.
 from __future__ import annotations
 
 import json
-import os
-import sys
 
-sys.dont_write_bytecode = True
-sys.path.insert(0, os.path.join(os.path.dirname(os.path.dirname(os.path.realpath(__file__))), "share", "dexasm"))
-from dexasm_contrib import answer, dex_of, listed, name_of, program_of, run
-from dexasm_file import Tables
-from dexasm_info import line_of, row_of
-from dexasm_show import show
-from dexasm_uses import CLASS_FLAGS, flag_words
+from dexasm.tools.asking import answer, dex_of, listed, program_of
+from dexasm.tools.files import name_of
+from dexasm.tools.helper import helper
+from dexasm.tools.info.tables import line_of, row_of
+from dexasm.tools.layout import Tables
+from dexasm.tools.query.show import show
+from dexasm.tools.uses import CLASS_FLAGS, flag_words
 
 TYPE_CHECKING = False  # (as in typing)
 if TYPE_CHECKING:
@@ -46,7 +43,7 @@ if TYPE_CHECKING:
     from typing import Any
 
     from dexasm.program import Program
-    from dexasm_contrib import Words
+    from dexasm.tools.helper import Words
 
     Query = Callable[[Program], dict[str, Any]]
 
@@ -126,6 +123,7 @@ def table_lines(found: dict[str, Any]) -> Iterator[str]:
             yield f"{name} {at} {line_of(TABLES[name], row)}"
 
 
+@helper()
 def main(words: Words) -> int:
     queries: dict[str, Query] = {"classes": classes, "strings": strings, "calls": calls, "fields": fields}
     for option in ("--addresses", "--lines"):
@@ -158,4 +156,5 @@ def answered(asked: Namespace, file: str | None, names: list[str], queries: dict
     return table_lines(found) if asked.lines else [json.dumps(found, indent=1)]
 
 
-run(main)
+if __name__ == "__main__":
+    main()

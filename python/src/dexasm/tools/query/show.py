@@ -3,8 +3,9 @@ from __future__ import annotations
 
 from collections.abc import Iterator
 
-from dexasm_contrib import USAGE, Failed, escaped, module
-from dexasm_file import Tables, addresses
+from dexasm.tools.basis import USAGE, Failed
+from dexasm.tools.escapes import escaped
+from dexasm.tools.layout import Tables, addresses
 
 TYPE_CHECKING = False  # (as in typing)
 if TYPE_CHECKING:
@@ -17,10 +18,12 @@ BLANK = " " * len("00000000 0000 ")
 
 def chosen(program: Program, names: list[str]) -> dict[int, set[str] | None]:
     """Of each class that the names name, by its place: the members' signatures, or None for all of it."""
+    from dexasm.names import unspelled
+
     found: dict[int, set[str] | None] = {}
     for asked in names:
         try:
-            name = module().names.unspelled(asked)
+            name = unspelled(asked)
         except ValueError:
             name = asked
         owner, is_member, wanted = name.partition("->")

@@ -1,4 +1,3 @@
-#!/usr/bin/env python3
 """Shows what takes the space of a .dex file, or what two builds of one differ by: bytes by package, class, method or
 string, to the byte.
 
@@ -44,17 +43,18 @@ from __future__ import annotations
 
 import json
 import os
-import sys
 
-sys.dont_write_bytecode = True
-sys.path.insert(0, os.path.join(os.path.dirname(os.path.dirname(os.path.realpath(__file__))), "share", "dexasm"))
-from dexasm_change_page import changes_page
-from dexasm_changes import HEADS, Changes
-from dexasm_contrib import ZIP, Failed, answer, deliver, dexasm, escaped, get, name_of, run, say, shortened
-from dexasm_file import Dex
-from dexasm_page import html_page
-from dexasm_rows import add_forms, write_csv
-from dexasm_sizes import BY, COLUMNS, by_package, bytes_of, rows_of
+from dexasm.tools.asking import answer, ask
+from dexasm.tools.basis import ZIP, Failed
+from dexasm.tools.escapes import escaped, shortened
+from dexasm.tools.files import deliver, get, name_of
+from dexasm.tools.helper import helper, say
+from dexasm.tools.layout import Dex
+from dexasm.tools.pages.page import html_page
+from dexasm.tools.rows import add_forms, write_csv
+from dexasm.tools.size.change_page import changes_page
+from dexasm.tools.size.changes import HEADS, Changes
+from dexasm.tools.sizes import BY, COLUMNS, by_package, bytes_of, rows_of
 
 TYPE_CHECKING = False  # (as in typing)
 if TYPE_CHECKING:
@@ -62,8 +62,8 @@ if TYPE_CHECKING:
     from collections.abc import Callable, Iterable, Iterator, Sequence
     from typing import Any
 
-    from dexasm_changes import Change
-    from dexasm_contrib import Words
+    from dexasm.tools.helper import Words
+    from dexasm.tools.size.changes import Change
 
     Numbers = list[int | None]  # in the order of COLUMNS
     Row = tuple[str, Numbers]
@@ -112,7 +112,7 @@ def checked(path: str) -> bytes:
 
 def one_file(path: str, asked: Namespace, prog: str) -> None:
     data, name = checked(path), name_of(path)
-    stripped = dexasm("strip", given=data)
+    stripped = ask("strip", given=data)
     if stripped.status:
         say(f"{prog}: {name}: it can't be stripped, so the column strip is empty: {stripped.last()}")
     dexes = Dex(data), None if stripped.status else Dex(stripped.answer)
@@ -151,6 +151,7 @@ def two_files(old: str, new: str, asked: Namespace) -> None:
         aligned([HEADS, *map(change_line, [*found.rows, *found.rest, total])], asked.by)
 
 
+@helper()
 def main(words: Words) -> int:
     words.add_argument("--by", choices=BY, default=BY[0])
     words.add_argument("--sort", choices=(*COLUMNS, "name"), default=COLUMNS[0])
@@ -170,4 +171,5 @@ def main(words: Words) -> int:
     return 0
 
 
-run(main)
+if __name__ == "__main__":
+    main()

@@ -3,9 +3,9 @@ from __future__ import annotations
 
 from collections.abc import Iterator
 
-from dexasm_changes import HEADS, Change, Changes, total_of
-from dexasm_html import number, table, text
-from dexasm_page import MOST_ROWS, page_of
+from dexasm.tools.pages.markup import number, table, text
+from dexasm.tools.pages.page import MOST_ROWS, page_of
+from dexasm.tools.size.changes import HEADS, Change, Changes, total_of
 
 
 def signed(count: int) -> str:

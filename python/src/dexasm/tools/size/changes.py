@@ -3,8 +3,8 @@ from __future__ import annotations
 
 from typing import NamedTuple
 
-from dexasm_file import KINDS
-from dexasm_sizes import Rows
+from dexasm.tools.layout import KINDS
+from dexasm.tools.sizes import Rows
 
 HEADS = ("change", *KINDS, "before", "after", "what", "name")
 

@@ -12,7 +12,7 @@ import signal
 import stat
 import sys
 
-from dexasm_basis import MEMORY, Failed, reason
+from dexasm.tools.basis import MEMORY, Failed, reason
 
 TYPE_CHECKING = False  # (as in typing, which takes as long to read as all else here)
 if TYPE_CHECKING:
