@@ -74,7 +74,7 @@ def program_of(program: str) -> Subject:
 
 
 def environment(program: str) -> dict[str, str]:
-    return {**os.environ, "DEXASM_COMMAND": program, "PYTHONPATH": os.path.join(TOP, "bindings/python")}
+    return {**os.environ, "DEXASM_COMMAND": program, "PYTHONPATH": os.path.join(TOP, "python/src")}
 
 
 def module_of(program: str) -> Subject:
@@ -83,7 +83,7 @@ def module_of(program: str) -> Subject:
 
 
 def close_of(program: str) -> Subject:
-    words = [sys.executable, "-B", os.path.join(TOP, "contrib/bin/dexasm-close")]
+    words = [sys.executable, "-B", os.path.join(TOP, "python/bin/dexasm-close")]
     return Subject("dexasm-close, ", words, WRONG, FILE, '"out"', FEW, SOME, environment(program))
 
 

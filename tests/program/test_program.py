@@ -226,7 +226,7 @@ class Words(ProgramTest):
         """What bash prints of this command in that folder, where `dexasm` is the program."""
         env = {
             **os.environ,
-            "PATH": os.pathsep.join([self.in_folder("bin"), os.path.join(TOP, "contrib/bin"), os.environ["PATH"]]),
+            "PATH": os.pathsep.join([self.in_folder("bin"), os.path.join(TOP, "python/bin"), os.environ["PATH"]]),
         }
         status, out, _ = ended(
             ["bash", "-c", command],

@@ -1,1 +1,1 @@
-"""The helpers below contrib/bin, each in a module of its own, and the recipes of the pages."""
+"""The helpers of python/src/dexasm/tools, each in a module of its own, and the recipes of the pages."""

@@ -71,11 +71,11 @@ URI = re.compile(r"(?:[A-Za-z0-9._~!$&'()*+,;=@/:-]|%[0-9A-F]{2})+")
 def alone() -> str:
     """The helpers without any library beside them: over the command."""
     at = room("check alone")
-    for folder in ("contrib", "bindings/python/dexasm"):
+    for folder in ("python/bin", "python/src"):
         shutil.copytree(os.path.join(TOP, folder), os.path.join(at, folder), ignore=shutil.ignore_patterns("*.so*"))
     for page in ("FORMAT.md", "LISTING.md"):
         put(at, f"docs/{page}", get(TOP, "docs", page))
-    return os.path.join(at, "contrib", "bin")
+    return os.path.join(at, "python", "bin")
 
 
 def checked(*words: str, at: str, given: bytes = b"", **env: Any) -> Ended:
@@ -316,7 +316,7 @@ def try_lint_limits() -> None:
     seen = by_command("--lint", "d.dex", "b.txt", at=at, DEXASM_COMMAND=killed)
     want = "d.dex: error: its worker was killed\nb.txt: error: its worker was killed\n"
     check("dexasm-check --lint, killed", seen == (3, want, ""), seen)
-    seen = run([sys.executable, "-B", "-c", TOLD_ONCE, os.path.join(TOP, "contrib", "share", "dexasm")], at=at)
+    seen = run([sys.executable, "-B", "-c", TOLD_ONCE, os.path.join(TOP, "python", "src")], at=at)
     check("dexasm-check --lint, told once", seen == (0, "broken broken broken killed broken ok\n", ""), seen)
     head = LINTED.replace(b"add-int v1 v0 v0", b"nop").replace(b"long 5", b"int 5")
     many = head.replace(b"end class", b"end class\n" + b"".join(
@@ -331,8 +331,7 @@ def try_lint_limits() -> None:
 TOLD_ONCE = """
 import sys
 sys.path.insert(0, sys.argv[1])
-import dexasm_check
-from dexasm_check import Checker
+from dexasm.tools.check.checkers import Checker
 class asked: jobs, seconds, memory, program, lint = 1, 60, 1 << 30, False, True
 wrong, ok = ("broken", "", {"kind": "dex", "status": "broken"}), ("verdict", "", {"kind": "dex", "status": "ok"})
 says = [wrong, ok, wrong, None, wrong, wrong, None, None, wrong, ok, ok, ("end",)]
@@ -631,7 +630,7 @@ def words_of(process: str) -> list[bytes]:
 CHANGES = """
 import os, sys
 sys.path.insert(0, sys.argv[1])
-from dexasm_check import inputs, judge_all, lead
+from dexasm.tools.check.checkers import inputs, judge_all, lead
 class asked: jobs, seconds, memory, program, lint = 1, 60, 1 << 30, False, False
 found = [*inputs(["f"])]
 os.remove("f/a.dex")
@@ -649,7 +648,7 @@ def try_changes() -> None:
     for name in "abcde":
         put(at, f"f/{name}.dex", assembled(LISTING))
     env: dict[str, Any] = {"DEXASM_LIBRARY": Tries.library} if Tries.library else {}
-    share = os.path.join(TOP, "contrib", "share", "dexasm")
+    share = os.path.join(TOP, "python", "src")
     seen = run([sys.executable, "-B", "-c", CHANGES, share], at=at, **env)
     want = (
         "f/a.dex failed None No such file or directory\nf/b.dex failed None no file\nf/c.dex refused 1 None\n"
@@ -677,7 +676,7 @@ def try_many() -> None:
 WORKERS = """
 import sys
 sys.path.insert(0, sys.argv[1])
-from dexasm_check import Verdict, count_workers
+from dexasm.tools.check.checkers import Verdict, count_workers
 class asked: lint = False
 for found, jobs in (([], 4), ([(b"a", 500)] * 1000, 4), ([(b"a", 500)] * 20000, 4), ([(b"a", 500)] * 20000, 2),
     ([(b"a", 1 << 40)], 4), ([(b"a", 1 << 40)], 1), ([Verdict(b"a", "", None, "failed")] * 100000, 4)):
@@ -690,7 +689,7 @@ print(count_workers([(b"a", 500)] * 1000, asked))
 
 def try_workers() -> None:
     """A further worker is for what is worth one; the lines are the same (try_order)."""
-    share = os.path.join(TOP, "contrib", "share", "dexasm")
+    share = os.path.join(TOP, "python", "src")
     seen = run([sys.executable, "-B", "-c", WORKERS, share], at=room("check workers"))
     check("dexasm-check, how many workers", seen == (0, "1\n1\n4\n2\n4\n1\n1\n4\n", ""), seen)
 

@@ -81,7 +81,7 @@ def workers() -> list[int]:
             environment = get("/proc", one, "environ")
         except OSError:
             continue
-        if any(word.endswith(b"dexasm_look.py") for word in words) and os.fsencode(Tries.folder) in environment:
+        if b"dexasm.tools.corpus.look:Job" in words and os.fsencode(Tries.folder) in environment:
             found.append(int(one))
     return found
 
@@ -295,7 +295,7 @@ class Cluster:
     def __init__(self, python: str, at: str, workers: int, protocol: str = "tcp", **env: str) -> None:
         self.begun: list[subprocess.Popen[bytes]]
         self.python, self.at, self.begun = python, at, []
-        self.env = {**Tries.env, "PYTHONPATH": os.path.join(TOP, "bindings", "python"), **env}
+        self.env = {**Tries.env, "PYTHONPATH": os.path.join(TOP, "python", "src"), **env}
         file = os.path.join(at, "address.json")
         if os.path.exists(file):
             os.remove(file)

@@ -26,7 +26,7 @@ from .rooms import ESC, TOP, check, get, put, room, seen_in
 OLD, NEW = b"old " * 5000, b"new!" * 6000
 NOBODY, SOMEBODY = 65534, 12345
 ACL, DEFAULT = "system.posix_acl_access", "system.posix_acl_default"
-MODULE = os.path.join(TOP, "bindings/python/dexasm/deliver.py")
+MODULE = os.path.join(TOP, "python/src/dexasm/deliver.py")
 LATE = 20  # seconds
 Out = str | bytes | os.PathLike[str]
 

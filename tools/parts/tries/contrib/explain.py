@@ -228,7 +228,7 @@ def try_other_classes() -> None:
     out = tool("dexasm-explain", "a.dex", given=b"dexasm: refused 89 HandlerTooFar at 1\n", at=at)[1]
     check("dexasm-explain, the class of a file", "class La; 0x1" in out, out)
     without = tool(
-        "dexasm-explain", "short", given=b"dexasm: refused 118 Register at 1\n", at=at, DEXASM_COMMAND="/none"
+        "dexasm-explain", "a.dex", given=b"dexasm: refused 89 HandlerTooFar at 1\n", at=at, DEXASM_COMMAND="/none"
     )
     check(
         "dexasm-explain, no dexasm",

@@ -1,4 +1,4 @@
-"""The helpers below contrib/bin from outside, on input that is meant to do harm first, and each recipe of README
+"""The helpers below python/bin from outside, on input that is meant to do harm first, and each recipe of README
 and docs/RECIPES.md.
 
 No helper needs --library; the module for Python is tried with it and without. What needs another program

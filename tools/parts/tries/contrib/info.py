@@ -12,12 +12,12 @@ from collections.abc import Iterable
 
 from .rooms import ESC, HEAD, LISTING, NAMES, TOP, Ended, assembled, check, dexasm, is_one_line, put, room, shell, tool
 
-sys.path.append(os.path.join(TOP, "contrib/share/dexasm"))
+sys.path.append(os.path.join(TOP, "python/src"))
 from tests.oracle import examples
 from tests.oracle import making
 from tests.oracle import mutating
-from dexasm_dump import Dump, dump
-from dexasm_info import Readable, rows_read, sections, tables
+from dexasm.tools.info.dump import Dump, dump
+from dexasm.tools.info.tables import Readable, rows_read, sections, tables
 
 ROW = re.compile(r"([0-9a-f]{8})  ((?:[0-9a-f]{2} )*[0-9a-f]{2})(?:  |$)")
 LARGE = 4000  # bytes of an example that takes no time

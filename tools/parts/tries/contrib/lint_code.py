@@ -17,17 +17,15 @@ from typing import TYPE_CHECKING, Any
 
 from .rooms import ESC, HEAD, TOP, Tries, assembled, check, dexasm, get, put, room, tool
 
-sys.path.insert(0, os.path.join(TOP, "contrib/share/dexasm"))
-import dexasm_kinds as kinds
-import dexasm_lint_code
-import dexasm_verify
-from dexasm_classes import Classes
-from dexasm_contrib import module
-from dexasm_steps import step_of
+sys.path.insert(0, os.path.join(TOP, "python/src"))
+from dexasm import program as programs
+from dexasm.tools.lint import code as lint_code, kinds, verify
+from dexasm.tools.lint.classes import Classes
+from dexasm.tools.lint.steps import step_of
 
 if TYPE_CHECKING:
     from dexasm.code import Insn
-    from dexasm_asks import Line
+    from dexasm.tools.lint.asks import Line
 
 Row = tuple[Any, ...]  # rule, method, code, and of some the number of the instruction that is told of
 PUBLIC, STATIC, CONSTRUCTOR = 0x1, 0x8, 0x10001
@@ -325,7 +323,7 @@ def try_rows() -> None:
     status, told, said = lint(listing(1, rows), at=at)
     check("dexasm-lint --code, right codes", (status, said) == (0, "") and told[0]["status"] == "ok", told[:3])
     tried = [row[0] for row in ROWS]
-    few = [rule for rule in dexasm_lint_code.RULES if tried.count(rule) < 3]
+    few = [rule for rule in lint_code.RULES if tried.count(rule) < 3]
     check("dexasm-lint --code, three codes of each rule", not few, few)
 
 
@@ -416,7 +414,7 @@ def is_taken(made: kinds.Kinds, mnemonic: str, given: tuple[str, ...], answers: 
 
 
 def of_name(mnemonic: str, *registers: int, **more: Any) -> Insn:
-    sys.path.insert(0, os.path.join(TOP, "bindings/python"))
+    sys.path.insert(0, os.path.join(TOP, "python/src"))
     from dexasm.code import Insn
 
     return Insn(mnemonic, *registers, **more)
@@ -589,7 +587,7 @@ def try_forms() -> None:
     plain = tool("dexasm-lint", "--code", "a.txt", at=at)[1].splitlines()
     lines = [f"a.txt:{one['line']}:{one['column']}: error: {one['why']} ({one['rule']}, {one['page']})" for one in told]
     check("dexasm-lint --code, JSON and lines", plain == lines, plain[:2])
-    seen: list[Any] = [one for one in told if one["page"] != dexasm_lint_code.RULES[one["rule"]] or not one["sentence"]]
+    seen: list[Any] = [one for one in told if one["page"] != lint_code.RULES[one["rule"]] or not one["sentence"]]
     check("dexasm-lint --code, JSON's pages", told and not seen, seen[:2])
     sarif = json.loads(tool("dexasm-lint", "--code", "--sarif", "a.txt", at=at)[1])["runs"][0]
     rules = [one["id"] for one in sarif["tool"]["driver"]["rules"]]
@@ -695,22 +693,22 @@ def try_hostile() -> None:
 def try_bounds() -> None:
     """A method beyond what is looked at isn't called right."""
     os.environ.setdefault("DEXASM_COMMAND", Tries.program)
-    program = module().Program.of_listing(dexasm("list", given=assembled(LISTED)).decode("ascii"))
+    program = programs.Program.of_listing(dexasm("list", given=assembled(LISTED)).decode("ascii"))
     for bounds in (("MOST_WORK", "MOST_EACH"), ("MOST_CELLS",)):
-        kept = {name: getattr(dexasm_verify, name) for name in bounds}
+        kept = {name: getattr(verify, name) for name in bounds}
         try:
-            vars(dexasm_verify).update(dict.fromkeys(bounds, 1))
-            told = [one.rule for one in dexasm_lint_code.look(program)]
+            vars(verify).update(dict.fromkeys(bounds, 1))
+            told = [one.rule for one in lint_code.look(program)]
         finally:
-            vars(dexasm_verify).update(kept)
-        check(f"dexasm-lint --code, bounds {bounds}", told == [dexasm_lint_code.UNREAD], told)
+            vars(verify).update(kept)
+        check(f"dexasm-lint --code, bounds {bounds}", told == [lint_code.UNREAD], told)
 
 
 def try_page() -> None:
     """docs/VERIFIERS.md and the help have each rule of code, the page with its numbers, and no other; each is tried."""
     helped = re.findall(r"^  ([a-z][a-z-]+)  ", tool("dexasm-lint", "--help")[1].partition("With --code")[2], re.M)
     rows = re.findall(r"^\| ([AB]\d.*?|code_item) \| `([a-z-]+)` \| ", get(TOP, "docs/VERIFIERS.md").decode(), re.M)
-    rules = dexasm_lint_code.RULES
+    rules = lint_code.RULES
     check("the help has each rule of code", helped == [*rules], set(helped) ^ {*rules})
     check("VERIFIERS has each rule of code", {word: number for number, word in rows} == rules, rows)
     tried = {row[0] for row in ROWS}

@@ -11,11 +11,11 @@ from collections.abc import Iterator
 
 from .rooms import HEAD, TOP, Tries, assembled, check, dexasm, put, room, run
 
-sys.path.insert(0, os.path.join(TOP, "contrib/share/dexasm"))
-from dexasm_classes import Classes
-from dexasm_contrib import module
-from dexasm_kinds import Kind, Kinds
-from dexasm_verify import Method
+sys.path.insert(0, os.path.join(TOP, "python/src"))
+from dexasm.program import Program
+from dexasm.tools.lint.classes import Classes
+from dexasm.tools.lint.kinds import Kind, Kinds
+from dexasm.tools.lint.verify import Method
 
 JARS = [f"/usr/share/java/{name}.jar" for name in ("dexlib2", "guava", "jsr305", "smali-util")]
 METHODS, LENGTH, REGISTERS = 400, 14, 7
@@ -128,7 +128,7 @@ def try_beside() -> None:
     os.environ.setdefault("DEXASM_COMMAND", Tries.program)
     file = assembled(listing(20))
     found, refused = theirs(room("lint dexlib2"), file)
-    program = module().Program.of_listing(dexasm("list", given=file).decode("ascii"))
+    program = Program.of_listing(dexasm("list", given=file).decode("ascii"))
     seen: collections.Counter[tuple[str, int] | None]
     alone: list[str]
     classes, seen, alone = Classes(program), collections.Counter(), []

@@ -216,10 +216,10 @@ def many_types(name: bytes, count: int) -> bytes:
 # dexasm-merge where nothing is looked for in a listing, as in one of more than 8 MiB.
 UNLOOKED = """
 import os, runpy, sys
-sys.path.insert(0, os.path.join(sys.argv[1], "contrib/share/dexasm"))
-import dexasm_merge
-dexasm_merge.LOOKED_AT = 0
-program = os.path.join(sys.argv.pop(1), "contrib/bin/dexasm-merge")
+sys.path.insert(0, os.path.join(sys.argv[1], "python/src"))
+from dexasm.tools.merge import merged
+merged.LOOKED_AT = 0
+program = os.path.join(sys.argv.pop(1), "python/bin/dexasm-merge")
 runpy.run_path(program, run_name="__main__")
 """
 

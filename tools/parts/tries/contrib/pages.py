@@ -17,8 +17,8 @@ from . import browser
 from .browse import browse, numbers_of, pages, says_listing, spelled
 from .rooms import HEAD, LISTING, TOP, assembled, check, get, put, room, seen_in, tool
 
-sys.path.append(os.path.join(TOP, "contrib/share/dexasm"))
-from dexasm_contrib import escaped
+sys.path.append(os.path.join(TOP, "python/src"))
+from dexasm.tools.escapes import escaped
 
 # What nobody sees: of Default_Ignorable_Code_Point, and a Braille pattern without dots.
 UNSEEN = (

@@ -66,7 +66,7 @@ def python(at: str, *words: str, **env: Any) -> Ended:
 
 def tries() -> None:
     at = room("python")
-    shutil.copytree(os.path.join(TOP, "bindings/python/dexasm"), os.path.join(at, "modules", "dexasm"))
+    shutil.copytree(os.path.join(TOP, "python/src/dexasm"), os.path.join(at, "modules", "dexasm"))
     file = assembled(LISTING)
     file = dexasm("strip", given=file)
     put(at, "a.dex", file)
@@ -83,7 +83,7 @@ def tries() -> None:
     put(at, "cut", b"dex 034")
     seen = python(at, "-m", "dexasm", "list", "cut")
     check("python -m dexasm over the command, refused", seen == (1, "", "dexasm: refused 1 TooShort at 7\n"), seen)
-    seen = python(at, "-c", "import dexasm", DEXASM_COMMAND="/none")
+    seen = python(at, "-c", "import dexasm; dexasm.version()", DEXASM_COMMAND="/none")
     check("Python with neither", seen[0] == 1 and "ImportError: neither libdexasm nor the command" in seen[2], seen)
     try_itself(at)
     fake = put(at, "fake", b'#!/bin/sh\n[ "$1" = check ] && exit 70\necho dexasm: out of memory >&2\nexit 4\n')
@@ -163,7 +163,7 @@ def try_streams() -> None:
     put(at, "a.dex", file)
     put(at, "cut", b"dex 034")
     module = f"{shlex.quote(sys.executable)} -B -m dexasm"
-    path = os.path.join(TOP, "bindings/python")
+    path = os.path.join(TOP, "python/src")
     for words in (*STREAMS, *WORDS):
         text = words if "{}" in words else "{} " + words.replace("{", "{{").replace("}", "}}")
         want = shell(text.format(shlex.quote(Tries.program)), at)
@@ -187,7 +187,7 @@ def try_streams() -> None:
 def try_out() -> None:
     """OUT by the command's rules: what stands there afterwards is what the command leaves there."""
     file = dexasm("strip", given=assembled(LISTING))
-    path = os.path.join(TOP, "bindings/python")
+    path = os.path.join(TOP, "python/src")
     module = f"{shlex.quote(sys.executable)} -B -m dexasm"
     texts = (
         "true",
@@ -240,7 +240,7 @@ def try_full() -> None:
                 os.link(out, os.path.join(at, "other"))
             seen = run(
                 [sys.executable, "-B", "-m", "dexasm", "strip", given, "--output", out],
-                PYTHONPATH=os.path.join(TOP, "bindings/python"),
+                PYTHONPATH=os.path.join(TOP, "python/src"),
             )
             is_so = seen == (3, "", "dexasm: cannot write\n")
             is_so = is_so and {name: len(get(at, name)) for name in os.listdir(at)} == dict.fromkeys(

@@ -121,16 +121,12 @@ def try_commands() -> None:
         seen,
     )
     seen = tool("dexasm-query", "calls", "a.dex", at=at, DEXASM_LIBRARY="/none")
-    check(
-        "dexasm-query, no library where one is named",
-        seen[:2] == (3, "") and is_one_line(seen[2], "dexasm-query: the module dexasm for Python: /none: "),
-        seen,
-    )
-    shutil.copytree(os.path.join(TOP, "contrib"), os.path.join(at, "alone", "contrib"))
-    seen = run([os.path.join(at, "alone/contrib/bin/dexasm-query"), "calls", "a.dex"], at=at)
+    check("dexasm-query, no library, which it doesn't ask", seen == tool("dexasm-query", "calls", "a.dex", at=at), seen)
+    shutil.copytree(os.path.join(TOP, "python/bin"), os.path.join(at, "alone", "bin"))
+    seen = run([os.path.join(at, "alone/bin/dexasm-query"), "calls", "a.dex"], at=at)
     check(
         "dexasm-query, no module",
-        seen[:2] == (3, "") and is_one_line(seen[2], "dexasm-query: the module dexasm for Python isn't there"),
+        seen[:2] == (3, "") and is_one_line(seen[2], "dexasm-query: the package dexasm isn't there"),
         seen,
     )
     for dies, status in (
@@ -283,8 +279,8 @@ def try_tables() -> None:
 
 def try_flags() -> None:
     """The words for flags are those of the table in LISTING."""
-    sys.path.append(os.path.join(TOP, "contrib/share/dexasm"))
-    from dexasm_uses import CLASS_FLAGS, FIELD_FLAGS, METHOD_FLAGS
+    sys.path.append(os.path.join(TOP, "python/src"))
+    from dexasm.tools.uses import CLASS_FLAGS, FIELD_FLAGS, METHOD_FLAGS
 
     rows = re.findall(r"^\| `(0x\d+)` \|(.*)\|(.*)\|(.*)\|$", get(TOP, "docs/LISTING.md").decode(), re.M)
     tables = [{int(bit, 16): cell.strip() for bit, *cells in rows if (cell := cells[at]).strip()} for at in range(3)]

@@ -16,7 +16,7 @@ from typing import Any, TypeVar
 from ... import TOP as TOP
 from ..trying import can_trace as is_strace_there, check as check  # noqa: F401 (each try takes it from here)
 
-TOOLS = os.path.join(TOP, "contrib", "bin")
+TOOLS = os.path.join(TOP, "python", "bin")
 LIMIT = 60  # seconds for a command
 Ended = tuple[int | str, str, str]  # status, or "late"; standard output; standard error
 Case = TypeVar("Case", bound=tuple[Any, ...])

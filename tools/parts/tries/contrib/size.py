@@ -35,8 +35,8 @@ from .rooms import (
     tool,
 )
 
-sys.path.append(os.path.join(TOP, "contrib/share/dexasm"))
-from dexasm_file import INDEX, UNITS
+sys.path.append(os.path.join(TOP, "python/src"))
+from dexasm.tools.layout import INDEX, UNITS
 
 Row = dict[str, Any]  # as JSON has it
 COLUMNS = ["total", "code", "strings", "tables", "values", "debug", "unused", "strip"]

@@ -119,7 +119,7 @@ def try_limit() -> None:
     at = room("streams limit")
     put(at, "a.dex", assembled(HEAD + b"".join(b"class L%s%d; 0x1\nend class\n" % (b"x" * 99, n) for n in range(300))))
     put(at, "told", b"x" * 9000 + b"\n")
-    way, python = (shlex.quote(one) for one in (os.path.join(TOP, "bindings/python"), sys.executable))
+    way, python = (shlex.quote(one) for one in (os.path.join(TOP, "python/src"), sys.executable))
     for name, command in {
         "dexasm-query": "dexasm-query classes a.dex",
         "dexasm-explain": "dexasm-explain <told",
@@ -232,7 +232,7 @@ def try_graphviz() -> None:
 def try_module() -> None:
     """The module for Python over such a command: a line and 3, where that isn't a listing or a file of that length."""
     at = prepared("streams module")
-    shutil.copytree(os.path.join(TOP, "bindings/python/dexasm"), os.path.join(at, "modules", "dexasm"))
+    shutil.copytree(os.path.join(TOP, "python/src/dexasm"), os.path.join(at, "modules", "dexasm"))
     python = f"{shlex.quote(sys.executable)} -B -m dexasm"
     for number, (command, path) in enumerate(answers(at)):
         other = ("check a.dex", "strip a.dex", "--version")[number % 3]

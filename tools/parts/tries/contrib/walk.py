@@ -16,7 +16,7 @@ HTTP = "http://localhost:"
 
 def try_contrast() -> None:
     """The colours of the style by WCAG 2: 4.5 to 1 of what is read, 3 to 1 of lines."""
-    style = "".join(get(TOP, "contrib/share/dexasm", name).decode("ascii") for name in ("pages.css", "browse.css"))
+    style = "".join(get(TOP, "python/src/dexasm/tools", name).decode("ascii") for name in ("pages/pages.css", "pages/browse.css"))
     blocks = re.findall(r":root \{(.*?)\}", style, re.S)
     colors = [dict(re.findall(r"--(\w+): (#[0-9a-f]{6});", block)) for block in blocks]
     others = (
@@ -31,8 +31,8 @@ def try_contrast() -> None:
                 check(f"the pages, {which}: {ink} on {ground}", ratio >= 4.5, ratio)
         for line in ("soft", "flow", "word", "number"):
             check(f"the pages, {which}: a line of {line}", contrast(color[line], color["box"]) >= 3)
-    sys.path.append(os.path.join(TOP, "contrib/share/dexasm"))
-    from dexasm_page import KINDS
+    sys.path.append(os.path.join(TOP, "python/src"))
+    from dexasm.tools.pages.page import KINDS
 
     for color, said in KINDS.values():
         check(f"the picture: words on {said}", contrast("#111111", color) >= 4.5)

@@ -98,7 +98,7 @@ def compile_rust() -> dict[str, list[str]]:
 
 def try_callers(paths: list[str]) -> None:
     callers = {**compile_c(), **compile_rust()}
-    env = {**os.environ, "DEXASM_LIBRARY": f"{built}/libdexasm.so", "PYTHONPATH": os.path.join(TOP, "bindings", "python")}
+    env = {**os.environ, "DEXASM_LIBRARY": f"{built}/libdexasm.so", "PYTHONPATH": os.path.join(TOP, "python", "src")}
     for path in paths:
         for job in JOBS:
             want = command(job, path)
@@ -116,7 +116,7 @@ def try_callers(paths: list[str]) -> None:
         ("crates/dexasm_c/include/dexasm.h", f'DEXASM_VERSION "{number}"'),
         ("bindings/rust/Cargo.toml", f'\nversion = "{number}"\n'),
         # (a version that isn't released yet, as Python writes it)
-        ("bindings/python/pyproject.toml", f'\nversion = "{number.replace("-dev", ".dev0")}"\n'),
+        ("python/pyproject.toml", f'\nversion = "{number.replace("-dev", ".dev0")}"\n'),
         ("bindings/java/src/dexasm/Library.java", f'String VERSION = "{number}";\n'),
         # (as Maven writes it)
         ("bindings/java/pom.xml", f'\n  <version>{number.replace("-dev", "-SNAPSHOT")}</version>\n'),
@@ -132,10 +132,10 @@ def try_callers(paths: list[str]) -> None:
 def call(job: str, given: bytes, capacity: int, room: int) -> tuple[int, bytes, int, tuple[int, int]]:
     """The call itself, into the front of a room that is full of one byte: status, room, length needed, fault."""
     out = (ctypes.c_char * room).from_buffer(bytearray([CANARY]) * room)
-    needed, fault = ctypes.c_size_t(12345), dexasm._Fault(54321, 98765)
+    needed, fault = ctypes.c_size_t(12345), calls.Fault(54321, 98765)
     align = (True,) if job == "align" else (False,) if job == "assemble" else ()
     name = "assemble" if job == "align" else job
-    by = getattr(dexasm._library, f"dexasm_{name}")
+    by = getattr(by_library, f"dexasm_{name}")
     status = by(given, len(given), *align, out, capacity, ctypes.byref(needed), ctypes.byref(fault))
     return status, bytes(out), needed.value, (fault.code, fault.place)
 
@@ -167,7 +167,7 @@ def try_texts() -> None:
         for capacity in (0, len(want) - 1, len(want), len(want) + 1):
             out = (ctypes.c_char * 64).from_buffer(bytearray([CANARY]) * 64)
             needed = ctypes.c_size_t()
-            status = dexasm._library.dexasm_fault_name(code, out, capacity, ctypes.byref(needed))
+            status = by_library.dexasm_fault_name(code, out, capacity, ctypes.byref(needed))
             put = want.encode() if capacity >= len(want) else b""
             is_so = (status, needed.value) == (ANSWERED if put else TOO_SMALL, len(want))
             check(f"the name of {code} into {capacity} bytes", is_so and bytes(out) == put + bytes([CANARY]) * (64 - len(put)))
@@ -177,7 +177,7 @@ def try_texts() -> None:
     for capacity in (0, len(number) - 1, len(number), len(number) + 1):
         out = ctypes.create_string_buffer(len(number) + 3)
         needed = ctypes.c_size_t()
-        status = dexasm._library.dexasm_version(out, capacity, ctypes.byref(needed))
+        status = by_library.dexasm_version(out, capacity, ctypes.byref(needed))
         want = (ANSWERED, number) if capacity >= len(number) else (TOO_SMALL, b"")
         is_so = (status, out.value, needed.value) == (*want, len(number))
         check(f"the version into {capacity} bytes", is_so, f"{status} {needed.value} {out.value!r}")
@@ -214,15 +214,15 @@ print(getattr(dexasm, "Nothing", "no"))
 def try_python(paths: list[str]) -> None:
     """What the module does beside its calls: names, a library that isn't there, OUT."""
     words: list[str] | str
-    env = {**os.environ, "PYTHONPATH": "bindings/python", "PYTHONDONTWRITEBYTECODE": "1"}
+    env = {**os.environ, "PYTHONPATH": "python/src", "PYTHONDONTWRITEBYTECODE": "1"}
     words = [sys.executable, "-c", "from dexasm import *; import builtins; print(list is builtins.list, strip.__name__)"]
     got = run(*words, env=env)
     check("Python: all names leave `list` as it is", got == (0, b"True strip\n", ""), got)
     got = run(sys.executable, "-c", PARTS, env=env, cwd=TOP)
-    check("Python: its parts are read when they are asked for", got == (0, b"[]\n['dexasm.names']\nTrue True\nno\n", ""), got)
-    shutil.copytree("bindings/python/dexasm", f"{work}/alone/dexasm", ignore=shutil.ignore_patterns("__pycache__"))
+    check("Python: its parts are read when they are asked for", got == (0, b"['dexasm.calls']\n['dexasm.calls', 'dexasm.names']\nTrue True\nno\n", ""), got)
+    shutil.copytree("python/src/dexasm", f"{work}/alone/dexasm", ignore=shutil.ignore_patterns("__pycache__"))
     alone = {name: value for name, value in env.items() if name != "DEXASM_LIBRARY"} | {"PYTHONPATH": f"{work}/alone", "DEXASM_COMMAND": "/none"}
-    status, _, said = run(sys.executable, "-c", "import dexasm", env=alone)
+    status, _, said = run(sys.executable, "-c", "import dexasm; dexasm.version()", env=alone)
     check("Python: without a library", status == 1 and "ImportError" in said and "DEXASM_LIBRARY" in said and "tools/build library" in said, said)
     file, out = put("given.dex", dexasm.assemble(LISTINGS["one class"])), put("out.txt", b"kept")
     os.chmod(out, 0o640)
@@ -333,15 +333,17 @@ def try_all(files: list[str]) -> None:
 
 
 def main(given: argparse.Namespace) -> int:
-    global program, built, work, dexasm
+    global program, built, work, dexasm, calls, by_library
     absolute: Callable[[str], str] = os.path.abspath
     program, built = map(absolute, (given.program, given.library) if given.program and given.library else build())
     if not os.path.exists(f"{built}/libdexasm.so") or run(program, "--help")[0] != 0:
         return not_built("the program or the library")
     os.environ["DEXASM_LIBRARY"] = f"{built}/libdexasm.so"
-    sys.path.insert(0, os.path.join(TOP, "bindings", "python"))
+    sys.path.insert(0, os.path.join(TOP, "python", "src"))
     import dexasm
+    from dexasm import calls
 
+    by_library = calls.Library(ctypes.CDLL(os.environ["DEXASM_LIBRARY"])).calls
     with tempfile.TemporaryDirectory() as work:
         try_all(samples())
     return last_line()

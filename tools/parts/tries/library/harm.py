@@ -5,7 +5,7 @@ from typing import Any
 
 from ... import TOP
 
-sys.path[:0] = [os.path.join(TOP, "bindings", "python")]
+sys.path[:0] = [os.path.join(TOP, "python", "src")]
 
 # What a word or a line could be ended by, and what a listing would take for something else.
 EVIL = (

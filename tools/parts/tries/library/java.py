@@ -247,7 +247,7 @@ def try_outs(java: Java) -> None:
     answer = run(java.program, "assemble", put(f"{java.folder}/many.txt", listing.encode()))[1]
     longer = answer[:32] + (len(answer) + 1000).to_bytes(4, "little") + answer[36:] + bytes(1000)  # strip drops that
     path = put(f"{java.folder}/longer.dex", longer)
-    given = run(f"{TOP}/contrib/bin/dexasm-close", path, "--output", "-")[1]
+    given = run(f"{TOP}/python/bin/dexasm-close", path, "--output", "-")[1]
     status, made, _ = run(java.command, "strip", put(path, given), env=java.env)
     java.check("Java: strip of a longer file", status == 0 and made == answer != given, status)
     for folder in (os.path.dirname(java.folder), java.folder):

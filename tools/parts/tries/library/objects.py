@@ -592,7 +592,7 @@ def run(words: list[str], at: str) -> str:
     """What these words print, in a folder where `names` are commands."""
     ways = {
         "PATH": f"{at}/bin:{os.environ['PATH']}",
-        "PYTHONPATH": os.path.join(TOP, "bindings", "python"),
+        "PYTHONPATH": os.path.join(TOP, "python", "src"),
         "PYTHONDONTWRITEBYTECODE": "1",
         "PYTHONUNBUFFERED": "1",  # so that lines come in their order
     }
@@ -637,7 +637,7 @@ end class
 
 def try_readme() -> None:
     """The examples of the module's page, as they stand there."""
-    examples = [text for kind, text in page("bindings/python/README.md") if kind == "python"]
+    examples = [text for kind, text in page("python/README.md") if kind == "python"]
     text = CALLED
     with tempfile.TemporaryDirectory() as at:
         with open(f"{at}/a.dex", "wb") as file:

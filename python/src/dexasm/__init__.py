@@ -1,0 +1,189 @@
+"""Checks, lists, assembles and strips .dex files (Dalvik Executable, version 035), by libdexasm.
+
+    >>> import dexasm
+    >>> dexasm.check(open("hello.dex", "rb").read())
+    >>> text = dexasm.list(open("hello.dex", "rb").read())
+    >>> made = dexasm.assemble(text)
+
+Program has a file's program as objects: it is read, changed and written. One may not be used by two threads at once.
+
+What is refused raises Refused, with the fault's number, name and place; want of memory raises MemoryError. The library
+is looked for at the first call: the one that the variable DEXASM_LIBRARY names, or libdexasm.so beside this file, or
+the one that tools/build made in this repository, or the system's. Where there is none, each call runs the command: the
+one that the variable DEXASM_COMMAND names, or `dexasm` on the PATH, or this repository's. Where there is neither, a
+call is an ImportError.
+`from dexasm import *` leaves out `list`, so that Python's own stays.
+"""
+from __future__ import annotations
+
+TYPE_CHECKING = False  # (as in typing, which takes as long to read as all that is here)
+if TYPE_CHECKING:
+    from collections.abc import Iterable
+    from typing import Any
+
+    from dexasm.calls import Command, Library
+    from dexasm.code import ArrayData, Catch, Code, Insn, Label, PackedSwitch, SparseSwitch, Try
+    from dexasm.faultline import Place
+    from dexasm.members import Class, Field, Method, Value
+    from dexasm.names import FieldRef, MethodRef, Proto, Type
+    from dexasm.program import Program
+
+__all__ = ["Refused", "assemble", "check", "fault_name", "strip", "version"]
+__all__ += ["ArrayData", "Catch", "Class", "Code", "Field", "FieldRef", "Insn", "Label", "Method", "MethodRef"]
+__all__ += ["PackedSwitch", "Place", "Program", "Proto", "SparseSwitch", "Try", "Type", "Value"]
+
+Data = bytes | bytearray | memoryview
+
+# What stands in which part. A part is read when it is first asked for: reading all takes several times as long as the
+# rest of this module, and whoever only checks or strips needs none.
+_PARTS = {
+    "code": ("ArrayData", "Catch", "Code", "Insn", "Label", "PackedSwitch", "SparseSwitch", "Try"),
+    "faultline": ("Place",),
+    "formats": (),
+    "listed": (),
+    "members": ("Class", "Field", "Method", "Value"),
+    "names": ("FieldRef", "MethodRef", "Proto", "Type"),
+    "program": ("Program",),
+}
+_PART_OF = {name: part for part, names in _PARTS.items() for name in names}
+
+_answering: Library | Command | None = None
+
+
+class Refused(ValueError):
+    """The bytes are refused: the number and the name of a rule that is broken, and the place where it is.
+
+    The place is a byte of a file, a line of a listing from 1, or a class of a program from 0 (of 80 and 81 how many
+    are needed, of 90 it is 0): docs/FORMAT.md says which by the number. Where a listing or a Program was refused,
+    `where` says more: line and column, from 1, class, member, the number of an instruction from 0, the word at fault
+    and why, of which each is an attribute of the refusal too, None where it isn't known. It is looked for when it is
+    asked for, and of a Program it is a place in `str` of it.
+    """
+
+    def __init__(self, number: int, name: str, place: int, where: Place | None = None) -> None:
+        super().__init__(f"refused {number} {name} at {place}")  # (the line of the command)
+        self.number, self.name, self.place, self._where = number, name, place, where
+        self._listing: tuple[bytes, bool] | None = None
+
+    @property
+    def where(self) -> Place | None:
+        if self._listing is not None:
+            from dexasm import faultline
+
+            self._where, self._listing = faultline.of(self._listing[0], self.number, self.place, self._listing[1]), None
+        return self._where
+
+    @property
+    def line(self) -> int | None:
+        return self.where.line if self.where else None
+
+    @property
+    def column(self) -> int | None:
+        return self.where.column if self.where else None
+
+    @property
+    def class_name(self) -> Type | None:
+        return self.where.class_name if self.where else None
+
+    @property
+    def member(self) -> FieldRef | MethodRef | None:
+        return self.where.member if self.where else None
+
+    @property
+    def insn(self) -> int | None:
+        return self.where.insn if self.where else None
+
+    @property
+    def word(self) -> str | None:
+        return self.where.word if self.where else None
+
+    @property
+    def why(self) -> str | None:
+        return self.where.why if self.where else None
+
+    def __str__(self) -> str:
+        where, told = self.where, [str(self.args[0])]
+        if where is not None and where.class_name is not None:
+            from dexasm.names import spelled
+
+            at = "" if where.insn is None else f", instruction {where.insn}"
+            told.append(f"{spelled(where.member or where.class_name)}{at}")
+        if where is not None and where.sentence():
+            told.append(where.sentence())
+        return ": ".join(told)
+
+    def __reduce__(self) -> tuple[type[Refused], tuple[object, ...]]:
+        return Refused, (self.number, self.name, self.place, self.where)
+
+
+def _asked() -> Library | Command:
+    """What answers: the library, or the command. It is looked for once, when it is first asked."""
+    global _answering
+    if _answering is None:
+        from dexasm.calls import found
+
+        _answering = found()
+    return _answering
+
+
+def _bytes(data: Data) -> bytes:
+    """What is given, if it is bytes: anything else is a TypeError."""
+    return data if type(data) is bytes else memoryview(data).tobytes()
+
+
+def check(data: Data) -> None:
+    """Returns if the bytes are a file that keeps every rule of the format."""
+    given = _bytes(data)
+    _asked().check(given)
+
+
+def list(data: Data) -> str:
+    """The listing of a file's program."""
+    given = _bytes(data)
+    return _asked().list(given).decode("ascii")
+
+
+def assemble(text: str | Data, align: bool = False) -> bytes:
+    """The file of a listed program; with align a nop is put before each payload that would stand at an odd address."""
+    given = text.encode("utf8", "surrogatepass") if isinstance(text, str) else _bytes(text)
+    try:
+        return _asked().assemble(given, align)
+    except Refused as refused:
+        refused._listing = given, align
+        raise
+
+
+def strip(data: Data) -> bytes:
+    """A file's program, written again without what it doesn't need."""
+    given = _bytes(data)
+    return _asked().strip(given)
+
+
+def fault_name(number: int) -> str:
+    """The name of a fault's number. Only the library tells it: without one this is a NotImplementedError, and Refused has the name."""
+    return _asked().fault_name(number)
+
+
+def version() -> str:
+    """The version of the library, or of the command."""
+    return _asked().version()
+
+
+if not TYPE_CHECKING:  # (by which a checker of types would take any name for one of this module)
+
+    def __getattr__(name: str) -> Any:
+        """A part, or what stands in one."""
+        from importlib import import_module
+
+        part = name if name in _PARTS else _PART_OF.get(name)
+        if part is None:
+            raise AttributeError(f"module {__name__!r} has no attribute {name!r}")
+        read = import_module(f"dexasm.{part}")
+        if part == name:
+            return read
+        globals()[name] = found = getattr(read, name)
+        return found
+
+
+def __dir__() -> Iterable[str]:
+    return sorted({*globals(), *_PARTS, *_PART_OF})

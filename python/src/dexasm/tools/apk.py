@@ -1,0 +1,112 @@
+"""Checks, lists or strips each classes*.dex of an .apk, a .jar or another zip archive.
+
+usage: dexasm-apk [--close] check|list|strip ARCHIVE [FOLDER]
+
+check and list write the name of the .dex file before each line: `classes2.dex: ok`. With FOLDER the listings go to
+FOLDER/classes.txt and so on, one for each .dex file; strip wants it, and writes FOLDER/classes.dex and so on. What is
+refused, or can't be read out of the archive, is a line on standard error with the same name before it, and the others
+go on. Nothing else of the archive is read, and nothing outside FOLDER is written: a link there, a file with another
+name, and what is no file are lines too. After `--` a word is a file whatever it begins with.
+
+With --close each .dex file whose signature or checksum doesn't hold is closed first, as by `dexasm-close`, and a line
+on standard error says so and what didn't hold: D8 before 1.6.20 signed its files in a way that dexasm refuses. The
+others are taken as they are, and so is what has no header or another length. The archive isn't changed.
+
+An entry isn't read where it is encrypted or says so (Android doesn't look at that), where its sum is wrong or its
+method unknown, and where another one has its name (Android refuses such an archive). Each .dex file is held in memory.
+
+Exit status: 0, or the highest of dexasm's; 2 wrong words; 3 no archive, no classes*.dex in it, or one that can't be
+read or written."""
+from __future__ import annotations
+
+import os
+import stat
+import sys
+
+from dexasm.tools.archives import dex_files, opened, taken_out
+from dexasm.tools.asking import ask
+from dexasm.tools.basis import FAILED, Failed, reason
+from dexasm.tools.escapes import escaped
+from dexasm.tools.files import deliver
+from dexasm.tools.helper import helper, say
+from dexasm.tools.sums import closed, differences, unframed
+
+TYPE_CHECKING = False  # (as in typing)
+if TYPE_CHECKING:
+    from zipfile import ZipFile, ZipInfo
+
+    from dexasm.tools.helper import Words
+
+
+def place_of(job: str, folder: str | None, name: str) -> str | None:
+    """Where the answer goes, or None for standard output. What would be written elsewhere isn't written."""
+    if folder is None:
+        return None
+    place = os.path.join(folder, name if job == "strip" else name.removesuffix("dex") + "txt")
+    try:
+        there = os.lstat(place)
+    except FileNotFoundError:
+        return place
+    except OSError as error:
+        raise Failed(f"{escaped(place)}: {reason(error)}") from None
+    if stat.S_ISLNK(there.st_mode):
+        raise Failed(f"{escaped(place)} is a link, so it isn't written")
+    if not stat.S_ISREG(there.st_mode):
+        raise Failed(f"{escaped(place)} is no file, so it isn't written")
+    if there.st_nlink > 1:
+        raise Failed(f"{escaped(place)} has another name too, so it isn't written")
+    return place
+
+
+def closed_if_open(given: bytes, name: str) -> bytes:
+    """The bytes with sums that hold, if they have a header and its length; what didn't hold is told."""
+    wrong = [] if unframed(given) else differences(given)
+    if wrong:
+        say(f"{name}: dexasm-apk: closed: {'; '.join(wrong)}")
+    return closed(given) if wrong else given
+
+
+def done(job: str, archive: ZipFile, folder: str | None, name: str, entries: list[ZipInfo], closes: bool) -> int:
+    """The job on one .dex file; answers the status."""
+    try:
+        place, given = place_of(job, folder, name), taken_out(archive, entries)
+        ended = ask(job, given=closed_if_open(given, name) if closes else given)
+        if place is not None and ended.status == 0:
+            deliver(place, ended.answer, through=False)
+    except Failed as failed:
+        say(f"{name}: dexasm-apk: {failed.line}")
+        return failed.status
+    line: bytes | str  # (of the answer, and of what was told)
+    for line in ended.answer.splitlines() if place is None else ():
+        print(f"{name}: {line.decode('ascii', 'backslashreplace')}")
+    for line in ended.told:
+        sys.stdout.flush()
+        say(f"{name}: {escaped(line)}")
+    return ended.status
+
+
+@helper(unread=FAILED)
+def main(words: Words) -> int:
+    words.add_argument("--close", action="store_true")
+    words.add_argument("job", choices=("check", "list", "strip"))
+    words.add_argument("archive")
+    words.add_argument("folder", nargs="?")
+    asked = words.parse_args()
+    if asked.job == "strip" and asked.folder is None:
+        words.error("strip wants a FOLDER")
+    if asked.job == "check" and asked.folder is not None:
+        words.error("check takes one ARCHIVE and no FOLDER: dexasm-check looks at many")
+    with opened(asked.archive) as archive:
+        entries = dex_files(archive)
+        if not entries:
+            raise Failed(f"{escaped(asked.archive)}: no classes*.dex in it")
+        if asked.folder is not None:
+            try:
+                os.makedirs(asked.folder, exist_ok=True)
+            except OSError as error:
+                raise Failed(f"{escaped(asked.folder)}: {reason(error)}", FAILED) from None
+        return max(done(asked.job, archive, asked.folder, name, found, asked.close) for name, found in entries)
+
+
+if __name__ == "__main__":
+    main()

@@ -1,0 +1,18 @@
+"""What helpers and their workers know alike. A worker reads this and no more where that does, since reading what makes a
+program of a helper takes as long as a hundred small files.
+"""
+REFUSED, USAGE, FAILED, MEMORY = 1, 2, 3, 4  # exit statuses, as those of dexasm
+DEX, ZIP = b"dex\n", b"PK"
+
+
+class Failed(Exception):
+    """What is told on standard error before a helper ends, and its exit status."""
+
+    def __init__(self, line: str, status: int = FAILED) -> None:
+        super().__init__(line)
+        self.line, self.status = line, status
+
+
+def reason(error: OSError) -> str:
+    """An error of the system in its own words, without a name."""
+    return error.strerror or str(error) or type(error).__name__

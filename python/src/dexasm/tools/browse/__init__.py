@@ -1,0 +1,1 @@
+"""dexasm-browse: a folder of pages to look at a file."""

@@ -1,0 +1,53 @@
+"""Writes a folder of pages to look at a .dex file: what is in it, how big it is, who calls whom, where branches go.
+
+usage: dexasm-browse FILE --output FOLDER [--graphs METHOD|all]
+
+FOLDER/index.html opens in any browser, from the disk or from a web server, and asks nothing of the network. It has
+numbers, a picture of the packages (click one to go into it) and the largest methods and classes; a page for each class
+with the code of its methods as `dexasm list` prints it, in which each name and label is a link to its place, and each
+instruction stands behind its offset in the file and its address; of each member which others use it and what it calls;
+the strings, with where they are used; and a search over classes, members and strings. No page has two megabytes: what
+would be larger goes on in further pages, but a single line isn't cut.
+
+FILE may be a listing too. FOLDER is a new or an empty folder, or one that dexasm-browse made before, which is replaced
+in one step when the new pages are complete, and keeps its mode and its owner; any other is refused. --graphs METHOD
+puts a picture of the flow of a method, as 'LHello;->get(Z)I', on the page of its class; --graphs all does it for all
+methods. That needs graphviz.
+
+Exit status: 0 done, 1 the file is refused, 2 wrong words, 3 something can't be read or written, 4 out of memory.
+"""
+from __future__ import annotations
+
+import os
+
+from dexasm.tools.asking import dex_of
+from dexasm.tools.files import name_of
+from dexasm.tools.helper import helper
+
+TYPE_CHECKING = False  # (as in typing)
+if TYPE_CHECKING:
+    from dexasm.tools.helper import Words
+
+
+@helper()
+def main(words: Words) -> int:
+    words.add_argument("file")
+    words.add_argument("--output", required=True)
+    words.add_argument("--graphs")
+    asked = words.parse_args()
+    from dexasm.tools.browse.folder import Folder
+    from dexasm.tools.browse.making import Browse
+
+    folder = Folder(asked.output)
+    pages = Browse(dex_of(asked.file), name_of(asked.file), os.path.basename(asked.file), words.prog)
+    if asked.graphs is not None:
+        pages.picture(asked.graphs)
+    with folder:
+        folder.begin()
+        pages.write(folder)
+        folder.finish()
+    return 0
+
+
+if __name__ == "__main__":
+    main()

@@ -1,0 +1,224 @@
+"""The lines of a class's members as the listing has them, as HTML in which each name is a link to its definition, and
+what these lines use, noted as they are made. The text of the elements is the listing's, character by character.
+
+Names stand in the words of the listing, so all is ASCII: what a browser could obey is an escape there."""
+from __future__ import annotations
+
+import html
+from array import array
+from collections.abc import Iterator
+
+from dexasm import names
+from dexasm.tools.uses import CLASS_IN, Uses, fresh
+
+TYPE_CHECKING = False  # (as in typing)
+if TYPE_CHECKING:
+    from collections.abc import Callable
+    from typing import Any
+
+    from dexasm.code import Insn, Label, Try
+    from dexasm.members import Field, Method, Value
+
+    Users = dict[Any, array[int]]  # by a number or a name
+    Named = tuple[str, Users, int | str]
+
+STRINGS_A_PAGE = 500
+
+
+def spelled(name: str) -> str:
+    return html.escape(names.spelled(name))
+
+
+class Coder:
+    """Makes the lines of members, and notes who uses what. Links are those of a page beside the classes' pages."""
+
+    def __init__(self, uses: Uses) -> None:
+        self.uses = uses
+        self.names: dict[str, Named] = {}  # each name's HTML, and where its users are noted
+        self.mnemonics: dict[str, tuple[str, str, str, bool]] = {}
+        self.strings: dict[str, int] = {}  # each string's number, in the order in which they are met
+        # The users of each member, class and string, and of each name that the program doesn't define: the number of a
+        # method in the upper 32 bits, and that of an instruction.
+        self.of_member: dict[int, array[int]] = {}
+        self.of_class: dict[int, array[int]] = {}
+        self.of_string: dict[int, array[int]] = {}
+        self.of_other: dict[str, array[int]] = {}
+        # Of each method the methods of the program that it calls, how often, and how many calls lead out of it; and how
+        # many instructions it has.
+        self.calls: dict[int, dict[int, int]] = {}
+        self.calls_outside: dict[int, int] = {}
+        self.insns: dict[int, int] = {}
+
+    # ---- names
+
+    def type_(self, name: str) -> str:
+        row = self.uses.rows.get(name)
+        return spelled(name) if row is None else f'<a href="{row}.html">{spelled(name)}</a>'
+
+    def types(self, text: str) -> str:
+        """A type or a prototype."""
+        return "".join(self.type_(part) if part[:1] == "L" else part for part in CLASS_IN.split(text))
+
+    def name(self, name: str) -> Named:
+        """A type, a field or a method: as HTML, where it is noted, and as what."""
+        found = self.names.get(name)
+        if found is None:
+            found = self.names[name] = self.member(name) if "->" in name else self.class_(name)
+        return found
+
+    def class_(self, name: str) -> Named:
+        row = self.uses.rows.get(name.lstrip("["))
+        if row is None:
+            return self.types(name), self.of_other, str(name)
+        return self.types(name), self.of_class, row
+
+    def member(self, name: str) -> Named:
+        owner, _, signature = name.partition("->")
+        number = self.uses.resolve(owner, signature)
+        cut = signature.find("(") if "(" in signature else signature.find(":")
+        said = spelled(signature[:cut])
+        if number is not None:
+            row, at = self.uses.place(number)
+            said = f'<a href="{row}.html#{at}">{said}</a>'
+        said = f"{self.types(owner)}-&gt;{said}{self.types(signature[cut:])}"
+        if number is None:
+            return said, self.of_other, str(name)
+        return said, self.of_member, number
+
+    def text(self, text: str, user: int, place: int) -> str:
+        """A string, as a link to where it is used."""
+        number = self.strings.setdefault(text, len(self.strings))
+        note(self.of_string, number, user << 32 | place)
+        said = html.escape(names.quoted(text))
+        return f'<a class="s" href="../strings/{number // STRINGS_A_PAGE}.html#{number}">{said}</a>'
+
+    # ---- lines
+
+    def field(self, number: int, word: str, field: Field) -> str:
+        line = f"<li>{word} {spelled(field.name)} {self.types(field.type)} <i>{field.flags:#x}</i>"
+        return line if field.value is None else f"{line} = {' '.join(self.value(field.value, number))}"
+
+    def value(self, value: Value, user: int) -> Iterator[str]:
+        """The words of an initial value, which is at most 64 deep."""
+        if value.kind == "array":
+            yield "array {"
+            for one in value.value:
+                yield from self.value(one, user)
+            yield "}"
+        elif value.kind == "string":
+            yield f"string {self.text(value.value, user, 0)}"
+        elif value.kind in ("type", "field", "method", "enum"):
+            said, where, what = self.name(value.value)
+            note(where, what, user << 32)
+            yield f"{value.kind} {said}"
+        else:
+            kind, _, said = str(value).partition(" ")
+            yield f"{kind} <i>{said}</i>" if said else kind
+
+    def method(self, number: int, at: int, word: str, method: Method, places: Iterator[tuple[int, int]]) -> str:
+        """A method's lines: the elements of its instructions have ids, `3.0` the first of member 3, and say where each
+        is in the file and in its code.
+        """
+        head = f"<li>{word} {spelled(method.name)} {self.types(method.proto)} <i>{method.flags:#x}</i>"
+        if method.code is None:
+            return head
+        code = fresh(method.code)
+        lines = [head, f"<li>code <i>{code.registers} {code.ins} {code.outs}</i>"]
+        insns = code.insns
+        numbers = {id(insn): place for place, insn in enumerate(insns)}
+        numbers[id(None)] = len(insns)  # (a label's instruction, where it is the end)
+        marks = {numbers[id(label.insn)] for label in code.labels()}
+
+        def lead(label: Label) -> str:
+            return f'<a href="#{at}.{numbers[id(label.insn)]}">:L{numbers[id(label.insn)]}</a>'
+
+        for place, (insn, (offset, address)) in enumerate(zip(insns, places)):
+            if place in marks:
+                lines.append(f'<li class="l">:L{place}')
+            where = f'id="{at}.{place}" data-at="{offset:06x} {address:04x}"'
+            lines.append(f"<li {where}>{self.insn(insn, lead, number, place)}")
+        if len(insns) in marks:
+            lines.append(f'<li class="l" id="{at}.{len(insns)}">:L{len(insns)}')
+        lines += self.tries(code.tries, lead, number, numbers)
+        self.insns[number] = len(insns)
+        lines.append("<li>end code")
+        return "\n".join(lines)
+
+    def tries(
+        self, tries: list[Try], lead: Callable[[Label], str], number: int, numbers: dict[int, int]
+    ) -> Iterator[str]:
+        for one in tries:
+            yield f"<li>try {lead(one.start)} {lead(one.end)}"
+            for catch in one.catches:
+                said, where, what = self.name(catch.type)
+                note(where, what, number << 32 | numbers[id(catch.target.insn)])
+                yield f"<li>catch {said} {lead(catch.target)}"
+            if one.catch_all is not None:
+                yield f"<li>catchall {lead(one.catch_all)}"
+
+    def insn(self, insn: Insn, lead: Callable[[Label], str], user: int, place: int) -> str:
+        """The words of an instruction, in the order of the listing."""
+        mnemonic = insn.mnemonic
+        if mnemonic[-8:] == "-payload":
+            return " ".join(payload(insn, lead))
+        shape = self.mnemonics.get(mnemonic)
+        if shape is None:
+            shape = self.mnemonics[mnemonic] = shape_of(mnemonic)
+        line = shape[0]
+        registers = insn.registers
+        if registers:
+            line += f"{shape[1]} v{' v'.join(map(str, registers))}{shape[2]}"
+        else:
+            line += shape[1] + shape[2]
+        if insn.literal is not None:
+            line += f" <i>{insn.literal}</i>"
+        if insn.count is not None:
+            line += f" <i>{insn.count}</i>"
+        if insn.target is not None:
+            line += f" {lead(insn.target)}"
+        if insn.name is not None:
+            said, where, what = self.names.get(insn.name) or self.name(insn.name)
+            note(where, what, user << 32 | place)
+            if shape[3]:
+                self.call(user, what)
+            line += f" {said}"
+        if insn.text is not None:
+            line += f" {self.text(insn.text, user, place)}"
+        return line
+
+    def call(self, user: int, to: int | str) -> None:
+        if isinstance(to, str):
+            self.calls_outside[user] = self.calls_outside.get(user, 0) + 1
+        else:
+            calls = self.calls.setdefault(user, {})
+            calls[to] = calls.get(to, 0) + 1
+
+
+def note(where: Users, what: int | str, use: int) -> None:
+    uses = where.get(what)
+    if uses is None:
+        uses = where[what] = array("Q")
+    uses.append(use)
+
+
+def shape_of(mnemonic: str) -> tuple[str, str, str, bool]:
+    """A mnemonic as HTML, what stands before and after its registers, and whether it calls."""
+    has_braces = mnemonic.startswith(("invoke-", "filled-new-array")) and not mnemonic.endswith("/range")
+    return (
+        f"<b>{html.escape(mnemonic)}</b>",
+        *((" {", " }") if has_braces else ("", "")),
+        mnemonic.startswith("invoke-"),
+    )
+
+
+def payload(insn: Any, lead: Callable[[Label], str]) -> Iterator[str]:
+    """The words of what stands among instructions and is none."""
+    yield f"<b>{insn.word}</b>"
+    if insn.word == "packed-switch-payload":
+        yield f"<i>{insn.first}</i>"
+        yield from map(lead, insn.targets)
+    elif insn.word == "sparse-switch-payload":
+        for key, target in zip(insn.keys, insn.targets):
+            yield f"<i>{key}</i> {lead(target)}"
+    else:
+        yield f"<i>{insn.width}{' ' if insn.data else ''}{insn.data.hex()}</i>"

@@ -1,0 +1,1 @@
+"""dexasm-check: whether many files are accepted."""

@@ -1,0 +1,65 @@
+"""Computes the signature and the checksum of a .dex file anew, and changes nothing else.
+
+usage: dexasm-close FILE [--output OUT]
+       dexasm-close --check FILE
+
+A .dex file begins with the SHA-1 of its bytes from 32 on, its signature, and the Adler-32 of those from 12 on, its
+checksum. D8 before 1.6.20, in the Android Gradle plugin 3.0 to 3.5, signed the bytes up to 52 before the end alone, so
+dexasm refuses its files with 9 Signature. Whoever edits a file by hand has to close it too. A closed file is one that
+nobody changed by accident since, and no more: whether its maker meant it so is told by the signature that it came with,
+so look at what --check says first.
+
+FILE is closed in place, or into OUT; `-` is standard input and output. What has no such header, or isn't as long as its
+header says, is refused. --check says what would change and changes nothing. A file is replaced when its answer is
+complete, by the command's own rules. `dexasm-apk --close` does it with each .dex file that it takes out of an archive.
+
+Exit status: 0, and with --check that both sums hold; 1 with --check where one doesn't, or the file is refused; 2 wrong
+words; 3 reading or writing failed; 4 out of memory.
+"""
+from __future__ import annotations
+
+import sys
+
+from dexasm.tools.basis import FAILED, REFUSED, Failed
+from dexasm.tools.files import deliver, get, name_of
+from dexasm.tools.helper import helper
+from dexasm.tools.sums import closed, differences, unframed
+
+TYPE_CHECKING = False  # (as in typing)
+if TYPE_CHECKING:
+    from dexasm.tools.helper import Words
+
+
+def framed(given: bytes, name: str) -> bytes:
+    """The bytes, if they have a header and its length."""
+    why = unframed(given)
+    if why:
+        raise Failed(f"{name}: {why}", REFUSED)
+    return given
+
+
+@helper(unread=FAILED)
+def main(words: Words) -> int:
+    words.add_argument("file", metavar="FILE")
+    words.add_argument("--output", "-o", metavar="OUT")
+    words.add_argument("--check", action="store_true")
+    asked = words.parse_args()
+    if asked.check and asked.output is not None:
+        words.error("--check writes nothing, so it takes no --output")
+    path = None if asked.file == "-" else asked.file
+    given = framed(get(path), name_of(path))
+    if asked.check:
+        lines = differences(given)
+        for line in lines or ["both sums hold"]:
+            print(f"{name_of(path)}: {line}")
+        return REFUSED if lines else 0
+    out = asked.file if asked.output is None else asked.output
+    if out == "-":
+        sys.stdout.buffer.write(closed(given))
+    else:
+        deliver(out, closed(given))
+    return 0
+
+
+if __name__ == "__main__":
+    main()

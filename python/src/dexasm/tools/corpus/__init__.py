@@ -1,0 +1,1 @@
+"""dexasm-corpus: what many files have, in a database."""

@@ -1,0 +1,145 @@
+"""Keeps what many .dex files have in a database, and asks it: which are one program, who holds a class, who calls.
+
+usage: dexasm-corpus add [--processes N] [--seconds N] [--memory SIZE] [--again] [--strict] DATABASE PATH..
+       dexasm-corpus add --scheduler ADDRESS [--trust] [--send] [..] DATABASE PATH..
+       dexasm-corpus refused|same [--json|--csv|--csv-raw] DATABASE
+       dexasm-corpus classes [--json|--csv|--csv-raw] DATABASE [NAME]
+       dexasm-corpus callers|strings [--pattern] [--json|--csv|--csv-raw] DATABASE WORD
+       dexasm-corpus libraries [--classes] [--json|--csv|--csv-raw] --known DATABASE DATABASE
+       dexasm-corpus merge [--verify] [--processes N] [--seconds N] [--memory SIZE] DATABASE FROM..
+       dexasm-corpus sum [--json|--csv|--csv-raw] DATABASE
+
+  add        looks at .dex files, and at the classes*.dex of archives, and keeps what they have. In a folder these are
+             the files that begin as one or are called *.dex; no link is followed there. `-` reads paths from standard
+             input, each with a NUL after it. A file that is in, by its SHA-256, gets its path and no other look.
+  refused    the files that aren't accepted, by fault, and the paths that can't be read
+  same       each path of a program that stands at several: the stripped bytes of these files are the same, and those
+             of one SHA-256 in the column `file` are copies to the byte
+  classes    classes that stand in several programs with the same text; of NAME where each of its texts stands
+  callers    who calls a method, LA;->m(I)V; with --pattern as GLOB of SQLite has it, as in 'Ljava/net/*'
+  strings    who uses a string
+  libraries  which programs of --known stand in those of DATABASE: how many of their classes are the same, have the
+             same name and another text (changed), or aren't there; --classes tells each class
+  merge      takes databases into one, in whatever order, and believes what they say. With --verify it takes no more
+             from them than where files are: those that are still there, with the same SHA-256, it looks at itself as
+             `add` does, and the others are counted and left out
+  sum        of each table its rows and a sum of what they say: equal where the content is, whatever the order of files
+
+Names and strings are printed as a listing spells them. With --csv a cell that a spreadsheet could take for a formula,
+since it begins with =, +, -, @ (or the wide form of one), a tab or a return, has an apostrophe before it; --csv-raw is
+for programs that aren't spreadsheets. The database is one of SQLite, and docs/CORPUS.md has its tables. One with other
+tables, views or triggers is refused; still, what stands in a database is as true as whoever made it.
+
+Each file is looked at by one of --processes N workers (as many as there are processors) which may take --seconds N of
+its processor for it (60, or a fraction such as 0.5; ten times as much by the clock) and --memory SIZE (2G). A file at
+which it is stopped is a row with the status time, memory or killed, which --again looks at once more. What was killed
+goes on by the same command, and loses and doubles nothing. With --scheduler the workers are those of Dask, and --send
+sends them the bytes of the files, where they haven't got the folder. Whoever answers at ADDRESS can run programs here
+and there; so it is tls://, with the certificates of Dask's own configuration (distributed.comm.tls), or a tcp:// of
+this machine, 127.0.0.1 or localhost. Any other one is taken with --trust only.
+
+Exit status: 0 done, 1 with --strict where a file isn't accepted or a path can't be read, or with --verify where a file
+is left out, 2 wrong words, 3 something can't be read or written, 4 out of memory.
+"""
+from __future__ import annotations
+
+import os
+import re
+
+from dexasm.tools.basis import REFUSED, Failed
+from dexasm.tools.corpus import queries
+from dexasm.tools.corpus.add import add
+from dexasm.tools.corpus.database import WRONG, Corpus, connected, total, why
+from dexasm.tools.corpus.verify import verify
+from dexasm.tools.escapes import escaped
+from dexasm.tools.helper import helper, positive, seconds, size
+from dexasm.tools.rows import add_forms, show
+
+TYPE_CHECKING = False  # (as in typing)
+if TYPE_CHECKING:
+    from argparse import Namespace
+
+    from dexasm.tools.helper import Words
+
+# Addresses of Dask at which nobody else can answer: with certificates, or on this machine.
+SAFE = re.compile(r"tls://.+|(?:tcp://)?(?:127(?:\.[0-9]{1,3}){3}|localhost|\[::1\]):[0-9]{1,5}")
+
+
+def merge(asked: Namespace) -> int:
+    for path in asked.others:
+        connected(path).close()
+    corpus = Corpus(asked.database)
+    if asked.verify:
+        return verify(corpus, asked.others, asked)
+    for path in asked.others:
+        corpus.merge(path)
+    return 0
+
+
+def sum_of(asked: Namespace) -> int:
+    rows, whole = total(connected(asked.database))
+    show(asked, ["table", "rows", "sum"], [*rows, ("all", sum(row[1] for row in rows), whole)])
+    return 0
+
+
+def ask(asked: Namespace) -> int:
+    db = connected(asked.database)
+    show(asked, *queries.QUERIES[asked.job](db, asked))
+    return 0
+
+
+def words_of(words: Words) -> Namespace:
+    jobs = words.add_subparsers(  # type: ignore[call-overload]  # (what argparse only calls needn't be a class)
+        dest="job", required=True, parser_class=lambda **_: type(words)(words.program)
+    )
+    by = {name: jobs.add_parser(name) for name in ("add", "merge", "sum", *queries.QUERIES)}
+    for name, parser in by.items():
+        parser.prog = words.prog
+        parser.add_argument("database")
+        if name not in ("add", "merge"):
+            add_forms(parser)
+    by["add"].add_argument("paths", nargs="+")
+    for name in ("add", "merge"):
+        by[name].add_argument("--processes", type=positive, default=os.cpu_count())
+        by[name].add_argument("--seconds", type=seconds, default=60)
+        by[name].add_argument("--memory", type=size, default=2 << 30)
+    by["add"].add_argument("--scheduler")
+    for word in ("--again", "--strict", "--send", "--trust"):
+        by["add"].add_argument(word, action="store_true")
+    by["merge"].add_argument("others", nargs="+")
+    by["merge"].add_argument("--verify", action="store_true")
+    by["classes"].add_argument("name", nargs="?")
+    for name in ("callers", "strings"):
+        by[name].add_argument("word")
+        by[name].add_argument("--pattern", action="store_true")
+    by["libraries"].add_argument("--known", required=True)
+    by["libraries"].add_argument("--classes", action="store_true")
+    return words.parse_args()
+
+
+def look_at_address(words: Words, asked: Namespace) -> None:
+    """Whether the words say whom this trusts."""
+    if asked.scheduler is None and (asked.send or asked.trust):
+        words.error("--send and --trust are for --scheduler")
+    if asked.scheduler == "":
+        words.error("--scheduler needs an address")
+    if asked.scheduler is not None and not asked.trust and not SAFE.fullmatch(asked.scheduler):
+        words.error("who answers at that --scheduler can run programs here: it wants tls:// or --trust")
+
+
+@helper()
+def main(words: Words) -> int:
+    asked = words_of(words)
+    if asked.job == "add":
+        look_at_address(words, asked)
+    try:
+        if asked.job == "add":
+            counts = add(Corpus(asked.database), asked)
+            return counts.status or (REFUSED if asked.strict and counts.bad else 0)
+        return {"merge": merge, "sum": sum_of}.get(asked.job, ask)(asked)
+    except WRONG as error:
+        raise Failed(f"{escaped(asked.database)}: {why(error)}") from None
+
+
+if __name__ == "__main__":
+    main()

@@ -1,0 +1,414 @@
+"""The database of dexasm-corpus: its schema, what writes it, and the sum of what it holds.
+
+Row numbers are this database's own. What a row says is told by SHA-256 and by names, so that the same files make the
+same content in whatever order they come.
+"""
+from __future__ import annotations
+
+import contextlib
+import functools
+import hashlib
+import marshal
+import os
+import sqlite3
+import time
+from collections.abc import Callable, Iterator
+from typing import Any, TypeVar
+from urllib.parse import quote
+
+from dexasm.tools.basis import Failed
+from dexasm.tools.escapes import escaped
+
+APPLICATION, VERSION = 0x64786361, 1  # ("dxca")
+Answer = TypeVar("Answer")
+BUSY = 600  # seconds for which another writer is waited for
+NAMES = 500_000  # that are kept in memory with their numbers
+SCHEMA = """
+create table name(id integer primary key, text text not null unique);
+create table string(id integer primary key, text text not null unique);
+create table program(id integer primary key, sha256 blob not null unique, size integer not null);
+create table file(id integer primary key, sha256 blob not null unique, size integer not null, status text not null,
+  fault integer, fault_name text, place integer, program integer references program);
+create table path(file integer not null references file, path not null, entry text not null,
+  primary key(file, path, entry)) without rowid;
+create table unread(path not null, entry text not null, status text not null, reason text not null,
+  primary key(path, entry)) without rowid;
+create table class(id integer primary key, sha256 blob not null unique, name integer not null references name,
+  superclass integer references name, flags integer not null);
+create table has(program integer not null references program, class integer not null references class,
+  primary key(program, class)) without rowid;
+create table member(class integer not null references class, name integer not null references name,
+  kind text not null, flags integer not null, primary key(class, name, kind)) without rowid;
+create table call(class integer not null references class, caller integer not null references name,
+  callee integer not null references name, places integer not null,
+  primary key(class, caller, callee)) without rowid;
+create table use(class integer not null references class, member integer not null references name,
+  string integer not null references string, places integer not null,
+  primary key(class, member, string)) without rowid;
+create index path_by_path on path(path);
+create index file_of_program on file(program) where program is not null;
+create index file_by_fault on file(fault, status) where status <> 'ok';
+create index class_by_name on class(name);
+create index class_in_program on has(class);
+create index member_by_name on member(name);
+create index call_by_callee on call(callee);
+create index use_by_string on use(string);
+"""
+# What SQLite raises where a database is damaged; its message may be no text.
+WRONG = (sqlite3.Error, UnicodeDecodeError)
+TABLES = "select type, name, tbl_name, sql from {}.sqlite_master"
+# What each table says without row numbers.
+CONTENT = {
+    "name": "select text from name",
+    "string": "select text from string",
+    "program": "select sha256, size from program",
+    "file": "select f.sha256, f.size, status, fault, fault_name, place, p.sha256 from file f"
+    " left join program p on p.id = program",
+    "path": "select sha256, path, entry from path join file on id = file",
+    "unread": "select path, entry, status, reason from unread",
+    "class": "select sha256, n.text, s.text, flags from class c join name n on n.id = name"
+    " left join name s on s.id = superclass",
+    "has": "select p.sha256, c.sha256 from has join program p on p.id = program join class c on c.id = class",
+    "member": "select sha256, text, kind, m.flags from member m join class c on c.id = class"
+    " join name n on n.id = m.name",
+    "call": "select sha256, n.text, m.text, places from call join class c on c.id = class"
+    " join name n on n.id = caller join name m on m.id = callee",
+    "use": "select sha256, n.text, s.text, places from use join class c on c.id = class"
+    " join name n on n.id = member join string s on s.id = string",
+}
+# Of a file that ended twice in different ways the first of these stays: what the file is, then what limits did.
+RANKS = ("ok", "refused", "memory", "time", "killed")
+# A row of `file` of which this writes none.
+STRANGE = (
+    "select 1 from file where typeof(sha256) <> 'blob' or length(sha256) <> 32 or typeof(size) <> 'integer'"
+    f" or status not in {RANKS} limit 1"
+)
+# Of two reasons why a path isn't read the lesser stays.
+FIRST_REASON = (
+    "on conflict do update set status = excluded.status, reason = excluded.reason"
+    " where (excluded.status, excluded.reason) < (unread.status, unread.reason)"
+)
+# Numbers of another database's rows, and the rows: names first, so that what stands on them finds them.
+MERGE = """
+insert or ignore into main.name(text) select text from other.name;
+insert or ignore into main.string(text) select text from other.string;
+insert or ignore into main.program(sha256, size) select sha256, size from other.program;
+create temp table names as select o.id, m.id new from other.name o join main.name m using(text);
+create temp table strings as select o.id, m.id new from other.string o join main.string m using(text);
+create temp table programs as select o.id, m.id new from other.program o join main.program m using(sha256);
+create unique index temp.names_id on names(id, new);
+create unique index temp.strings_id on strings(id, new);
+create unique index temp.programs_id on programs(id, new);
+insert or ignore into main.class(sha256, name, superclass, flags) select sha256, n.new, s.new, flags from other.class c
+  join names n on n.id = name left join names s on s.id = superclass;
+create temp table classes as select o.id, m.id new from other.class o join main.class m using(sha256);
+create unique index temp.classes_id on classes(id, new);
+insert or ignore into main.has select p.new, c.new from other.has join programs p on p.id = program
+  join classes c on c.id = class;
+insert or ignore into main.member select c.new, n.new, kind, flags from other.member join classes c on c.id = class
+  join names n on n.id = name;
+insert or ignore into main.call select c.new, n.new, m.new, places from other.call join classes c on c.id = class
+  join names n on n.id = caller join names m on m.id = callee;
+insert or ignore into main.use select c.new, n.new, s.new, places from other.use join classes c on c.id = class
+  join names n on n.id = member join strings s on s.id = string;
+"""
+DONE = "".join(f"drop table temp.{table};" for table in ("names", "strings", "programs", "classes"))
+
+
+def kept(path: bytes) -> str | bytes:
+    """A path as it stands in the database: a text, or bytes where it is none."""
+    try:
+        return path.decode("utf8")
+    except UnicodeDecodeError:
+        return path
+
+
+def place(path: str, mode: str) -> str:
+    """A path as SQLite takes it for that very file, also where it is called `:memory:` or `file:..`."""
+    return f"file:{quote(os.path.join(os.getcwdb(), os.fsencode(path)))}?mode={mode}"
+
+
+def connected(path: str, is_made: bool = False) -> sqlite3.Connection:
+    """The database: to be read, or to be written and made where it isn't there."""
+    name = escaped(path)
+    if not is_made and not os.path.isfile(path):
+        raise Failed(f"{name}: no such database")
+    try:
+        way = place(path, "rwc" if is_made else "ro")
+        db = sqlite3.connect(way, timeout=BUSY, isolation_level=None, check_same_thread=False, uri=True)
+        # (what SQLite's own page on databases of strangers asks for: www.sqlite.org/security.html)
+        db.execute("pragma trusted_schema = off")
+        db.execute("pragma cell_size_check = on")
+        if is_made:
+            patient(lambda: made(db))
+        patient(lambda: look(db, "main", name))
+    except WRONG as error:
+        raise Failed(f"{name}: {why(error)}") from None
+    return db
+
+
+@contextlib.contextmanager
+def attached(db: sqlite3.Connection, path: str, name: str) -> Iterator[None]:
+    """Another database, to be read beside this one by that name."""
+    db.execute(f"attach ? as {name}", (place(path, "ro"),))
+    try:
+        look(db, name, escaped(path))
+        yield
+    finally:
+        with contextlib.suppress(sqlite3.Error):
+            db.execute(f"detach {name}")
+
+
+def look(db: sqlite3.Connection, which: str, name: str) -> None:
+    """Looks whether it is a database of this version that has nothing else: what triggers and views do, its maker says.
+    """
+    application, version = whose(db, which)
+    if application != APPLICATION:
+        raise Failed(f"{name}: no database of dexasm-corpus")
+    if version != VERSION:
+        raise Failed(f"{name}: its version is {version}, and this dexasm-corpus has {VERSION}")
+    if {*db.execute(TABLES.format(which))} != tables():
+        raise Failed(f"{name}: its tables, indexes, views and triggers aren't those of dexasm-corpus")
+
+
+def refuse_strange(db: sqlite3.Connection, name: str) -> None:
+    if db.execute(STRANGE).fetchone():
+        raise Failed(f"{name}: its table file has rows that dexasm-corpus doesn't write")
+
+
+@functools.cache
+def tables() -> set[tuple[str | None, ...]]:
+    """What a database has that this makes."""
+    with contextlib.closing(sqlite3.connect(":memory:")) as db:
+        db.executescript(SCHEMA)
+        return {*db.execute(TABLES.format("main"))}
+
+
+def why(error: Exception) -> str:
+    """An error of SQLite in its own words, where these are words."""
+    return "it is damaged" if isinstance(error, UnicodeDecodeError) else escaped(str(error))
+
+
+def is_damaged(path: str) -> bool:
+    """Whether SQLite finds anything wrong with a database."""
+    try:
+        with contextlib.closing(connected(path)) as db:
+            return bool(db.execute("pragma quick_check(1)").fetchone() != ("ok",))
+    except (*WRONG, Failed):
+        return True
+
+
+def patient(call: Callable[[], Answer]) -> Answer:
+    """What the call answers, asked again while another command has the database: SQLite doesn't wait by itself while
+    the journal's mode changes, since two that wait for one another would wait for ever."""
+    until = time.monotonic() + BUSY
+    while True:
+        try:
+            return call()
+        except sqlite3.OperationalError as error:
+            if "locked" not in str(error) or time.monotonic() > until:
+                raise
+            time.sleep(0.02)
+
+
+def whose(db: sqlite3.Connection, which: str = "main") -> tuple[int, int]:
+    """Whose database it is, and the version of its tables."""
+    words = f"pragma {which}.application_id", f"pragma {which}.user_version"
+    return db.execute(words[0]).fetchone()[0], db.execute(words[1]).fetchone()[0]
+
+
+def is_empty(db: sqlite3.Connection) -> bool:
+    return not db.execute("select count(*) from sqlite_master").fetchone()[0]
+
+
+def made(db: sqlite3.Connection) -> None:
+    """Makes the tables in what is empty, where no other command did meanwhile; otherwise nothing."""
+    if whose(db) != (0, 0) or not is_empty(db):
+        return
+    db.execute("pragma journal_mode = wal")
+    with written(db):
+        if is_empty(db):
+            for statement in SCHEMA.split(";")[:-1]:
+                db.execute(statement)
+            db.execute(f"pragma application_id = {APPLICATION}")
+            db.execute(f"pragma user_version = {VERSION}")
+
+
+@contextlib.contextmanager
+def written(db: sqlite3.Connection) -> Iterator[None]:
+    """One transaction, of which nothing stays where it doesn't end well."""
+    db.execute("begin immediate")
+    try:
+        yield
+        db.execute("commit")
+    except BaseException:
+        if db.in_transaction:
+            db.execute("rollback")
+        raise
+
+
+class Corpus:
+    """Writes what was found, a batch a transaction."""
+
+    def __init__(self, path: str) -> None:
+        self.db, self.path = connected(path, is_made=True), path
+        self.db.execute("pragma synchronous = normal")
+        self.db.execute("pragma cache_size = -262144")
+        self.numbers: dict[str, dict[str, int]] = {"name": {}, "string": {}}
+
+    def known(self, key: int, is_again: bool) -> bytes:
+        """The first bytes of each SHA-256 of a file that isn't looked at again, sorted."""
+        refuse_strange(self.db, escaped(self.path))
+        where = " where status in ('ok', 'refused')" if is_again else ""
+        return b"".join(sha[:key] for sha, in self.db.execute(f"select sha256 from file{where} order by sha256"))
+
+    def put_all(self, found: list[tuple[Any, ...]]) -> int:
+        """One transaction; answers how many files weren't in before."""
+        put: dict[str, Callable[..., bool]] = {"file": self.put_file, "seen": self.put_seen, "unread": self.put_unread}
+        try:
+            with written(self.db):
+                return sum([put[kind](kept(path), entry, *rest) for kind, path, entry, *rest in found])
+        except BaseException:
+            self.numbers = {"name": {}, "string": {}}
+            raise
+
+    def put_unread(self, path: str | bytes, entry: str, status: str, reason: str) -> bool:
+        is_read = "select 1 from path where path = ?1 and (entry = ?2 or ?2 = '')"
+        words = f"insert into unread select ?1, ?2, ?3, ?4 where not exists ({is_read}) {FIRST_REASON}"
+        self.db.execute(words, (path, entry, status, reason))
+        return False
+
+    def put_seen(self, path: str | bytes, entry: str, sha: bytes, size: int) -> bool:
+        file = self.db.execute("select id from file where sha256 = ?", (sha,)).fetchone()
+        if file:
+            self.put_path(file[0], path, entry)
+        return False
+
+    def put_path(self, file: int | None, path: str | bytes, entry: str) -> None:
+        self.db.execute("insert or ignore into path values (?, ?, ?)", (file, path, entry))
+        self.db.execute("delete from unread where path = ? and entry in (?, '')", (path, entry))
+
+    def put_file(
+        self,
+        path: str | bytes,
+        entry: str,
+        sha: bytes,
+        size: int,
+        status: str,
+        fault: int | None,
+        fault_name: str | None,
+        place: int | None,
+        program: tuple[bytes, int, list[tuple[Any, ...]]] | None,
+    ) -> bool:
+        there = self.db.execute("select id, status from file where sha256 = ?", (sha,)).fetchone()
+        row = status, fault, fault_name, place, self.program(*program) if program else None
+        if there is None:
+            words = "insert into file(sha256, size, status, fault, fault_name, place, program)"
+            file = self.db.execute(f"{words} values (?, ?, ?, ?, ?, ?, ?)", (sha, size, *row)).lastrowid
+        else:
+            file = there[0]
+            if RANKS.index(status) < RANKS.index(there[1]):
+                words = "status = ?, fault = ?, fault_name = ?, place = ?, program = ?"
+                self.db.execute(f"update file set {words} where id = ?", (*row, file))
+        self.put_path(file, path, entry)
+        return there is None
+
+    def program(self, sha: bytes, size: int, classes: list[tuple[Any, ...]]) -> int | None:
+        """The number of a program."""
+        there = self.db.execute("select id from program where sha256 = ?", (sha,)).fetchone()
+        if there:
+            known: int = there[0]
+            return known
+        number = self.db.execute("insert into program(sha256, size) values (?, ?)", (sha, size)).lastrowid
+        rows = sorted((number, self.one_class(*one)) for one in classes)
+        self.db.executemany("insert into has values (?, ?)", rows)
+        return number
+
+    def one_class(self, sha: bytes, name: str, superclass: str | None, flags: int, rows: bytes) -> int | None:
+        """The number of a class."""
+        there = self.db.execute("select id from class where sha256 = ?", (sha,)).fetchone()
+        if there:
+            known: int = there[0]
+            return known
+        of, text = self.number_of, self.text_of
+        row = sha, of(name), superclass and of(superclass), flags
+        at = self.db.execute("insert into class(sha256, name, superclass, flags) values (?, ?, ?, ?)", row).lastrowid
+        members, calls, strings = marshal.loads(rows)
+        for table, found in (
+            ("member", [(at, of(ref), kind, bits) for kind, ref, bits in members]),
+            ("call", [(at, of(caller), of(callee), count) for caller, callee, count in calls]),
+            ("use", [(at, of(ref), text(said), count) for ref, said, count in strings]),
+        ):
+            self.db.executemany(f"insert into {table} values (?, ?, ?, ?)", found)
+        return at
+
+    def number_of(self, word: str) -> int:
+        return self.number("name", word)
+
+    def text_of(self, word: str) -> int:
+        return self.number("string", word)
+
+    def number(self, table: str, word: str) -> int:
+        numbers = self.numbers[table]
+        found = numbers.get(word)
+        if found is None:
+            there = self.db.execute(f"select id from {table} where text = ?", (word,)).fetchone()
+            found = there[0] if there else self.db.execute(f"insert into {table}(text) values (?)", (word,)).lastrowid
+            assert found is not None  # (a row that was put in has a number)
+            if len(numbers) >= NAMES:
+                numbers.clear()
+            numbers[word] = found
+        return found
+
+    def merge(self, path: str) -> None:
+        """Takes another database in, in one transaction; itself it has."""
+        if os.path.samefile(path, self.path):
+            return
+        try:
+            with attached(self.db, path, "other"), written(self.db):
+                for statement in (MERGE + DONE).split(";")[:-1]:
+                    self.db.execute(statement)
+                self.merge_files()
+        except WRONG as error:
+            raise Failed(f"{escaped(path if is_damaged(path) else self.path)}: {why(error)}") from None
+
+    def merge_files(self) -> None:
+        """Files, of which one may have ended otherwise there, and paths: what is unread here may be read there."""
+        rank = "case {}.status " + " ".join(f"when '{word}' then {at}" for at, word in enumerate(RANKS)) + " end"
+        row = "size, status, fault, fault_name, place, program"
+        new = "select f.sha256, f.size, status, fault, fault_name, place, m.id from other.file f"
+        new += " left join other.program p on p.id = f.program left join main.program m on m.sha256 = p.sha256"
+        self.db.execute(
+            f"insert into main.file(sha256, {row}) {new} where true on conflict(sha256) do update set"
+            " status = excluded.status, fault = excluded.fault, fault_name = excluded.fault_name,"
+            " place = excluded.place, program = excluded.program"
+            f" where {rank.format('excluded')} < {rank.format('file')}"
+        )
+        self.db.execute(
+            "insert or ignore into main.path select m.id, path, entry from other.path join other.file f on f.id = file"
+            " join main.file m on m.sha256 = f.sha256"
+        )
+        self.db.execute(
+            f"insert into main.unread select path, entry, status, reason from other.unread where true {FIRST_REASON}"
+        )
+        self.db.execute(
+            "delete from main.unread where exists (select 1 from main.path p where p.path = unread.path"
+            " and (p.entry = unread.entry or unread.entry = ''))"
+        )
+
+
+def sums(db: sqlite3.Connection) -> Iterator[tuple[str, int, int]]:
+    """Of each table its rows, and the sum of the SHA-256 of what each says."""
+    for table, words in CONTENT.items():
+        rows = total = 0
+        for row in db.execute(words):
+            rows += 1
+            total += int.from_bytes(hashlib.sha256(repr(row).encode("ascii", "backslashreplace")).digest(), "big")
+        yield table, rows, total % (1 << 256)
+
+
+def total(db: sqlite3.Connection) -> tuple[list[tuple[str, int, str]], str]:
+    """The sum of each table, and one over all of them."""
+    found = [(table, rows, f"{number:064x}") for table, rows, number in sums(db)]
+    whole = "".join(f"{table} {rows} {number}\n" for table, rows, number in found)
+    return found, hashlib.sha256(whole.encode()).hexdigest()

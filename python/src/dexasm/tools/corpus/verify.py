@@ -1,0 +1,74 @@
+"""What dexasm-corpus merge --verify does: of another database it takes no more than where its files are, and looks at
+these itself.
+"""
+from __future__ import annotations
+
+import contextlib
+import os
+import stat
+from collections.abc import Iterator
+from typing import Any
+
+from dexasm.tools.basis import REFUSED, Failed
+from dexasm.tools.corpus.add import Counts, Here, batches, put_all
+from dexasm.tools.corpus.database import WRONG, Corpus, connected, kept, refuse_strange, why
+from dexasm.tools.corpus.look import KEY
+from dexasm.tools.escapes import escaped
+
+CLAIMS = "select sha256, path, entry from file left join path on file = id"
+Claims = set[tuple[Any, ...]]
+
+
+class Verified:
+    """Takes of what is found what the other databases say is there: the bytes of that sum, at that place."""
+
+    def __init__(self, corpus: Corpus, claims: Claims) -> None:
+        self.corpus, self.claims = corpus, claims
+        self.files: set[bytes] = set()
+
+    def put_all(self, found: list[tuple[Any, ...]]) -> int:
+        mine = [one for one in found if one[0] != "unread" and (one[3], kept(one[1]), one[2]) in self.claims]
+        self.files.update(one[3] for one in mine)
+        return self.corpus.put_all(mine)
+
+
+def claims_of(path: str) -> Claims:
+    """The files of a database, and where they are."""
+    name = escaped(path)
+    try:
+        with contextlib.closing(connected(path)) as db:
+            refuse_strange(db, name)
+            return {*db.execute(CLAIMS)}
+    except WRONG as error:
+        raise Failed(f"{name}: {why(error)}") from None
+
+
+def at_hand(claims: Claims) -> Iterator[tuple[bytes, bool, int]]:
+    """The files that stand where the other databases say."""
+    paths = {path for _, path, _ in claims if isinstance(path, (str, bytes))}
+    for path in sorted(path.encode("utf8") if isinstance(path, str) else path for path in paths):
+        with contextlib.suppress(OSError, ValueError):
+            there = os.stat(path)
+            if stat.S_ISREG(there.st_mode):
+                yield path, True, there.st_size
+
+
+def verify(corpus: Corpus, paths: list[str], asked: Any) -> int:
+    """Takes in what of the other databases' files is at hand; answers the status, which is another one if not all are.
+    """
+    claims = [claims_of(path) for path in paths]
+    verified, counts = Verified(corpus, set().union(*claims)), Counts()
+    where = Here(asked, corpus.known(KEY, False))
+    try:
+        put_all(verified, counts, batches(at_hand(verified.claims), where.prepare), where)
+    finally:
+        counts.line.draw()
+        where.close()
+    status = 0
+    for path, those in zip(paths, claims):
+        files = {sha for sha, _, _ in those}
+        left = len(files - verified.files)
+        status = REFUSED if left else status
+        looked = f"{len(files)} files, {len(files) - left} looked at anew"
+        print(f"{escaped(path)}: {looked}, {left} not at hand: not verified, and left out")
+    return status

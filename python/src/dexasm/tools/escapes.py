@@ -1,0 +1,38 @@
+"""Text of strangers as a terminal can be shown it: without what a terminal obeys, and without what nobody sees."""
+from __future__ import annotations
+
+import re
+
+LONGEST = 160  # characters of a line that are shown where a line is a sign of more
+# What nobody sees though it counts as printable: Default_Ignorable_Code_Point of the Unicode Character Database
+# (DerivedCoreProperties.txt; unicodedata doesn't have it), and signs that are blank: a Braille pattern without dots, a
+# filler of Khitan, blanks of Egyptian, a notehead that isn't drawn.
+UNSEEN = re.compile(
+    "[\u00ad\u034f\u061c\u115f\u1160\u17b4\u17b5\u180b-\u180f\u200b-\u200f\u202a-\u202e\u2060-\u206f\u2800\u3164"
+    "\ufe00-\ufe0f\ufeff\uffa0\ufff0-\ufff8\U00013441\U00013442\U00016fe4\U0001bca0-\U0001bca3\U0001d159"
+    "\U0001d173-\U0001d17a\U000e0000-\U000e0fff]"
+)
+
+
+def escaped(text: str | bytes) -> str:
+    """The text without what a terminal obeys: escapes, other control characters, and marks that turn its direction; and
+    without what nobody sees.
+    """
+    if isinstance(text, bytes):
+        text = text.decode("utf8", "surrogateescape")
+    if text.isprintable() and not UNSEEN.search(text):
+        return text
+    return "".join(char if char.isprintable() and not UNSEEN.match(char) else shown(char) for char in text)
+
+
+def shown(char: str) -> str:
+    """One character in hexadecimal digits; a byte that is no text stands as such a byte."""
+    number = ord(char)
+    if 0xDC80 <= number < 0xDD00:
+        return f"\\x{number - 0xDC00:02x}"
+    return f"\\x{number:02x}" if number < 0x100 else f"\\u{number:04x}" if number < 0x10000 else f"\\U{number:08x}"
+
+
+def shortened(text: str) -> str:
+    """The beginning of a long line."""
+    return text if len(text) <= LONGEST else text[:LONGEST] + " .."

@@ -1,0 +1,269 @@
+"""The flow of a method (its blocks, and where each leads) and who calls whom: as graphs, and what graphviz makes of
+them.
+"""
+from __future__ import annotations
+
+import re
+import shutil
+import subprocess
+import xml.etree.ElementTree as xml
+from bisect import bisect_left
+
+from dexasm.names import spelled
+from dexasm.tools.basis import Failed
+from dexasm.tools.uses import Uses, fresh
+
+TYPE_CHECKING = False  # (as in typing)
+if TYPE_CHECKING:
+    from collections.abc import Iterator
+    from typing import Any
+
+    from dexasm.code import Code, Insn, Label
+
+MOST_EDGES = 1_000_000
+MOST_DRAWN = 2000  # edges of a picture on a page
+MOST_LINES, LONGEST = 40, 100  # lines of a block in a picture, and characters of a line
+MOST_KEYS = 8  # keys of a switch at an edge
+SECONDS = 60  # for a picture
+NO_PICTURE = "what graphviz answers is no picture"
+ENDS = ("return", "throw", "goto")
+COLORS = {"next": "#57606a", "taken": "#1a7f37", "switch": "#7a3e9d", "handler": "#9a3412", "call": "#57606a"}
+LOOKS = {"taken": " penwidth=2.5", "handler": " style=dashed"}  # (each kind is told without its colour too)
+SVG = "{http://www.w3.org/2000/svg}"
+LINK = "{http://www.w3.org/1999/xlink}href"
+# What a page takes of a picture; where each stands, and no colours: those are the page's.
+ELEMENTS = {"svg", "g", "a", "polygon", "path", "text"}
+ATTRIBUTES = {"viewBox", "width", "height", "class", "transform", "points", "d", "x", "y", "text-anchor", "font-size"}
+
+
+class Graph:
+    """Nodes, each with its lines, and edges: from, to, kind, and what stands at it."""
+
+    def __init__(self, name: str) -> None:
+        self.name = name
+        self.nodes: list[dict[str, Any]] = []
+        self.edges: dict[tuple[int, int, str, str], int] = {}
+
+    def lead(self, a: int, b: int, kind: str, label: str = "") -> None:
+        key = a, b, kind, label
+        self.edges[key] = self.edges.get(key, 0) + 1
+        if len(self.edges) > MOST_EDGES:
+            raise Failed(f"the graph has more than {MOST_EDGES:,} edges")
+
+
+class Flow:
+    """Makes the graph of a code: `next` leads to the block behind, `taken` where a branch leads, `switch` where a
+    payload does, by its keys, and `handler` from each block that a try covers, by the exception's type.
+    """
+
+    def __init__(self, name: str, code: Code) -> None:
+        self.code = code = fresh(code)
+        lines = [line for line in str(code).split("\n")[1:] if line[:1] != ":"]
+        self.insns, self.graph = code.insns, Graph(name)
+        self.places = {id(insn): place for place, insn in enumerate(self.insns)} | {id(None): len(self.insns)}
+        self.led: set[int] = set()  # instructions that something leads to
+        starts = sorted({0, *self.starts()})
+        self.blocks: dict[int, int] = {}
+        ends: list[int] = []
+        for first, end in zip(starts, [*starts[1:], len(self.insns)]):
+            if first < end and not self.is_payload(first) and not self.is_padding(first, end):
+                self.blocks[first] = len(self.graph.nodes)
+                self.graph.nodes.append({"first": first, "lines": lines[first:end]})
+                ends.append(end)
+        for block, end in enumerate(ends):
+            self.leave(block, end)
+        self.handle()
+
+    def place(self, label: Label) -> int:
+        return self.places[id(label.insn)]
+
+    def is_payload(self, place: int) -> bool:
+        return self.insns[place].mnemonic.endswith("-payload")
+
+    def is_padding(self, first: int, end: int) -> bool:
+        """Whether these are nops that put a payload at its address, and nothing leads to them."""
+        is_before = first > 0 and end < len(self.insns) and self.is_payload(end) and first not in self.led
+        return is_before and all(insn.mnemonic == "nop" for insn in self.insns[first:end])
+
+    def targets(self, insn: Insn) -> list[tuple[int, str, str]]:
+        """Where an instruction leads, besides what comes next."""
+        if insn.target is None or insn.mnemonic == "fill-array-data":
+            return []
+        if not insn.mnemonic.endswith("-switch"):
+            return [(self.place(insn.target), "taken", "")]
+        payload: Any = insn.target.insn  # (a switch leads to its payload)
+        keys: dict[int, list[str]] = {}
+        for at, target in enumerate(payload.targets):
+            key = payload.keys[at] if hasattr(payload, "keys") else payload.first + at
+            keys.setdefault(self.place(target), []).append(str(key))
+        return [(target, "switch", cut(found)) for target, found in keys.items()]
+
+    def starts(self) -> Iterator[int]:
+        """Where blocks begin."""
+        for place, insn in enumerate(self.insns):
+            found = [target for target, _, _ in self.targets(insn)]
+            self.led.update(found)
+            yield from found
+            if found or insn.mnemonic.startswith(ENDS):
+                yield place + 1
+            if self.is_payload(place):
+                yield place
+                yield place + 1
+        for one in self.code.tries:
+            found = [self.place(label) for label in one.labels()]
+            self.led.update(found[2:])
+            yield from found
+
+    def leave(self, block: int, end: int) -> None:
+        insn = self.insns[end - 1]
+        if not insn.mnemonic.startswith(ENDS) and end in self.blocks:
+            self.graph.lead(block, self.blocks[end], "next")
+        for target, kind, label in self.targets(insn):
+            if target in self.blocks:
+                self.graph.lead(block, self.blocks[target], kind, label)
+
+    def handle(self) -> None:
+        starts = [node["first"] for node in self.graph.nodes]
+        for one in self.code.tries:
+            first, end = self.place(one.start), self.place(one.end)
+            found: list[tuple[str, Label]] = [(catch.type, catch.target) for catch in one.catches]
+            found += [("any", one.catch_all)] if one.catch_all is not None else []
+            for block in range(bisect_left(starts, first), bisect_left(starts, end)):
+                for type_, label in found:
+                    self.graph.lead(block, self.blocks[self.place(label)], "handler", str(type_))
+
+
+def cut(keys: list[str]) -> str:
+    """The keys of a switch that lead to one place, the first of many."""
+    return ", ".join(keys[:MOST_KEYS]) + (f" .. {len(keys)} keys" if len(keys) > MOST_KEYS else "")
+
+
+def flow(uses: Uses, number: int) -> Graph:
+    """The flow of a method that has code."""
+    method: Any = uses.member(number)
+    return Flow(uses.full_name(number), method.code).graph
+
+
+def calls(uses: Uses, start: int | None = None, depth: int | None = None) -> Graph:
+    """Who calls whom, from a method on so many calls deep, or all."""
+    graph, places = Graph("calls"), {}
+
+    def node(to: int | str) -> int:
+        """The node of a method: its number, or its name where the file doesn't have it."""
+        if to not in places:
+            places[to] = len(graph.nodes)
+            name = to if isinstance(to, str) else uses.full_name(to)
+            graph.nodes.append({"name": name, "outside": isinstance(to, str), "lines": [spelled(name)]})
+        return places[to]
+
+    due = [start] if start is not None else [number for number, _ in uses.methods()]
+    depths = dict.fromkeys(due, 0)
+    for number in due:
+        here, code = node(number), getattr(uses.member(number), "code", None)
+        if code is None or depth is not None and depths[number] >= depth:
+            continue
+        for insn in fresh(code).insns:
+            if not insn.mnemonic.startswith("invoke-"):
+                continue
+            owner, _, signature = str(insn.name).partition("->")
+            to = uses.resolve(owner, signature)
+            graph.lead(here, node(str(insn.name) if to is None else to), "call")
+            if to is not None and to not in depths:
+                depths[to] = depths[number] + 1
+                due.append(to)
+    return graph
+
+
+# ---- what is written
+
+
+def as_json(graph: Graph) -> dict[str, Any]:
+    nodes = [
+        {key: value for key, value in node.items() if key != "lines" or "name" not in node} for node in graph.nodes
+    ]
+    edges = [
+        {"from": a, "to": b, "kind": kind}
+        | ({"label": label} if label else {})
+        | ({"times": n} if kind == "call" else {})
+        for (a, b, kind, label), n in graph.edges.items()
+    ]
+    return {"name": graph.name, "nodes": nodes, "edges": edges}
+
+
+def in_dot(text: str) -> str:
+    """A text in quotes, cut where it is long. (graphviz takes character references in it.)"""
+    text = text if len(text) <= LONGEST else f"{text[:LONGEST]}..."
+    return text.replace("&", "&amp;").replace("\\", "\\\\").replace('"', '\\"')
+
+
+def as_dot(graph: Graph, link: str = "") -> Iterator[str]:
+    """The graph in the language of graphviz. `link` and a node's first instruction are where a node leads."""
+    yield f'digraph "{in_dot(spelled(graph.name))}" {{'
+    yield 'bgcolor="transparent" node [shape=box fontname="monospace" fontsize=10 style=filled fillcolor="#ffffff"]'
+    yield 'edge [fontname="monospace" fontsize=10]'
+    for at, node in enumerate(graph.nodes):
+        first = node.get("first")
+        lines = [
+            in_dot(line if first is None else f"{first + n} {line}")
+            for n, line in enumerate(node["lines"][:MOST_LINES])
+        ]
+        lines += [f"{len(node['lines']) - MOST_LINES} more"] if len(node["lines"]) > MOST_LINES else []
+        more = f' href="{link}{first}"' if link else ""
+        more += ' style="filled,dashed"' if node.get("outside") else ""
+        label = "".join(f"{line}\\l" for line in lines)
+        yield f'n{at} [label="{label}"{more}]'
+    for (a, b, kind, label), times in graph.edges.items():
+        said = label or (f"{times} times" if times > 1 else "")
+        look = f'class="{kind}" color="{COLORS[kind]}"{LOOKS.get(kind, "")}'
+        yield f'n{a} -> n{b} [{look} label="{in_dot(said)}"]'
+    yield "}"
+
+
+def graphviz() -> str:
+    """The path of graphviz's command."""
+    program = shutil.which("dot")
+    if program is None:
+        raise Failed("graphviz isn't there: its command dot draws the pictures (Debian: graphviz)")
+    return program
+
+
+def drawn(dot: str) -> str:
+    """The picture that graphviz makes, as SVG."""
+    try:
+        done = subprocess.run([graphviz(), "-Tsvg"], input=dot.encode("ascii"), capture_output=True, timeout=SECONDS)
+    except subprocess.TimeoutExpired:
+        raise Failed(f"graphviz drew for more than {SECONDS} seconds: the graph is too large for a picture") from None
+    if done.returncode:
+        raise Failed(f"graphviz ended with status {done.returncode}")
+    try:
+        picture = done.stdout.decode("utf8")
+        if xml.fromstring(picture).tag == f"{SVG}svg":
+            return picture
+    except (ValueError, xml.ParseError):
+        pass
+    raise Failed(NO_PICTURE)
+
+
+def for_page(svg: str) -> str:
+    """A picture as a part of a page: only what a picture needs, without names, colours and scripts."""
+    top = xml.fromstring(svg)
+    try:
+        keep(top)
+        return xml.tostring(top, encoding="unicode")
+    except RecursionError:
+        raise Failed(NO_PICTURE) from None
+
+
+def keep(element: xml.Element) -> None:
+    to = element.get(LINK)
+    element.attrib = {name: said for name, said in element.attrib.items() if name in ATTRIBUTES}
+    if to and re.fullmatch(r"#\d+\.\d+", to):
+        element.set("href", to)
+    element.tag, element.tail = element.tag.removeprefix(SVG), None
+    if element.tag != "text":
+        element.text = None
+    for inner in [*element]:
+        if inner.tag.removeprefix(SVG) in ELEMENTS:
+            keep(inner)
+        else:
+            element.remove(inner)

@@ -1,0 +1,172 @@
+"""What makes a program of a helper: its words, by its manual, its lines on standard error, and its status.
+
+A helper is given files and names by strangers. So no name becomes a part of a program's text or of a path that leads
+elsewhere, and what is printed of a name or of a line goes through `escaped`."""
+from __future__ import annotations
+
+import argparse
+import functools
+import os
+import re
+import sys
+from collections.abc import Callable
+
+from dexasm.tools.asking import answer
+from dexasm.tools.basis import FAILED, MEMORY, USAGE, Failed, reason
+from dexasm.tools.escapes import escaped
+from dexasm.tools.files import get
+
+TYPE_CHECKING = False  # (as in typing, which takes a while to read)
+if TYPE_CHECKING:
+    from types import ModuleType
+    from typing import Any, NoReturn
+
+# (what only some helpers call is imported where it is: that takes longer than most of what they do)
+UNITS = {"K": 1 << 10, "M": 1 << 20, "G": 1 << 30}
+
+
+class Usage(Failed):
+    """The words are wrong."""
+
+
+class Version(argparse.Action):
+    """Prints the version of the command, which is the helper's too: they come together."""
+
+    def __init__(self, **options: Any) -> None:
+        super().__init__(nargs=0, **options)
+
+    def __call__(self, parser: argparse.ArgumentParser, *_: object) -> None:
+        said = answer("--version", given=b"", name=parser.prog).decode("ascii")
+        print(f"{parser.prog} {said.split()[-1]}")
+        parser.exit()
+
+
+class Words(argparse.ArgumentParser):
+    """A helper's words, by its manual: --help prints it, and its usage is told where the words are wrong."""
+
+    def __init__(self, program: ModuleType) -> None:
+        self.program, self.doc = program, manual(program).strip() + "\n"
+        self.uses = "\n".join(re.findall(r"^usage: .*(?:\n +.*)*", self.doc, re.M)[0].splitlines())
+        # (whose width is looked for otherwise, which takes a while, for a help that isn't printed)
+        formatter = functools.partial(argparse.HelpFormatter, width=80)
+        named: dict[str, Any] = {"prog": self.uses.split()[1], "usage": "%(prog)s"}
+        super().__init__(**named, allow_abbrev=False, formatter_class=formatter)
+        self.add_argument("--version", action=Version)
+
+    def format_help(self) -> str:
+        return self.doc
+
+    def error(self, message: str) -> NoReturn:
+        raise Usage(f"{self.uses}\n{self.prog}: {escaped(message)}", USAGE)
+
+
+def size(word: str) -> int:
+    """A word that is a number of bytes."""
+    unit = UNITS.get(word[-1:].upper(), 1)
+    number = int(word[:-1] if unit > 1 else word) * unit
+    if number < 1 << 20 or number > 1 << 50:
+        raise ValueError
+    return number
+
+
+def positive(word: str, kind: Callable[[str], float] = int) -> float:
+    number = kind(word)
+    if not 0 < number < 1 << 20:
+        raise ValueError
+    return number
+
+
+def seconds(word: str) -> float:
+    return positive(word, float)
+
+
+def manual(program: ModuleType) -> str:
+    """The docstring of a helper; out of its file where Python was told to keep none (-OO)."""
+    if program.__doc__:
+        return program.__doc__
+    import ast
+
+    return ast.get_docstring(ast.parse(get(program.__file__)), clean=False) or ""
+
+
+def say(line: str) -> None:
+    """A line on standard error, where there is one."""
+    if sys.stderr is not None:
+        try:
+            print(line, file=sys.stderr, flush=True)
+        except OSError:
+            pass
+
+
+def helper(trouble: int | None = None, unread: int = 0) -> Callable[[Callable[[Words], int]], Callable[[], NoReturn]]:
+    """Makes the `main` of a helper of a function that takes a parser of its words and answers the status. It ends with
+    a status whatever happens, and with one line on standard error where something went wrong. `trouble` is the status
+    of that, where it isn't told apart; `unread` is that of a run whose output nobody read to the end.
+    """
+
+    def made(does: Callable[[Words], int]) -> Callable[[], NoReturn]:
+        return lambda: run(does, trouble, unread)
+
+    return made
+
+
+def run(does: Callable[[Words], int], trouble: int | None, unread: int) -> NoReturn:
+    """Runs a helper. (For its developer, `python3 -X dev` shows where a failure was that nobody thought of.)"""
+    words = Words(sys.modules[does.__module__])
+    try:
+        if sys.stdout is None:
+            raise Failed("cannot write: standard output is closed")
+        sys.stdout.reconfigure(errors="backslashreplace")  # type: ignore[attr-defined]
+        status = finished(does, words, unread)
+    except Failed as failed:
+        say(failed.line if isinstance(failed, Usage) else f"{words.prog}: {failed.line}")
+        status = trouble or failed.status
+    except OSError as error:
+        say(f"{words.prog}: {reason(error)}")
+        status = trouble or FAILED
+    except MemoryError:
+        say(f"{words.prog}: out of memory")
+        status = trouble or MEMORY
+    except KeyboardInterrupt:
+        status = 130
+    except Exception as error:
+        if sys.flags.dev_mode:
+            raise
+        say(f"{words.prog}: unexpected {type(error).__name__}: {escaped(str(error))}")
+        status = trouble or FAILED
+    silence()
+    sys.exit(status)
+
+
+def finished(does: Callable[[Words], int], words: Words, unread: int) -> int:
+    """The status of a helper, when all that it printed is written, or nobody reads it any more."""
+    status = unread
+    try:
+        try:
+            status = does(words)
+        except SystemExit:  # (of --help)
+            status = 0
+        sys.stdout.flush()
+    except BrokenPipeError:
+        if not is_unread():
+            raise
+    return status
+
+
+def is_unread() -> bool:
+    """Whether standard output is a pipe, or a socket, that its reader closed."""
+    import select
+
+    poll = select.poll()
+    poll.register(sys.stdout.fileno(), 0)
+    return any(event & (select.POLLERR | select.POLLHUP) for _, event in poll.poll(0))
+
+
+def silence() -> None:
+    """What couldn't be written is let go, so that nothing is told of it once more when Python ends."""
+    for stream in (sys.stdout, sys.stderr):
+        try:
+            if stream is not None:
+                stream.flush()
+        except OSError:
+            os.dup2(os.open(os.devnull, os.O_WRONLY), stream.fileno())

@@ -1,0 +1,1 @@
+"""dexasm-info: what is in a file."""

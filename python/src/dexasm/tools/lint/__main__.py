@@ -1,0 +1,194 @@
+"""Says where a program breaks a rule that Android's verifier has and dexasm doesn't ask.
+
+usage: dexasm-lint [--code [--jobs N]] [--json|--sarif] [FILE..]
+
+`dexasm check` says `ok` of a file that keeps docs/FORMAT.md; Android's verifier of .dex files asks a few things more of
+a program, of flags, lists of members, names, values and outs. For each member that breaks one there is a line: FILE,
+the class or member, the rule's word, what is wrong and by what, and the page and its part that the rule belongs to. A
+file in which none is broken is `FILE: ok`. The rules:
+
+  class-flags  a class has flags above 0xffff
+  field-flags  a field has flags above 0xffff
+  one-of-public-protected-private  more than one of public, protected and private
+  volatile-and-final  a field of a class is volatile and final
+  method-flags  a method has flags above 0xffff that aren't constructor or declared-synchronized
+  constructor-flag  a method is flagged constructor, and isn't <init> or <clinit>
+  init-flags  <init> has flags other than public, protected, private, varargs, strict and synthetic
+  abstract-flags  an abstract method is private, static, final, synchronized, native or strict too
+  code-missing  a method has no code, and isn't native or abstract
+  code-unwanted  a method has code, and is native or abstract
+  field-list  a field stands among the static ones, and isn't, or the other way round
+  method-list  a method stands among the direct ones, and isn't static, private, <init> or <clinit>, or the other way
+      round
+  in-both-lists  a method is direct and virtual
+  method-name  a method's name begins with <, and isn't <init> or <clinit>
+  constructor-signature  <init> answers something, or <clinit> isn't ()V
+  value-type  a static field's value is of another type
+  value-kind  a static field's value is an enum, a field, a method or an array
+  outs-size  outs are more than 5 and more than registers
+
+They are those of ART 14 for version 035, which docs/VERIFIERS.md lists with all else that it asks.
+
+With --code the code of each method is looked at too, as a device does later: what kind of value each register holds on
+each way, and what each instruction takes. For each place that breaks a rule of the page "Dalvik bytecode constraints"
+there is a line, at most five of a method. Of a listing it has line and column, otherwise the member, the instruction's
+number and its address in units:
+
+  a.txt:9:12: error: v3 holds a reference (java.lang.String, from line 7), and add-int takes an int (register-kind, B1)
+  a.dex: LA;->m(I)V: 7 (0x0a): error: v3 holds ..
+
+A class that isn't in the file is taken as right, whatever is asked of it. The rules:
+
+  register-kind  a register holds another kind of value than the instruction takes
+  ways-differ  a register is read that holds one kind of value on one way and another one on another
+  register-unset  a register is read that isn't set on each way
+  pair-broken  a half of a pair of registers is read alone, or is no half of that pair any more
+  pair-outside  a pair begins at the last register of the code
+  uninitialized-use  an object is used before its constructor is called
+  constructor-call  a constructor is called on what is no new object
+  constructor-return  a constructor returns without having called another one
+  field-static  iget or iput names a static field, or sget or sput an instance field
+  field-type  a field's type isn't the instruction's
+  call-kind  a method is called by another kind of invoke than its own
+  call-init  <clinit> is called, or <init> by another invoke than invoke-direct
+  argument-count  a call is given more or fewer registers than its method takes
+  argument-type  an argument can't be of the parameter's type
+  receiver-type  an object can't be of the class whose method is called or whose field is named
+  stored-type  what is stored can't be of the type of the field or of the array's elements
+  result-place  a move-result isn't right behind a call, or something else leads to it
+  result-kind  a move-result takes another kind of value than its call answers
+  exception-place  a move-exception isn't the first instruction of a handler, or something else leads to it
+  falls-off  the flow runs past the last instruction
+  payload-reached  the flow runs into the data of a switch or of an array
+  return-kind  a return is of another kind than the method's type
+  return-type  what is returned can't be of the method's type
+  return-range  what is returned lies in a range that the method's type doesn't have
+  throw-type  what is thrown is no Throwable
+  array-kind  an instruction for arrays is given something else, or an array of other elements
+  array-data  data of an array is of another width than its elements, or these are references
+  array-type  new-array or filled-new-array names a type that is no array
+  new-type  new-instance names an array, a primitive type, an interface or an abstract class
+  cast-type  check-cast or instance-of names a primitive type
+  ins-count  the ins of a code aren't as many as the method's parameters take
+  outs-short  the outs of a code aren't enough for a call
+
+  --json    a line of JSON for each: file, uri, kind (dex, listing), status, rule, page, line, column, class, member,
+            instruction, address, register, sentence, why; what isn't known is null. The status is broken, ok (of a
+            file), refused or failed (it can't be looked at)
+  --sarif   one document of SARIF 2.1.0, which has what is broken
+  --jobs N  has --code look by N workers, each at some of a file's classes
+
+FILE is a .dex file or a listing, `-` or none at all standard input. One that dexasm refuses has dexasm's own line on
+standard error, and the others go on. A method with so many registers and ways that it isn't looked at to its end has a
+line that says so.
+
+Exit status: 0 no rule is broken, 1 one is, or a file is refused; 2 wrong words; 3 something can't be read, written or
+looked at to its end; 4 out of memory. Of several files it is the highest.
+"""
+from __future__ import annotations
+
+import os
+import sys
+
+from dexasm.tools.asking import dex_from, is_listing, listed
+from dexasm.tools.basis import FAILED, MEMORY, REFUSED, Failed
+from dexasm.tools.check.checkers import Verdict
+from dexasm.tools.files import get, name_of
+from dexasm.tools.helper import helper, positive
+from dexasm.tools.helper import say
+from dexasm.tools.lint.code import broken_by, kind_by, line_of, looked_at, member_of
+from dexasm.tools.lint.rules import RULES
+from dexasm.tools.verdicts import Json, Sarif, Text, harmless, sentence_of, status_of
+
+TYPE_CHECKING = False  # (as in typing)
+if TYPE_CHECKING:
+    from argparse import Namespace
+    from collections.abc import Iterator
+    from typing import Any
+
+    from dexasm.tools.helper import Words
+
+ENDS = {REFUSED: "refused", MEMORY: "memory"}
+
+
+class Lines(Text):
+    """Lines for people: of a rule of files the class or member, of one of code the place."""
+
+    def lines(self, verdict: Verdict) -> list[str]:
+        name = harmless(name_of(None if verdict.path == b"-" else verdict.path))
+        if verdict.status == "ok":
+            return [f"{name}: ok"]
+        if verdict.class_ is None:
+            return []  # (which standard error has)
+        if verdict.rule in RULES:
+            return [f"{name}: {'->'.join(member_of(verdict))}: {verdict.rule}: {verdict.why} ({verdict.page})"]
+        return [line_of(name, verdict)]
+
+
+class LintJson(Json):
+    fields = ("rule", "page", "line", "column", "class_", "member", "instruction", "address", "register")
+
+    def more(self, verdict: Verdict) -> dict[str, Any]:
+        return {"sentence": sentence_of(verdict) if verdict.rule else None, "why": verdict.why}
+
+
+class LintSarif(Sarif):
+    tool = "dexasm-lint"
+
+
+FORMS: dict[str, type[Text]] = {"json": LintJson, "sarif": LintSarif}
+
+
+def of_file(path: str | None, asked: Namespace) -> Iterator[Verdict]:
+    """What is known of one file."""
+    given, name = get(path), name_of(path)
+    is_text, file = is_listing(given), os.fsencode(path or "-")
+    program = listed(dex_from(given, name), name)
+    is_ok = True
+    for verdict in broken_by(file, is_text, program):
+        is_ok = False
+        yield verdict
+    for verdict in looked_at(file, given, is_text, program, asked.jobs) if asked.code else ():
+        is_ok = False
+        yield verdict
+    if is_ok:
+        yield Verdict(file, "", kind_by(is_text), "ok")
+
+
+def words_of(words: Words) -> Namespace:
+    form = words.add_mutually_exclusive_group()
+    for name in FORMS:
+        form.add_argument(f"--{name}", dest="form", action="store_const", const=name)
+    words.add_argument("--code", action="store_true")
+    words.add_argument("--jobs", type=positive, default=1)
+    words.add_argument("files", nargs="*", metavar="FILE")
+    return words.parse_args()
+
+
+@helper(unread=FAILED)
+def main(words: Words) -> int:
+    asked = words_of(words)
+    form = FORMS[asked.form]() if asked.form else Lines()
+    status = 0
+    for path in [None if file == "-" else file for file in asked.files or "-"]:
+        try:
+            for verdict in of_file(path, asked):
+                status = max(status, status_of(verdict))
+                tell(form.lines(verdict))
+        except Failed as failed:
+            sys.stdout.flush()
+            say(f"{words.prog}: {failed.line}")
+            status = max(status, failed.status)
+            end = ENDS.get(failed.status, "failed")
+            tell(form.lines(Verdict(os.fsencode(path or "-"), "", None, end, why=failed.line)))
+    tell(form.end(status))
+    return status
+
+
+def tell(lines: list[str]) -> None:
+    if lines:
+        print(*lines, sep="\n")
+
+
+if __name__ == "__main__":
+    main()

@@ -1,0 +1,402 @@
+"""What is wrong in a program, for dexasm-lint and dexasm-check --lint: from a file to lines, with the place of what is
+wrong in its code in the listing where one was given.
+
+With --jobs N there are workers too, which are given the listing once and numbers of classes after it.
+"""
+from __future__ import annotations
+
+import concurrent.futures
+import re
+from collections.abc import Iterator
+from itertools import accumulate
+from typing import TYPE_CHECKING, Any, NamedTuple
+
+from dexasm import listed, names
+from dexasm.formats import format_of
+from dexasm.tools.basis import Failed
+from dexasm.tools.check.checkers import Verdict, lead
+from dexasm.tools.escapes import LONGEST
+from dexasm.tools.lint.classes import Classes
+from dexasm.tools.lint.kinds import Kind, Kinds
+from dexasm.tools.lint.rules import PAGE, broken, classes_of, said_of
+from dexasm.tools.lint.rules import RULES as FILE_RULES
+from dexasm.tools.lint.verify import MOST_TOLD, TooMuch, Wrong, check
+from dexasm.tools.uses import fresh
+from dexasm.tools.workers.looker import Looker
+
+if TYPE_CHECKING:
+    from collections.abc import Callable
+
+    from dexasm import members
+    from dexasm.code import Code, Insn
+    from dexasm.program import Program
+
+# Each rule's word, and its numbers on the page "Dalvik bytecode constraints"; `code_item` is a part of the page
+# "Dalvik Executable format". What is wrong where one is broken stands in the help of dexasm-lint.
+RULES = {
+    "register-kind": "B1",
+    "ways-differ": "B1, B7",
+    "register-unset": "B3",
+    "pair-broken": "B2, B18",
+    "pair-outside": "A23",
+    "uninitialized-use": "B6, B8",
+    "constructor-call": "B5",
+    "constructor-return": "B8",
+    "field-static": "A10, A11",
+    "field-type": "B1",
+    "call-kind": "A12 to A16, B4",
+    "call-init": "A14",
+    "argument-count": "B1",
+    "argument-type": "B9",
+    "receiver-type": "B10",
+    "stored-type": "B13 to B15",
+    "result-place": "B19, B20",
+    "result-kind": "B20",
+    "exception-place": "B21",
+    "falls-off": "B17",
+    "payload-reached": "B22",
+    "return-kind": "B11",
+    "return-type": "B11",
+    "return-range": "B11",
+    "throw-type": "B16",
+    "array-kind": "B1",
+    "array-data": "B1",
+    "array-type": "A21",
+    "new-type": "A20",
+    "cast-type": "A17, A18",
+    "ins-count": "code_item",
+    "outs-short": "code_item",
+}
+UNREAD = "unread"  # in place of a rule: the method wasn't looked at to its end
+TOO_MUCH = "it has too many registers and ways to be looked at"
+PARTS = 4  # times as many parts as workers
+SECONDS, MEMORY = 3600, 2 << 30  # for a worker
+MARKED = re.compile(r"`(=?)([^`]*)`")
+
+
+class Told(NamedTuple):
+    """What is wrong at an instruction of a method, both by number; the place is -1 where it is all of the method. In
+    the text types, with a = as a listing has them, and places stand in backquotes.
+    """
+
+    row: int
+    method: int
+    place: int
+    rule: str
+    text: str
+    register: int
+
+
+# ---- in words
+
+HELD = {
+    "zero": "0",
+    "null": "null",
+    "constant": "a constant",
+    "float": "a float",
+    "reference": "a reference",
+    "new": "a new object",
+    "this": "the object under construction",
+    "long": "half of a long",
+    "double": "half of a double",
+    "wide": "half of a constant of 64 bits",
+    "conflict": "one kind on one way to here and another one on another",
+    "unset": "nothing",
+}
+
+
+def described(kind: Kind, *more: str) -> str:
+    """A kind in words, in brackets its type and more that is known."""
+    said = HELD.get(kind.base.partition(" ")[0], "")
+    if kind.base == "int":
+        said = "an int" if kind.range == "int" else f"a {kind.range}"
+        said = f"an int from {kind.range}" if " " in kind.range else said
+    known = [f"`{kind.type}`"] if kind.type and kind.base != "this" else []
+    known += more
+    return f"{said} ({', '.join(known)})" if known else said
+
+
+def from_way(way: tuple[int, Kind], kind: Kind | None = None) -> str:
+    """What a way brings, and from where."""
+    place, brought = way
+    return described(kind or brought, f"from `{place}`" if place >= 0 else "a parameter")
+
+
+def held(wrong: Wrong) -> str:
+    """What the register of a complaint holds."""
+    register, ways = f"v{wrong.register}", sorted(wrong.ways, key=lambda way: way[1].base == "unset")
+    if wrong.kind.base == "unset":
+        return f"{register} isn't set on any way to here"
+    if wrong.kind.base != "conflict":
+        return f"{register} holds {from_way(ways[0], wrong.kind) if ways else described(wrong.kind)}"
+    if len(ways) < 2:
+        return f"{register} holds {described(wrong.kind)}"
+    if ways[1][1].base == "unset":
+        return f"{register} is set on one way to here, to {from_way(ways[0])}, and not on another"
+    return f"{register} holds {from_way(ways[0])} on one way to here and {from_way(ways[1])} on another"
+
+
+def sentence(wrong: Wrong, mnemonic: str) -> str:
+    """What is wrong, and what to do where that is plain."""
+    if wrong.register < 0 or wrong.rule == "constructor-call":
+        return wrong.text
+    register, said = wrong.register, held(wrong)
+    if wrong.rule == "pair-broken" and not wrong.kind.base.endswith(("low", "high")):
+        said = f"v{register - 1} and v{register} are no pair any more: {said}"
+    if wrong.rule == "return-range":
+        mend = "and-int/lit8 with 1" if wrong.text == "a boolean" else f"int-to-{wrong.text[2:]}"
+        return f"{said}, and the method answers {wrong.text}: {mend} makes it one"
+    end = f"{mnemonic} takes {wrong.text}"
+    if wrong.rule == "uninitialized-use":
+        owner = "" if wrong.kind.base == "this" else f"`={wrong.kind.type}`->"
+        return f"{said}, and {end}: first call invoke-direct {{ v{register} .. }} {owner}<init>"
+    if wrong.rule == "register-unset" or wrong.rule == "ways-differ":
+        return f"{said}, and {end}: set it alike on each way"
+    if wrong.rule in ("receiver-type", "argument-type", "stored-type", "return-type", "throw-type"):
+        return f"{said}, and {end}: if it is one, a check-cast before says so"
+    return f"{said}, and {end}"
+
+
+# ---- the methods
+
+
+class Looked:
+    """A program, whose methods are looked at by class."""
+
+    def __init__(self, program: Program) -> None:
+        self.classes = Classes(program)
+        self.kinds = Kinds(self.classes.parents)
+        self.program = program
+
+    def look(self, row: int) -> Iterator[Told]:
+        one = self.program.classes[row]
+        for at, method in enumerate(one.methods):
+            if method.code is not None:
+                code = fresh(method.code)
+                yield from self.look_at(row, at, one, method, code)
+
+    def look_at(
+        self, row: int, at: int, one: members.Class, method: members.Method, code: Code
+    ) -> Iterator[Told]:
+        try:
+            found = check(self.classes, self.kinds, one, method, code)
+        except TooMuch:
+            yield Told(row, at, -1, UNREAD, TOO_MUCH, -1)
+            return
+        for number, wrong in enumerate(found[:MOST_TOLD], 1):
+            mnemonic = code.insns[wrong.place].mnemonic if wrong.place >= 0 else ""
+            text = sentence(wrong, mnemonic)
+            if number == MOST_TOLD < len(found):
+                text += f"; {len(found) - MOST_TOLD} more in this method"
+            yield Told(row, at, wrong.place, wrong.rule, text, wrong.register)
+
+
+def look(program: Program, jobs: int = 1) -> Iterator[Told]:
+    """What is wrong in the code of a program, in the order of its classes."""
+    if jobs > 1 and len(program.classes) > 1:
+        yield from look_by_workers(program, jobs)
+        return
+    looked = Looked(program)
+    for row in range(len(program.classes)):
+        yield from looked.look(row)
+
+
+# ---- workers
+
+
+class Part:
+    """Numbers of classes that a worker looks at. Of the listing, which it has, it makes a program once."""
+
+    needs = ("dexasm.program",)
+    looked: Looked | None = None
+
+    def __init__(self, first: int, end: int) -> None:
+        self.first, self.end = first, end
+
+    def look(self, tell: Callable[..., None], listing: str) -> None:
+        import dexasm
+
+        if Part.looked is None:
+            Part.looked = Looked(dexasm.Program.of_listing(listing))
+        for row in range(self.first, self.end):
+            for told in Part.looked.look(row):
+                tell("told", *told)
+
+
+class Worker(Looker):
+    kind = "dexasm.tools.lint.code:Part"
+
+    def part(self, first: int, end: int) -> list[Told]:
+        if self.worker is None:
+            self.start()
+        self.send((first, end))
+        found: list[Told] = []
+        while (said := self.said()) is not None:
+            if said[0] == "end":
+                return found
+            if said[0] != "told":
+                break
+            found.append(Told._make(said[1:]))
+        raise Failed(f"a worker ended with status {self.ended()}")
+
+
+def look_by_workers(program: Program, jobs: int) -> Iterator[Told]:
+    """The same, by several workers."""
+    lead()
+    listing = str(program)
+    workers = [Worker(SECONDS, MEMORY, listing) for _ in range(jobs)]
+    idle = [*workers]
+
+    def work(part: tuple[int, int]) -> list[Told]:
+        worker = idle.pop()
+        try:
+            return worker.part(*part)
+        finally:
+            idle.append(worker)
+
+    pool = concurrent.futures.ThreadPoolExecutor(jobs)
+    try:
+        for found in pool.map(work, parts(program, PARTS * jobs)):
+            yield from found
+    finally:
+        # (what a worker is at is of no use any more; others may be begun for another file)
+        pool.shutdown(wait=False, cancel_futures=True)
+        for worker in workers:
+            worker.stop()
+        pool.shutdown(wait=True)
+
+
+def parts(program: Program, count: int) -> list[tuple[int, int]]:
+    """The classes in parts of about the same length of text."""
+    ends = [*accumulate(len(text) for text in program.classes.texts())]
+    found: list[tuple[int, int]] = []
+    first = 0
+    for row, end in enumerate(ends):
+        if end * count >= ends[-1] * (len(found) + 1):
+            found.append((first, row + 1))
+            first = row + 1
+    return found
+
+
+# ---- where it is
+
+
+class Places:
+    """Names the places of what is told: lines of the listing that was given, or else instructions."""
+
+    def __init__(self, path: bytes, kind: str, program: Program, listing: bytes | None) -> None:
+        self.path, self.kind, self.program = path, kind, program
+        self.read = listed.Listing(listing) if listing is not None else None
+        self.row = -1  # of the class that was looked at last, its methods, and their codes as the listing has them
+        self.methods: tuple[Any, ...] = ()
+        self.codes: dict[tuple[str, str, str], listed.Code] = {}
+
+    def open(self, row: int) -> None:
+        one, said = self.program.classes[row], listed.said
+        self.row, self.methods = row, one.methods
+        members = self.read.one(row).members if self.read else ()
+        self.codes = {
+            (member.line.key, said(member.line.words[1]), said(member.line.words[2])): member.code
+            for member in members
+            if member.code is not None
+        }
+
+    def verdict(self, told: Told) -> Verdict:
+        if self.row != told.row:
+            self.open(told.row)
+        one, method = self.program.classes[told.row], self.methods[told.method]
+        key = "direct" if told.method < len(one.directs) else "virtual"
+        lines = self.codes.get((key, method.name, method.proto))
+        line = column = address = None
+        if lines is not None:
+            at = lines.insns[told.place] if told.place >= 0 else lines.head
+            line, column = at.number, self.column(at, told.register)
+        elif told.place >= 0:
+            address = sum(map(units, fresh(method.code).insns[: told.place]))
+        return Verdict(
+            self.path,
+            "",
+            self.kind,
+            "failed" if told.rule == UNREAD else "broken",
+            line=line,
+            column=column,
+            class_=names.spelled(one.name),
+            member=names.spelled(method.signature),
+            instruction=told.place if told.place >= 0 else None,
+            why=MARKED.sub(lambda found: self.named(found, lines), told.text),
+            rule=None if told.rule == UNREAD else told.rule,
+            page=RULES.get(told.rule),
+            register=told.register if told.register >= 0 else None,
+            address=address,
+        )
+
+    def named(self, found: re.Match[str], lines: listed.Code | None) -> str:
+        """A type or a place in words."""
+        if found[2].isdecimal():
+            at = int(found[2])
+            return f"instruction {at}" if lines is None else f"line {lines.insns[at].number}"
+        type_ = names.type_of(found[2])
+        return listed.brief(type_ if found[1] else type_.pretty)
+
+    def column(self, line: listed.Line, register: int) -> int:
+        """That of the register, as what is read and not what is written; of the second of a pair that of the first."""
+        words: dict[int, listed.Word] = {listed.register_of(word): word for word in listed.registers(line)}
+        return (words.get(register) or words.get(register - 1) or line.words[0]).column
+
+
+def units(insn: Insn) -> int:
+    """How many units of 16 bits an instruction takes."""
+    form = format_of(insn.mnemonic)
+    if form is not None:
+        return form.units
+    if hasattr(insn, "keys"):
+        return 2 + 4 * len(insn.keys)
+    if hasattr(insn, "targets"):
+        return 4 + 2 * len(insn.targets)
+    return 4 + (len(insn.data) + 1) // 2  # type: ignore[attr-defined]  # (of an array)
+
+
+def member_of(verdict: Verdict) -> list[str]:
+    """The class and, where it is known, the member, as a listing spells them."""
+    return [word for word in (verdict.class_, verdict.member) if word]
+
+
+def looked_at(path: bytes, given: bytes, is_text: bool, program: Program, jobs: int) -> Iterator[Verdict]:
+    """What is wrong in the code of a file."""
+    places = Places(path, kind_by(is_text), program, given if is_text else None)
+    for told in look(program, jobs):
+        yield places.verdict(told)
+
+
+def broken_by(path: bytes, is_text: bool, program: Program) -> Iterator[Verdict]:
+    """Which rules of files a program breaks: each as the help of dexasm-lint has it, and by what."""
+    for one in classes_of(program):
+        for where, rule, by in broken(one):
+            yield Verdict(
+                path,
+                "",
+                kind_by(is_text),
+                "broken",
+                class_=one.name,
+                member=where.partition("->")[2] or None,
+                why=f"{said_of()[rule]}: {by}",
+                rule=rule,
+                page=f"{PAGE}, {FILE_RULES[rule]}",
+            )
+
+
+def kind_by(is_text: bool) -> str:
+    """What a verdict calls what was given."""
+    return "listing" if is_text else "dex"
+
+
+def line_of(name: str, verdict: Verdict, error: str = "error:") -> str:
+    """A line for people: where the listing was given its line, otherwise the member and the instruction."""
+    member = "->".join(word if len(word) <= LONGEST else f"{word[:LONGEST]}..." for word in member_of(verdict))
+    at = f"{name}: {member}"
+    if verdict.line is not None:
+        at = f"{name}:{verdict.line}:{verdict.column}"
+    elif verdict.instruction is not None:
+        at += f": {verdict.instruction} (0x{verdict.address:02x})"
+    end = f"({verdict.rule}, {verdict.page})" if verdict.rule else f"(in {member})"
+    return f"{at}: {error} {verdict.why} {end}"

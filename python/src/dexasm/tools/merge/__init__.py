@@ -1,0 +1,1 @@
+"""dexasm-merge: one file of the classes of several."""

@@ -1,0 +1,1 @@
+"""Pages of HTML: names of somebody else's making as text, tables, pictures."""

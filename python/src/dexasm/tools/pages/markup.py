@@ -1,0 +1,81 @@
+"""What the pages of dexasm-size and of dexasm-browse have in common: names of somebody else's making as HTML, and
+tables.
+"""
+from __future__ import annotations
+
+import html
+import re
+import unicodedata
+from collections.abc import Iterable
+
+from dexasm.tools.escapes import escaped, shown
+
+LONGEST = 120  # characters of a name where it isn't the listing's own line
+MARKS = 4  # that may stand on one character ("Unicode Security Mechanisms", UTS 39, 5.4: no more nonspacing marks)
+# The blocks of scripts that are written from right to left (DerivedBidiClass.txt, R, AL and AN), but for the digits
+# that run from left to right.
+RIGHT_TO_LEFT = re.compile(
+    "[\u0590-\u06ef\u06fa-\u08ff\ufb1d-\ufdff\ufe70-\ufeff\U00010800-\U00010fff\U0001e800-\U0001efff]+"
+)
+
+
+def cut(text: str, most: int = LONGEST) -> str:
+    return text if len(text) <= most else f"{text[:most]}... ({len(text):,} characters)"
+
+
+def unpiled(text: str) -> str:
+    """The text with at most MARKS marks on a character, and none on what is no letter and no digit, as a name's marks
+    would stand on what is before the name; the others stand as escapes.
+    """
+    if text.isascii():
+        return text
+    parts, count, is_base = [], 0, False
+    for char in text:
+        kind = unicodedata.category(char)
+        count = count + 1 if kind in ("Mn", "Me") else 0
+        is_base = is_base if kind[0] == "M" else char.isalnum()
+        parts.append(shown(char) if count > MARKS or kind[0] == "M" and not is_base else char)
+    return "".join(parts)
+
+
+def seen(name: str, most: int = LONGEST) -> str:
+    """A name as a reader is to see it, no HTML yet: what can't be seen stands as an escape, and so does all that isn't
+    ASCII where the Unicode standard has another form of the same name (NFC), since the two look alike.
+    """
+    name = cut(name, most)
+    if not unicodedata.is_normalized("NFC", name):
+        return "".join(char if " " <= char <= "~" else shown(char) for char in name)
+    return unpiled(escaped(name))
+
+
+def plain(name: str, most: int = LONGEST) -> str:
+    """A name where no element may stand: a title, an attribute."""
+    return html.escape(seen(name, most))
+
+
+def text(name: str, most: int = LONGEST) -> str:
+    """A name as HTML: nothing in it is obeyed, what is long is cut, and its parts stand in the order of the file."""
+    return RIGHT_TO_LEFT.sub(r'<bdi dir="ltr">\g<0></bdi>', plain(name, most))
+
+
+def drawn_text(name: str) -> str:
+    """The same in a picture."""
+    return RIGHT_TO_LEFT.sub(r"<tspan>\g<0></tspan>", plain(name))
+
+
+def number(count: int | None) -> str:
+    return "-" if count is None else f"{count:,}"
+
+
+def row(cells: Iterable[int | None], name: str) -> str:
+    return f"<tr>{''.join(f'<td>{number(one)}</td>' for one in cells)}<td>{name}</td></tr>"
+
+
+def table(caption: str, heads: Iterable[str], rows: Iterable[str], total: str = "") -> str:
+    """Rows of numbers with a name at the end; `total` is the row below them."""
+    head = "".join(f'<th scope="col" tabindex="0">{one}</th>' for one in heads)
+    foot = f"<tfoot>{total}</tfoot>" if total else ""
+    return (
+        f'<div class="wide"><table class="sums"><caption class="soft">{caption}</caption><thead><tr>{head}</tr></thead>'
+        "<tbody>" + "\n".join(rows) + f"</tbody>{foot}</table></div>"
+    )

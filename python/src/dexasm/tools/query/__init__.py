@@ -1,0 +1,1 @@
+"""dexasm-query: what stands in a program, as JSON or as a listing."""

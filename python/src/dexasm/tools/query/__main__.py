@@ -1,0 +1,160 @@
+"""Prints what a .dex file has, as JSON or as a part of its listing: an example to start from.
+
+usage: dexasm-query classes|strings|calls|fields [FILE]
+       dexasm-query tables [--lines] FILE [TABLE ..]
+       dexasm-query show [--addresses] FILE NAME ..
+
+  classes  each class with its flags, superclass, interfaces and members
+  strings  each string that code or a value has, and where: "LA;->m()V" or "LA;"
+  calls    each method of the file, and the methods that it calls, in the order of the code
+  fields   each field of the file, and each other one that code names, with the methods that read and write it
+  tables   the rows of the file's tables, in its order: of strings, types, protos, fields, methods or classes, all of
+           them where none is asked for; with --lines a line for each, its table, its index and what it says
+  show     the listing of these classes (LA;) or members (LA;->m()V, LA;->f:I, or LA;->m for all of that name) alone,
+           which can be assembled
+
+With --addresses each line of `show` stands behind blanks, and an instruction behind its offset in the file and its
+address in units of 16 bits, both in hexadecimal, as dexdump has them.
+
+All but `tables` walk the objects of the module for Python (bindings/python), so each query is a few lines. FILE may be
+a listing too; `tables` and addresses are then those of the file that dexasm makes of it. Names and strings are decoded
+alike: what a listing writes as an escape is the character here, and JSON writes it as its own escape. `access` has the
+words for flags.
+
+Exit status: 0 done, 1 the file is refused, 2 wrong words, or a name that names nothing, 3 something can't be read or
+written, 4 out of memory.
+"""
+from __future__ import annotations
+
+import json
+
+from dexasm.tools.asking import answer, dex_of, listed, program_of
+from dexasm.tools.files import name_of
+from dexasm.tools.helper import helper
+from dexasm.tools.info.tables import line_of, row_of
+from dexasm.tools.layout import Tables
+from dexasm.tools.query.show import show
+from dexasm.tools.uses import CLASS_FLAGS, flag_words
+
+TYPE_CHECKING = False  # (as in typing)
+if TYPE_CHECKING:
+    from argparse import Namespace
+    from collections.abc import Callable, Iterable, Iterator
+    from typing import Any
+
+    from dexasm.program import Program
+    from dexasm.tools.helper import Words
+
+    Query = Callable[[Program], dict[str, Any]]
+
+TABLES = {
+    "strings": "string",
+    "types": "type",
+    "protos": "proto",
+    "fields": "field",
+    "methods": "method",
+    "classes": "class",
+}
+
+
+def classes(program: Program) -> dict[str, Any]:
+    return {
+        one.name: {
+            "flags": one.flags,
+            "access": flag_words(one.flags, CLASS_FLAGS),
+            "superclass": one.superclass,
+            "interfaces": one.interfaces,
+            "fields": [field.signature for field in one.fields],
+            "methods": [method.signature for method in one.methods],
+        }
+        for one in program.classes
+    }
+
+
+def strings(program: Program) -> dict[str, list[str]]:
+    found: dict[str, list[str]] = {}
+    for one in program.classes:
+        for field in one.statics:
+            for value in field.value.all() if field.value else ():
+                if value.kind == "string":
+                    found.setdefault(value.value, []).append(one.name)
+        for method in one.methods:
+            for insn in method.insns:
+                if insn.text is not None:
+                    found.setdefault(insn.text, []).append(one.ref(method))
+    return found
+
+
+def calls(program: Program) -> dict[str, list[str | None]]:
+    return {
+        one.ref(method): [insn.name for insn in method.insns if insn.mnemonic.startswith("invoke-")]
+        for one in program.classes
+        for method in one.methods
+    }
+
+
+def fields(program: Program) -> dict[str, dict[str, list[str]]]:
+    found: dict[str, dict[str, dict[str, None]]] = {
+        one.ref(field): {"reads": {}, "writes": {}} for one in program.classes for field in one.fields
+    }
+    kinds = {"iget": "reads", "sget": "reads", "iput": "writes", "sput": "writes"}
+    for one in program.classes:
+        for method in one.methods:
+            for insn in method.insns:
+                kind = kinds.get(insn.mnemonic[:4])
+                if kind:
+                    assert insn.name is not None  # (that of the field)
+                    users = found.setdefault(insn.name, {"reads": {}, "writes": {}})
+                    users[kind][one.ref(method)] = None
+    return {name: {kind: [*methods] for kind, methods in users.items()} for name, users in found.items()}
+
+
+def tables(path: str | None, names: list[str]) -> dict[str, list[str | dict[str, Any]]]:
+    data = dex_of(path)
+    answer("check", given=data, name=name_of(path))
+    read = Tables(data)
+    rows = {name: range(read.count[TABLES[name]]) for name in names or TABLES}
+    return {name: [row_of(read, TABLES[name], row) for row in rows[name]] for name in rows}
+
+
+def table_lines(found: dict[str, Any]) -> Iterator[str]:
+    for name, rows in found.items():
+        for at, row in enumerate(rows):
+            yield f"{name} {at} {line_of(TABLES[name], row)}"
+
+
+@helper()
+def main(words: Words) -> int:
+    queries: dict[str, Query] = {"classes": classes, "strings": strings, "calls": calls, "fields": fields}
+    for option in ("--addresses", "--lines"):
+        words.add_argument(option, action="store_true")
+    words.add_argument("query", choices=[*queries, "tables", "show"])
+    words.add_argument("rest", nargs="*")
+    asked = words.parse_intermixed_args()  # (an option may stand behind the query)
+    file, names = asked.rest[0] if asked.rest else None, asked.rest[1:]
+    if asked.addresses and asked.query != "show":
+        words.error("--addresses is of show alone")
+    if asked.lines and asked.query != "tables":
+        words.error("--lines is of tables alone")
+    if asked.query in queries and names:
+        words.error(f"{asked.query} takes one FILE")
+    if asked.query == "tables" and not set(names) <= set(TABLES):
+        words.error(f"a table is one of: {', '.join(TABLES)}")
+    if asked.query == "show" and not names:
+        words.error("show takes a FILE, and names of classes or members")
+    for line in answered(asked, file, names, queries):
+        print(line)
+    return 0
+
+
+def answered(asked: Namespace, file: str | None, names: list[str], queries: dict[str, Query]) -> Iterable[str]:
+    """The lines of the answer."""
+    if asked.query == "show":
+        data = dex_of(file)
+        return [*show(listed(data, name_of(file)), names, data if asked.addresses else None)]
+    found = tables(file, names) if asked.query == "tables" else queries[asked.query](program_of(file))
+    return table_lines(found) if asked.lines else [json.dumps(found, indent=1)]
+
+
+if __name__ == "__main__":
+    main()

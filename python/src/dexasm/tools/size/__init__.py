@@ -1,0 +1,1 @@
+"""dexasm-size: what takes the space of a file, or what grew between two."""

@@ -1,0 +1,196 @@
+"""What a program has, by numbers, and who uses it: for dexasm-browse and dexasm-graph.
+
+Each field and each method of the program has a number; those of a class follow one another, fields before methods, in
+the order of the listing."""
+from __future__ import annotations
+
+import re
+from bisect import bisect_right
+
+from dexasm.tools.basis import USAGE, Failed
+from dexasm.tools.escapes import escaped
+
+TYPE_CHECKING = False  # (as in typing)
+if TYPE_CHECKING:
+    from collections.abc import Iterator
+
+    from dexasm.code import Code
+    from dexasm.members import Class, Field, Method
+    from dexasm.names import Type
+    from dexasm.program import Program
+
+ABOVE = 64  # superclasses and interfaces of a class that are looked through for a member
+CLASS_IN = re.compile(r"(L[^;]*;)")  # in a type or a prototype
+# Flags as Java's words ("Dalvik executable format", access_flags).
+BOTH = {0x1: "public", 0x2: "private", 0x4: "protected", 0x8: "static", 0x10: "final"}
+CLASS_FLAGS = {**BOTH, 0x200: "interface", 0x400: "abstract", 0x1000: "synthetic", 0x2000: "annotation", 0x4000: "enum"}
+FIELD_FLAGS = {**BOTH, 0x40: "volatile", 0x80: "transient", 0x1000: "synthetic", 0x4000: "enum"}
+METHOD_FLAGS = {
+    **BOTH,
+    0x20: "synchronized",
+    0x40: "bridge",
+    0x80: "varargs",
+    0x100: "native",
+    0x400: "abstract",
+    0x800: "strictfp",
+    0x1000: "synthetic",
+    0x10000: "constructor",
+    0x20000: "declared-synchronized",
+}
+
+
+def flag_words(flags: int, table: dict[int, str]) -> str:
+    return " ".join(word for bit, word in table.items() if flags & bit)
+
+
+def simple(type_: Type) -> str:
+    """A type as Java has it, without its package."""
+    return type_.pretty.rpartition(".")[2]
+
+
+class Uses:
+    """The classes of a program by row, their members by number, and who uses each, by method and instruction."""
+
+    def __init__(self, program: Program) -> None:
+        self.classes = [*program.classes]
+        self.rows: dict[str, int] = {}
+        self.first: list[int] = []  # of each class the number of its first member
+        self.members: list[tuple[Field | Method, ...]] = []  # of each class
+        self.by_signature: list[dict[str, int]] = []
+        self.heirs: dict[int, list[int]] = {}
+        self.count = 0
+        self.found: dict[tuple[int, str], int | None] = {}
+        for row, one in enumerate(self.classes):
+            self.rows.setdefault(str(one.name), row)
+            self.add(one)
+        self.above = [self.rows_above(one) for one in self.classes]
+        self.orders: dict[int, list[int]] = {}
+        for row, rows in enumerate(self.above):
+            for above in rows:
+                self.heirs.setdefault(above, []).append(row)
+
+    def add(self, one: Class) -> None:
+        members: tuple[Field | Method, ...] = (*one.fields, *one.methods)
+        numbers: dict[str, int] = {}
+        for at, member in enumerate(members):
+            numbers.setdefault(member.signature, self.count + at)
+        self.first.append(self.count)
+        self.members.append(members)
+        self.by_signature.append(numbers)
+        self.count += len(members)
+
+    def row_of(self, number: int) -> int:
+        """The class of a member."""
+        return bisect_right(self.first, number) - 1
+
+    def place(self, number: int) -> tuple[int, int]:
+        """The class of a member, and its number in it."""
+        row = self.row_of(number)
+        return row, number - self.first[row]
+
+    def member(self, number: int) -> Field | Method:
+        row, at = self.place(number)
+        return self.members[row][at]
+
+    def rows_above(self, one: Class) -> list[int]:
+        """The superclass and the interfaces of a class, those that the program has."""
+        names = [one.superclass] if one.superclass is not None else []
+        return [*dict.fromkeys(self.rows[name] for name in (*names, *one.interfaces) if name in self.rows)]
+
+    def order(self, row: int) -> list[int]:
+        """Where a class's members are looked for: in it, in its superclasses, then in the interfaces of all these."""
+        if row in self.orders:
+            return self.orders[row]
+        found, at = [row], row
+        while len(found) < ABOVE:
+            above = self.classes[at].superclass
+            at = self.rows.get(above, row) if above is not None else row
+            if at in found:
+                break
+            found.append(at)
+        seen = set(found)
+        for at in found:
+            more = [one for one in self.above[at][:ABOVE] if one not in seen][: ABOVE - len(found)]
+            seen.update(more)
+            found += more
+        self.orders[row] = found
+        return found
+
+    def resolve(self, owner: str, signature: str) -> int | None:
+        """The member that a name leads to: the class's own, or one that it inherits in this program."""
+        row = self.rows.get(owner)
+        if row is None:
+            return None
+        own = self.by_signature[row].get(signature)
+        if own is not None:
+            return own
+        key = row, signature
+        if key not in self.found:
+            self.found[key] = self.inherited(row, signature)
+        return self.found[key]
+
+    def inherited(self, row: int, signature: str) -> int | None:
+        found = (self.by_signature[at].get(signature) for at in self.order(row))
+        return next((number for number in found if number is not None), None)
+
+    def full_name(self, number: int) -> str:
+        """A member's name with its class, as FORMAT has it."""
+        row, at = self.place(number)
+        return f"{self.classes[row].name}->{self.members[row][at].signature}"
+
+    def methods(self) -> Iterator[tuple[int, Method]]:
+        """Each method that has code: its number and the method."""
+        for row, first in enumerate(self.first):
+            for at, member in enumerate(self.members[row]):
+                if getattr(member, "code", None) is not None:
+                    yield first + at, member  # type: ignore[misc]  # (a field has no code)
+
+
+def fresh(code: Code) -> Code:
+    """The code once more, unread: what is read of it is let go with it, and the code stays as it was."""
+    return type(code).of_text(str(code))
+
+
+def title(member: Field | Method) -> str:
+    """A member as Java has it: `get(boolean)`, `count`."""
+    if not hasattr(member, "proto"):
+        return member.name
+    return f"{member.name}({', '.join(simple(one) for one in member.proto.parameters)})"
+
+
+def heading(member: Field | Method) -> str:
+    """A member with its flags and its types."""
+    if not hasattr(member, "proto"):
+        return f"{flag_words(member.flags, FIELD_FLAGS)} {member.type.pretty} {member.name}".strip()
+    proto = member.proto
+    words = [flag_words(member.flags, METHOD_FLAGS), proto.returns.pretty, member.name]
+    return f"{' '.join(filter(None, words))}({', '.join(one.pretty for one in proto.parameters)})"
+
+
+def find(uses: Uses, asked: str) -> list[int]:
+    """The methods that a word names: `LHello;->get(Z)I`, or `LHello;->get` for all of this name."""
+    owner, _, signature = asked.partition("->")
+    row = uses.rows.get(owner)
+    if row is None:
+        return []
+    part = "signature" if "(" in signature else "name"
+    members = enumerate(uses.members[row], uses.first[row])
+    return [number for number, one in members if hasattr(one, "proto") and getattr(one, part) == signature]
+
+
+def method_of(uses: Uses, asked: str, has_code: bool = False) -> int:
+    """The method that a word of the command line names, which may have the escapes of a listing."""
+    from dexasm.names import unspelled
+
+    try:
+        name = unspelled(asked)
+    except ValueError:
+        name = asked
+    found = find(uses, name)
+    said = escaped(asked)
+    if len(found) != 1:
+        count = f"{len(found)} methods" if found else "no method"
+        raise Failed(f"{said} names {count} of the file; a whole name is as LHello;->get(Z)I", USAGE)
+    if has_code and uses.member(found[0]).code is None:  # type: ignore[union-attr]  # (`find` finds methods)
+        raise Failed(f"{said} has no code in this file", USAGE)
+    return found[0]
