@@ -15,7 +15,7 @@ import java.util.Arrays;
 import java.util.stream.IntStream;
 
 /**
- * Writes answers for tools/parts/tries/library/java_outs.py, many in one process. Each line of standard input asks for one;
+ * Writes answers for tests/library/test_java_outs.py, many in one process. Each line of standard input asks for one;
  * its cells, between tabs, are a user, groups, a umask, the folder to be in, OUT, the file with the answer, and a call
  * of the C library that is to fail. A line says how it ended; or all ends with that, if OUT is a word of the command.
  */

@@ -1,0 +1,1 @@
+"""Tests of the package: of the module here, of the helpers in tools."""

@@ -1,0 +1,764 @@
+"""Tries dexasm.Program: what is put into a program by harm or by mistake, laws of what is read and written, and edits
+at random.
+
+The part library runs a small part of it. Alone, with DEXASM_LIBRARY or DEXASM_COMMAND, it tries the laws on --count made
+files (or 500) and on the .dex files below --files, and --edits edits (or 10000).
+"""
+import argparse
+import copy
+import glob
+import itertools
+import os
+import pickle
+import random
+import re
+import shutil
+import subprocess
+import sys
+import tempfile
+from collections.abc import Callable
+from typing import Any
+
+from parts import TOP, sought
+from parts.tries.trying import check, last_line
+from python.tests.harm import EVIL, MEMBERS, MNEMONICS, WRONG  # (this finds the module below)
+
+import dexasm
+from dexasm import ArrayData, Catch, Class, Code, Field, FieldRef, Insn, Label, Method, MethodRef, PackedSwitch, Program
+from dexasm import Proto, Refused, SparseSwitch, Try, Type, Value
+from python.tests.edits import is_accepted, made_files, try_edit, try_laws
+
+Change = Callable[[Any, Any], Any]  # of a program and its class, also to what their types forbid
+HELLO = r"""dex 035 listing 2
+class LHello; 0x1
+super Ljava/lang/Object;
+source "Hello.java"
+static name Ljava/lang/String; 0x19 = string "the answer"
+direct get (Z)I 0x9
+code 2 1 0
+const/16 v0 41
+if-eqz v1 :L3
+add-int/lit8 v0 v0 -1
+:L3
+return v0
+end code
+direct pick (I)V 0x9
+code 2 1 1
+packed-switch v1 :L3
+:L1
+const/16 v0 7
+:L2
+return-void
+:L3
+packed-switch-payload 0 :L1 :L2
+try :L1 :L2
+catch Ljava/lang/Exception; :L2
+catchall :L2
+end code
+end class
+"""
+
+
+def changed(change: Change) -> str | ValueError | KeyError:
+    """The program above after a change: its listing, or what was raised."""
+    program = Program.parse(HELLO)
+    try:
+        change(program, program["LHello;"])
+        return dexasm.list(program.write())
+    except (ValueError, KeyError) as error:
+        return error
+
+
+def is_refused(what: str, change: Change) -> None:
+    """That nothing is written after a change: a ValueError, of which Refused is one kind, tells why in one line."""
+    seen = changed(change)
+    is_so = isinstance(seen, ValueError) and str(seen).isascii() and str(seen).isprintable()
+    check(f"{what} is refused", is_so, seen)
+
+
+def becomes(what: str, old: str, new: str, change: Change, *labels: tuple[str, str]) -> None:
+    """That a change of the program is this change of its listing, these of its labels, and no other."""
+    want = HELLO.replace(old, new, 1)
+    for label, other in labels:
+        head, tail = want.split("direct pick")
+        want = (
+            f"{head}direct pick{tail.replace(label, other)}"
+            if label in dict(PICKED)
+            else f"{head.replace(label, other)}direct pick{tail}"
+        )
+    seen = changed(change)
+    check(what, old in HELLO and seen == want, (seen, want))
+
+
+# ---- harm
+
+
+def at_first(insn: Any) -> Change:
+    return lambda _, hello: hello.method("get").code.insns.insert(0, insn)
+
+
+def set_in(path: str, value: Any) -> Change:
+    """A change that gives one slot another value."""
+
+    def change(_: Program, hello: Any) -> None:
+        code = hello.method("pick").code
+        at = {
+            "hello": hello,
+            "name": hello.statics[0],
+            "get": hello.method("get"),
+            "const": code.insns[1],
+            "payload": code.insns[3],
+        }
+        at.update(
+            {
+                "code": code,
+                "try": code.tries[0],
+                "catch": code.tries[0].catches[0],
+                "value": hello.statics[0].value,
+                "switch": code.insns[0],
+            }
+        )
+        one, slot = path.split(".")
+        setattr(at[one], slot, value)
+
+    return change
+
+
+def try_names() -> None:
+    """In no slot of a name or a number does a text become a word or a line more."""
+    types = "hello.name", "hello.superclass", "name.type", "catch.type"
+    for path in (*types, "name.name", "get.name", "get.proto", "const.name"):
+        for evil in (*EVIL, *WRONG):
+            is_right = (
+                evil is None
+                if path in ("hello.superclass", "const.name")
+                else evil in MEMBERS and path in ("name.name", "get.name")
+            )
+            if not is_right:
+                is_refused(f"{path} = {ascii(evil)}", set_in(path, evil))
+    for path in (
+        "hello.flags",
+        "name.flags",
+        "get.flags",
+        "code.registers",
+        "code.ins",
+        "code.outs",
+        "payload.first",
+        "const.literal",
+    ):
+        for evil in (*EVIL, 1.5, b"1", [], 1 << 40, -1 << 40, "1", "0x1"):
+            is_refused(f"{path} = {ascii(evil)}", set_in(path, evil))
+    for evil in (*EVIL, *WRONG, Label(Insn("nop")), Label()):
+        is_refused(
+            f"a target {ascii(evil)}", set_in("switch.target", evil) if evil is not None else set_in("try.start", evil)
+        )
+        is_refused(f"a register {ascii(evil)}", at_first(Insn("const/4", 300 if evil is True else evil, literal=0)))
+        if not isinstance(evil, Label):
+            is_refused(f"interfaces {ascii(evil)}", lambda _, hello: hello.interfaces.append(evil))
+    forged = str.__new__(Type, "LA; 0x1\nend class")
+    for path in types[1:]:
+        is_refused(f"{path}, forged", set_in(path, forged))
+
+
+def try_makers() -> None:
+    """A text that isn't of a name's form makes none."""
+    for kind in (Type, Proto, FieldRef, MethodRef):
+        for evil in (*EVIL, *WRONG):
+            if (kind, evil) == (MethodRef, "LA;->m()V"):
+                continue
+            try:
+                check(f"{kind.__name__} of {ascii(evil)}", False, kind(evil))
+            except ValueError as error:
+                check(f"{kind.__name__} of {ascii(evil)}", str(error).isascii() and str(error).isprintable(), error)
+
+
+def try_insns() -> None:
+    for evil in (*MNEMONICS, *WRONG, "no-such", "packed-switch-payload", "sparse-switch-payload"):
+        is_refused(f"a mnemonic {ascii(evil)}", at_first(Insn(evil)))
+        is_refused(f"a mnemonic {ascii(evil)} with a name", at_first(Insn(evil, name="LX;")))
+    for evil in (5, None, "nop", [], Label(), Class(Type("LA;"))):
+        is_refused(f"an instruction {ascii(evil)}", at_first(evil))
+        is_refused(f"a try {ascii(evil)}", lambda _, hello: hello.method("get").code.tries.append(evil))
+        if evil is not None:
+            is_refused(f"a code {ascii(evil)}", set_in("get.code", evil))
+        for members in ("statics", "instances", "directs", "virtuals"):
+            is_refused(f"{members} {ascii(evil)}", lambda _, hello: getattr(hello, members).append(evil))
+    nop = Insn("nop")
+    is_refused(
+        "a label of what stands twice",
+        lambda _, hello: hello.method("get").code.insns.extend([nop, nop, Insn("goto", target=Label(nop))]),
+    )
+    is_refused("keys without targets", at_first(SparseSwitch([1], [])))
+    is_refused("data that is no bytes", at_first(ArrayData(1, "00\nnop")))  # type: ignore[arg-type]  # (which is tried)
+
+
+def try_texts() -> None:
+    """Any text is one text."""
+    evil: Any
+    for evil in (*EVIL, "\ud83d\ude00", "\ude00\ud83d", "\U0001f600", "a\x7f\x80", "\\u0041", '\\"'):
+        word = "".join(f"\\u{unit:04x}" for unit in units(evil))
+        canonical = re.sub(r"\\u00([2-7]\d|[2-6][a-f]|7[a-e])", lambda found: plain(int(found[1], 16)), word)
+        becomes(f"a source {ascii(evil)}", '"Hello.java"', f'"{canonical}"', set_in("hello.source", evil))
+        becomes(f"a value {ascii(evil)}", '"the answer"', f'"{canonical}"', set_in("value.value", evil))
+        insert = at_first(Insn("const-string", 0, text=evil))
+        head = "code 2 1 0\n"
+        seen = changed(insert)
+        check(
+            f"a constant {ascii(evil)}",
+            isinstance(seen, str) and f'{head}const-string v0 "{canonical}"\nconst/16' in seen,
+            seen,
+        )
+        program = Program.parse(HELLO)
+        insert(program, program["LHello;"])
+        again = Program.read(program.write())["LHello;"].method("get").insns[0].text
+        assert again is not None  # (it is that of a const-string)
+        check(
+            f"a constant {ascii(evil)} is read again",
+            units(again) == units(evil) and "\ud83d\ude00" not in again,
+            again,
+        )
+    for evil in (5, b"a", [], True):
+        is_refused(f"a source {evil!a}", set_in("hello.source", evil))
+        is_refused(f"a value {evil!a}", set_in("value.value", evil))
+        is_refused(f"a constant {evil!a}", at_first(Insn("const-string", 0, text=evil)))
+
+
+def units(text: str) -> list[int]:
+    given = text.encode("utf-16-le", "surrogatepass")
+    return [given[at] | given[at + 1] << 8 for at in range(0, len(given), 2)]
+
+
+def plain(unit: int) -> str:
+    return "\\" + chr(unit) if chr(unit) in '"\\' else chr(unit)
+
+
+def nested(depth: int) -> Value:
+    value = Value("array", [])
+    for _ in range(depth):
+        value = Value("array", [value])
+    return value
+
+
+RING = Value("array", [])
+RING.value.append(RING)
+WRONG_VALUES: tuple[Any, ...] = (
+    Value("int\nx", 1),
+    Value("int", "1"),
+    Value("int", 1 << 40),
+    Value("boolean", 1),
+    Value("null", 1),
+    Value("float", -1),
+    Value("float", 1 << 32),
+    Value("type", "LA; x"),
+    Value("enum", "LA;->a()V"),
+    Value("array", 5),
+    Value("array", ["int 3"]),
+    Value([], 1),  # type: ignore[arg-type]  # (which is tried)
+    Value("} int", 1),
+    nested(70),
+    RING,
+    "int 3",
+    "int 3\nend class",
+    5,
+    [],
+)
+VALUES = [Value("int", -3), Value("boolean", False), Value("float", 0x7F800001), Value("enum", FieldRef("LA;->a:LA;"))]
+WORDS = "array { int -3 false float 7f800001 enum LA;->a:LA; array { } }"
+
+
+def try_values() -> None:
+    for evil in WRONG_VALUES:
+        is_refused(f"a value {evil!a:.60}", set_in("name.value", evil))
+    field = Field("a", "I", 0, Value("int", 1))  # type: ignore[arg-type]  # (a text is taken too)
+    is_refused("a value of an instance field", lambda _, hello: hello.instances.append(field))
+    array = Value("array", [*VALUES, Value("array", [])])
+    becomes("an array", 'string "the answer"', WORDS, set_in("name.value", array))
+    kinds = [one.kind for one in array.all()]
+    check("all values of an array", kinds == ["array", "int", "boolean", "float", "enum", "array"], kinds)
+    check("the number of bits", (Value("float", 0x3F800000).number, Value("double", 0xBFF << 52).number) == (1.0, -1.0))
+    try:
+        check("all values of a ring", False, [*itertools.islice(RING.all(), 10**6)])
+    except ValueError:
+        check("all values of a ring", True)
+
+
+def try_bytes() -> None:
+    """What is no bytes is no file."""
+    job: Any
+    evil: Any
+    for job in (dexasm.check, dexasm.list, dexasm.strip, dexasm.assemble, Program.read):
+        for evil in (5, 0, True, None, [1, 2], 1.5, {}):
+            try:
+                check(f"{job.__name__} of {evil!a}", False, job(evil))
+            except TypeError:
+                check(f"{job.__name__} of {evil!a}", True)
+    file = dexasm.assemble(HELLO)
+    for given in (bytearray(file), memoryview(file), memoryview(b"".join(bytes([byte, 0]) for byte in file))[::2]):
+        check("bytes of another kind", dexasm.list(given) == HELLO)
+    for text in ("\ud800", "dex 035 listing 2\n\ud800", "\u00e9"):
+        try:
+            check("a text of another kind", False, dexasm.assemble(text))
+        except Refused as refused:
+            check("a text of another kind", refused.number == 100, refused)
+
+
+# ---- what it does
+
+
+def try_changes() -> None:
+    """A few changes, each with what becomes of the listing."""
+    becomes(
+        "a constant", "v0 41", "v0 42", lambda _, hello: setattr(hello.method("get(Z)I").code.insns[0], "literal", 42)
+    )
+    becomes("a name", "direct get (Z)I", "direct fetch (Z)I", set_in("get.name", "fetch"))
+    becomes(
+        "a name that isn't ASCII",
+        "class LHello;",
+        "class LH\\u00e9/\\ud83d\\ude00;",
+        set_in("hello.name", "LH\u00e9/\U0001f600;"),
+    )
+    becomes(
+        "a call of a range, and one of two registers",
+        "code 2 1 0\n",
+        "code 2 1 0\ninvoke-static/range v0 2 LA;->m(II)V\ninvoke-static { v0 v1 } LA;->m(II)V\n"
+        "invoke-static { } LA;->m()V\n",
+        lambda _, hello: hello.method("get").code.insns.__setitem__(slice(0, 0), CALLS),
+        (":L3", ":L6"),
+    )
+    becomes(
+        "one more moves branches, payloads and tries",
+        "code 2 1 1\n",
+        "code 2 1 1\nnop\nnop\n",
+        lambda _, hello: hello.method("pick").code.insns.__setitem__(slice(0, 0), [Insn("nop"), Insn("nop")]),
+        *PICKED,
+    )
+
+
+def try_replacing() -> None:
+    """Branches to what is replaced; classes more and none."""
+    becomes(
+        "what led to an instruction leads to those in its place",
+        ":L3\nreturn v0",
+        ":L3\nconst/4 v0 0\nreturn v0",
+        lambda _, hello: replaced(hello.method("get").code, 3, Insn("const/4", 0, literal=0), Insn("return", 0)),
+    )
+    becomes(
+        "what led to one that is taken away leads to the next",
+        "v1 :L3\nadd-int/lit8 v0 v0 -1\n:L3\n",
+        "v1 :L2\n:L2\n",
+        lambda _, hello: replaced(hello.method("get").code, 2),
+    )
+    becomes(
+        "a class more",
+        "end code\nend class\n",
+        "end code\nend class\nclass LB; 0x1\nend class\n",
+        lambda program, _: program.classes.append(Class(Type("LB;"))),
+    )
+    becomes("other classes", HELLO[18:], "", lambda program, _: setattr(program, "classes", []))
+    becomes("no class", HELLO[18:], "", lambda program, _: program.classes.clear())
+    becomes("a field's value", ' = string "the answer"', "", set_in("name.value", None))
+
+
+CALLS = [
+    Insn("invoke-static/range", 0, count=2, name="LA;->m(II)V"),
+    Insn("invoke-static", 0, 1, name=MethodRef("LA;->m(II)V")),
+    Insn("invoke-static", name="LA;->m()V"),
+]
+# (labels of the second method, when two instructions come before all)
+PICKED: tuple[tuple[str, str], ...] = (
+    ("v1 :L3", "v1 :L5"),
+    (":L1\nconst", ":L3\nconst"),
+    (":L2\nreturn-void\n:L3", ":L4\nreturn-void\n:L5"),
+    ("0 :L1 :L2", "0 :L3 :L4"),
+)
+PICKED += (("try :L1 :L2", "try :L3 :L4"), ("Exception; :L2", "Exception; :L4"), ("catchall :L2", "catchall :L4"))
+
+
+def replaced(code: Code, at: int, *by: Insn) -> None:
+    code.replace(code.insns[at], *by)
+
+
+MADE = """dex 035 listing 2
+class LA; 0x1
+instance f [[J 0x2
+direct m ()V 0x9
+code 1 0 0
+:L0
+nop
+const/4 v0 -8
+fill-array-data v0 :L6
+packed-switch v0 :L7
+sparse-switch v0 :L8
+:L5
+return-void
+:L6
+array-payload 2 01000200
+:L7
+packed-switch-payload -1 :L0
+:L8
+sparse-switch-payload -5 :L0 7 :L5
+:L9
+try :L0 :L9
+catch LE; :L5
+catchall :L0
+end code
+end class
+"""
+
+
+def class_of_objects() -> Class:
+    """A class of nothing but objects, each of its kind."""
+    nop, end, array = Insn("nop"), Insn("return-void"), ArrayData(2, b"\1\0\2\0")
+    packed, sparse = PackedSwitch(-1, [Label(nop)]), SparseSwitch([-5, 7], [Label(nop), Label(end)])
+    insns = [nop, Insn("const/4", 0, literal=-8), Insn("fill-array-data", 0, target=Label(array))]
+    insns += [Insn("packed-switch", 0, target=Label(packed)), Insn("sparse-switch", 0, target=Label(sparse))]
+    insns += [end, array, packed, sparse]
+    code = Code(1, 0, 0, insns, [Try(Label(nop), Label(), [Catch(Type("LE;"), Label(end))], Label(nop))])
+    made = Class(Type("LA;"), instances=[Field("f", Type("[[J"), 0x2)])
+    made.directs.append(Method("m", Proto("()V"), 0x9, code))
+    return made
+
+
+def try_made() -> None:
+    program = Program([class_of_objects()])
+    check("a program that is made", str(program) == MADE and dexasm.list(program.write()) == MADE, str(program))
+    read: Any = Program.parse(MADE)["LA;"].method("m").code
+    array, packed, sparse = read.insns[6:]
+    seen = type(array), type(packed), type(sparse), array.data, packed.first, sparse.keys, read.tries[0].end.insn
+    want = ArrayData, PackedSwitch, SparseSwitch, b"\1\0\2\0", -1, [-5, 7], None
+    check("payloads are read", seen == want, seen)
+    start = read.tries[0].start
+    check("one label a place", packed.targets[0] is start and start.insn is read.insns[0])
+
+
+def try_copies() -> None:
+    made: Any = class_of_objects()
+    first = made.directs[0].code.insns[0]
+    copies = copy.deepcopy(made), pickle.loads(pickle.dumps(made)), Class.of_text(str(made))
+    check("copies", all(one == made and one.directs[0].code.insns[0] is not first for one in copies))
+    copies[0].directs[0].code.insns[1].literal = 3
+    check("a copy's change is its own", copies[0] != made and str(Program([made])) == MADE)
+
+
+def try_kinds() -> None:
+    """What names tell."""
+    one = Type("[[Ljava/lang/String;")
+    check(
+        "a type",
+        (one.element, one.pretty, Type("V").pretty, Type("[I").element.element)  # type: ignore[union-attr]  # (it is I)
+        == ("[Ljava/lang/String;", "java.lang.String[][]", "void", None),
+    )
+    check(
+        "a package",
+        (Type("La/b/C;").package, Type("LC;").package, Type("I").package, one.package) == ("a.b", "", "", ""),
+    )
+    proto = Proto("(I[[JLx/Y;[Z)V")
+    check(
+        "a prototype",
+        proto.parameters == ("I", "[[J", "Lx/Y;", "[Z") and proto.returns == "V" and Proto("()[I").parameters == (),
+    )
+    method, field = MethodRef.of("[LA;", "<init>", "(I)V"), FieldRef.of("La-;", "x-", "[LB;")
+    check(
+        "a method's parts",
+        (method, method.owner, method.name, method.proto) == ("[LA;-><init>(I)V", "[LA;", "<init>", "(I)V"),
+    )
+    check("a field's parts", (field, field.owner, field.name, field.type) == ("La-;->x-:[LB;", "La-;", "x-", "[LB;"))
+    known: dict[str, int] = {method: 1}
+    check("names hash", known["[LA;-><init>(I)V"] == 1 and pickle.loads(pickle.dumps(method)) == method)
+
+
+def try_finding() -> None:
+    """How classes and members are found."""
+    program = Program.parse(HELLO)
+    hello = program["LHello;"]
+    check(
+        "names of members",
+        (hello.ref(hello.methods[0]), hello.ref(hello.fields[0]))
+        == ("LHello;->get(Z)I", "LHello;->name:Ljava/lang/String;"),
+    )
+    check(
+        "a class is found",
+        "LHello;" in program and "LB;" not in program and 5 not in program and program["LHello;"] is hello,
+    )
+    for find, wrong in (
+        (program.__getitem__, "LB;"),
+        (hello.method, "get(I)I"),
+        (hello.method, "put"),
+        (hello.field, "name:I"),
+    ):
+        try:
+            check(f"no {wrong}", False, find(wrong))
+        except KeyError:
+            check(f"no {wrong}", True)
+    hello.directs.append(Method("get", Proto("()V")))
+    check("a method is found", hello.method("get()V") is hello.directs[-1])
+    try:
+        check("a name of two methods", False, hello.method("get"))
+    except KeyError:
+        check("a name of two methods", True)
+    hello.name = Type("LB;")
+    check("a class of another name", program["LB;"] is hello and "LHello;" not in program)
+    program.classes.append(Class(Type("LB;"), 0x10))
+    program.classes.append(Class(Type("LC;")))
+    check("classes behind", program["LB;"] is hello and program["LC;"] is program.classes[2])
+    del program.classes[1:]
+    check("classes that are gone", "LC;" not in program and program["LB;"] is hello)
+    program.classes.insert(0, Class(Type("LHello;")))
+    check(
+        "a class in front",
+        program["LHello;"] is program.classes[0]
+        and program.classes[1] is hello
+        and [*program.classes.names()] == ["LHello;", "LB;"],
+    )
+
+
+def inserted(method: str, at: int, insn: Insn) -> Change:
+    """A change that puts an instruction into a method of this name."""
+    return lambda _, hello: hello.method(method).code.insns.insert(at, insn)
+
+
+def branch_to_itself(_: Program, hello: Any) -> None:
+    branch = hello.method("get").code.insns[1]
+    branch.target.insn = branch
+
+
+def branch_to_end(_: Program, hello: Any) -> None:
+    hello.method("get").code.insns[1].target.insn = None
+
+
+def try_of_nothing(_: Program, hello: Any) -> None:
+    one = hello.method("pick").code.tries[0]
+    one.end = one.start
+
+
+def field_twice(_: Program, hello: Class) -> None:
+    hello.statics.append(hello.statics[0])
+
+
+def class_twice(program: Program, hello: Class) -> None:
+    program.classes.append(hello)
+
+
+WIDE = Insn("const/16", 0, literal=42000)
+# A change, and the fault's number, the member and the instruction that it has to lead to.
+PLACES: dict[str, tuple[Change, int, str | None, int | None]] = {
+    "a number": (inserted("pick", 1, WIDE), 102, "pick(I)V", 1),
+    "a register": (inserted("pick", 2, Insn("move", 0, 7)), 118, "pick(I)V", 2),
+    "a branch to itself": (branch_to_itself, 115, "get(Z)I", 1),
+    "a branch to the end": (branch_to_end, 105, "get(Z)I", 1),
+    "a name": (inserted("get", 3, Insn("sget", 0, name="[LA;->a:I")), 110, "get(Z)I", 3),
+    "a payload": (inserted("get", 0, PackedSwitch(0, [])), 116, "get(Z)I", 0),
+    "a try": (try_of_nothing, 117, "pick(I)V", None),
+    "a code at an odd address": (inserted("pick", 0, Insn("nop")), 86, "pick(I)V", 4),
+    "a code of no instruction": (set_in("get.code", Code()), 114, "get(Z)I", None),
+    "flags": (set_in("get.flags", -1), 102, "get(Z)I", None),
+    "a field": (set_in("name.type", "V"), 110, "name:V", None),
+    "a field twice": (field_twice, 104, "name:Ljava/lang/String;", None),
+    "a superclass": (set_in("hello.superclass", "[I"), 110, None, None),
+    "a class twice": (class_twice, 112, None, None),
+}
+
+
+def try_places() -> None:
+    """A refusal says in which class, member and instruction it stands."""
+    seen: Any
+    for what, (change, number, member, insn) in PLACES.items():
+        seen = changed(both(change))
+        place = (seen.number, seen.class_name, seen.member, seen.insn) if isinstance(seen, Refused) else seen
+        want = (number, "LHello;", member and f"LHello;->{member}", insn)
+        check(f"the place of {what}", place == want, (place, str(seen)))
+    seen = changed(inserted("pick", 1, WIDE))
+    said = "LHello;->pick(I)V, instruction 1: 42000: a number from -32768 to 32767 stands here; const takes more"
+    check("its line", str(seen) == f"refused 102 Number at {seen.place}: {said}", str(seen))
+    again = pickle.loads(pickle.dumps(seen))
+    check("it is pickled whole", (str(again), again.insn, again.member) == (str(seen), 1, "LHello;->pick(I)V"))
+    check("where there is no program", str(Refused(8, "Checksum", 8)) == "refused 8 Checksum at 8")
+
+
+def both(change: Change) -> Change:
+    """A change of the second of two classes, so that the first is led by."""
+
+    def second(program: Program, hello: Class) -> None:
+        program.classes.insert(0, Class(Type("LFirst;"), 0x1, statics=[Field("name", Type("I"))]))
+        change(program, hello)
+
+    return second
+
+
+# ---- pages
+
+
+def run(words: list[str], at: str) -> str:
+    """What these words print, in a folder where `names` are commands."""
+    ways = {
+        "PATH": f"{at}/bin:{os.environ['PATH']}",
+        "PYTHONPATH": os.path.join(TOP, "python", "src"),
+        "PYTHONDONTWRITEBYTECODE": "1",
+        "PYTHONUNBUFFERED": "1",  # so that lines come in their order
+    }
+    done = subprocess.run(
+        words,
+        cwd=at,
+        env={**os.environ, **ways},
+        stdin=subprocess.DEVNULL,
+        stdout=subprocess.PIPE,
+        stderr=subprocess.STDOUT,
+    )
+    said: str = done.stdout.decode()
+    return said
+
+
+def page(name: str) -> list[tuple[str, str]]:
+    with open(os.path.join(TOP, name), encoding="utf8") as file:
+        return re.findall(r"^```(\w+)\n(.*?)^```$", file.read(), re.S | re.M)
+
+
+CALLED = """dex 035 listing 2
+class LHello; 0x1
+static method Ljava/lang/Object; 0x1 = method LHello;->get(Z)I
+direct get (Z)I 0x9
+code 2 1 0
+const/16 v0 41
+return v0
+end code
+direct pick (I)V 0x9
+code 1 1 1
+invoke-static { v0 } LHello;->get(Z)I
+return-void
+end code
+end class
+class La/B; 0x1
+virtual m ()V 0x401
+end class
+class Lc; 0x1
+end class
+"""
+
+
+def try_readme() -> None:
+    """The examples of the module's page, as they stand there."""
+    examples = [text for kind, text in page("python/README.md") if kind == "python"]
+    text = CALLED
+    with tempfile.TemporaryDirectory() as at:
+        with open(f"{at}/a.dex", "wb") as file:
+            file.write(dexasm.assemble(text))
+        place, *answers = [run([sys.executable, "-c", example], at) for example in examples]
+        made = [list_of(f"{at}/{name}.dex") for name in ("patched", "renamed")]
+    said = "refused 118 Register at 0: LHello;->m()V, instruction 0: v9 of 2 registers\n5; 9; v9; v9 of 2 registers\n"
+    check("README: a place", place == said, place)
+    check(
+        "README: examples, under twenty lines each",
+        len(examples) == 5 and all(example.count("\n") < 20 for example in examples),
+        len(examples),
+    )
+    check("README: a constant", answers[0] == "" and made[0] == text.replace("v0 41", "v0 42"), (answers[0], made[0]))
+    check(
+        "README: a method",
+        answers[1] == "" and made[1] == text.replace("get (Z)I", "fetch (Z)I").replace("->get(Z)I", "->fetch(Z)I"),
+        answers[1],
+    )
+    check("README: calls", answers[2] == "LHello;->pick(I)V calls LHello;->get(Z)I\n", answers[2])
+    check("README: packages", answers[3] == "2 ''\n1 'a'\n", answers[3])
+
+
+USER = """
+from dexasm import Class, Insn, Label, Program, Type
+
+program = Program.read(b"")
+one: Class = program["LA;"]
+one.superclass = Type("LB;")
+for insn in one.method("m()V").insns:
+    number: int | None = insn.literal
+    label: Label | None = insn.target
+program.classes.append(one)
+made: bytes = program.write()
+"""
+
+
+def try_types() -> None:
+    """mypy finds nothing to say of the module, nor of one that uses it, and something of one that uses it wrongly."""
+    if not shutil.which("mypy"):
+        print("tools/try library: no mypy here: the types of the module for Python aren't tried", file=sys.stderr)
+        return
+    with tempfile.TemporaryDirectory() as at:
+        for name, text in (("user", USER), ("wrong", USER.replace("number: int", "number: str"))):
+            with open(f"{at}/{name}.py", "w", encoding="ascii") as file:
+                file.write(text)
+        folder = os.path.join(TOP, "bindings", "python", "dexasm")
+        words = ["mypy", "--strict", "--python-version", "3.10", "--cache-dir", f"{at}/cache"]
+        seen = run([*words, folder, "user.py"], at)
+        check("mypy of the module", seen.startswith("Success: "), seen)
+        seen = run([*words, folder, "wrong.py"], at)
+        check("mypy of a wrong use", seen.startswith("wrong.py:8: error: ") and "Found 1 error" in seen, seen)
+
+
+def list_of(path: str) -> str:
+    with open(path, "rb") as file:
+        return dexasm.list(file.read())
+
+
+def try_cookbook() -> None:
+    """The cookbook's programs, by its sessions, in the order of the page."""
+    blocks = page("docs/COOKBOOK-PYTHON.md")
+    programs = {sought(r'^"""([\w-]+)', text)[1]: text for kind, text in blocks if kind == "python"}
+    sessions = [
+        step.split("\n", 1)
+        for kind, text in blocks
+        if kind == "console"
+        for step in re.split(r"^\$ ", text, flags=re.M)[1:]
+    ]
+    check("COOKBOOK-PYTHON: five programs", len(programs) == 5, [*programs])
+    check("COOKBOOK-PYTHON: each is run", all(any(f"{name}.py" in it[0] for it in sessions) for name in programs))
+    with tempfile.TemporaryDirectory() as at:
+        os.mkdir(f"{at}/bin")
+        os.symlink(sys.executable, f"{at}/bin/python3")
+        for name, text in programs.items():
+            with open(f"{at}/{name}.py", "w", encoding="utf8") as file:
+                file.write(text)
+        for command, want in sessions:
+            seen = run(["bash", "-c", command], at)
+            check(f"COOKBOOK-PYTHON: {command}", seen == want, seen)
+
+
+TRIES = (
+    try_names,
+    try_makers,
+    try_insns,
+    try_texts,
+    try_values,
+    try_bytes,
+    try_changes,
+    try_replacing,
+    try_made,
+    try_copies,
+    try_kinds,
+    try_finding,
+    try_places,
+    try_types,
+    try_readme,
+    try_cookbook,
+)
+
+
+def try_all(files: int, edits: int, seed: int, folder: str | None = None) -> str:
+    """All of it: a line that tells how many edits were written."""
+    for one in TRIES:
+        one()
+    rng = random.Random(seed)
+    made = made_files(rng, files)
+    given = []
+    for path in sorted(glob.glob(os.path.join(glob.escape(folder), "**", "*.dex"), recursive=True)) if folder else ():
+        with open(path, "rb") as file:
+            data = file.read()
+        if is_accepted(data):
+            given.append((path, data))
+    for what, data in [*((f"seed {seed}, file {at}", data) for at, data in enumerate(made)), *given]:
+        try_laws(what, data)
+    written = sum(try_edit(f"seed {seed}, edit {at}", rng, rng.choice(made)) for at in range(edits))
+    check("edits of both kinds", edits // 5 < written < edits, written)
+    return f"{len(made)} made files, {len(given)} others, {written} of {edits} edits written"
+
+
+def main(given: argparse.Namespace) -> int:
+    print(try_all(given.count or 500, given.edits, given.seed, given.files))
+    return last_line()

@@ -1,0 +1,92 @@
+"""Where the binding for Java finds a refusal in a listing, for tools/try library: each line is that of a mark in the
+text, and of texts at random the one that the module for Python finds, which asks the rules and not the library.
+"""
+from __future__ import annotations
+
+import itertools
+import os
+import random
+from collections.abc import Iterator
+from typing import TYPE_CHECKING, Any
+
+from python.tests.test_faultlines import BODIES, CLASS, CODE, HEAD, filled, large, marked, refused, surrounded
+from tests.oracle.texts import random_texts
+
+if TYPE_CHECKING:
+    from tests.library.test_java import Java
+
+# Whose line is the very one; of the others it is that, or the member's, or the class's.
+EXACT = (82, 85, 87, 88, 110, 112, 113, 114, 115, 117, 118)
+MEGABYTE = 1 << 20
+END = "end code", "end class"
+FIRST = "dex 035", "class L\\u0041; 1", "direct \\u006d ()V 0", "code 1 0 0"
+LABEL = ":" + "n" * 32
+CAUGHT = ":a", "nop", ":b", "  try   :a   :b", "catchall :a", "«»try :a :b", "catchall :a"
+LONG_LABELS = f'const-string v0 ":a {LABEL}"', f"if-eqz v0 {LABEL}", "nop", LABEL
+BEFORE = "class LB; 0", "end class", "class LA; 0", "super LB;", "end class"
+# Texts that could lead astray: lines in which a class or a code seems to begin or to end, lines of a megabyte, bytes that
+# are no text, no line feed at the end; escapes in names, numbers spelled in odd ways, labels of 32 characters.
+HOSTILE = (
+    [f"# class LB; 0 \x80\xff{'x' * MEGABYTE}", HEAD, "# end class", CLASS, *CODE, "# end code", "move v0 «v4»", *END],
+    [HEAD, CLASS, 'source "end class"', f'static a I 0 = string "{"x " * MEGABYTE}"', *CODE, "move v0 «v4»", *END],
+    [HEAD, " " * MEGABYTE, CLASS, *CODE, f"{' ' * MEGABYTE}move v0 «v4»", "  end   code", " end   class "],
+    [*FIRST, "0x00: nop", "0001:   move v0 «v1»", *END],
+    [*FIRST, "0: goto «@0»", "  1:  nop", *END],
+    [*FIRST, "0: goto «@129»", *(f"{at}: nop" for at in range(1, 130)), *END],
+    [HEAD, CLASS, *CODE, "nop", "goto «:n_»", *filled(128), ":n_", "nop", *END],
+    [HEAD, CLASS, *CODE, *LONG_LABELS, "goto «:b»", *filled(128), ":b", "nop", *END],
+    [HEAD, CLASS, *CODE, *CAUGHT, *END],
+    [HEAD, *BEFORE, "   class   «LA;»   0x0001", "super LB;", "end class"],
+)
+
+
+def try_places(java: Java, seed: int = 2, count: int = 120) -> None:
+    folder = os.path.join(java.folder, "places")
+    os.makedirs(folder)
+    rows = []
+    for at, (text, align, lines, names) in enumerate(itertools.chain(marks(), at_random(seed, count))):
+        with open(f"{folder}/{at}", "wb") as file:
+            file.write(text)
+        rows.append(f"{at}\t{int(align)}\t{' '.join(map(str, lines))}\t{names}")
+    with open(f"{folder}/places", "w", encoding="ascii") as file:
+        file.write("\n".join(rows))
+    status, out, said = java.run("-Xmx1g", "-XX:+UseSerialGC", "-cp", java.path(), "Tries", "places", folder)
+    is_so = status == 0 and out.endswith(b" tried, 0 failed\n") and len(rows) > 250
+    java.check("Java: the places of refusals", is_so, f"{status} {out!r} {said[-600:]}")
+
+
+def texts() -> Iterator[tuple[int, list[str]]]:
+    for number, bodies in BODIES.items():
+        for lines in itertools.chain.from_iterable(map(surrounded, bodies)):
+            yield number, lines
+    for number, lines in large():
+        if number in (82, 87, 88, 114):
+            yield number, lines
+    for lines in HOSTILE:
+        yield 0, [*lines]
+
+
+def marks() -> Iterator[tuple[bytes, bool, list[int], str]]:
+    """Text, whether aligned, the lines that may be told, and class and member where both are spelled alike."""
+    for number, lines in texts():
+        text, (line, _, _) = marked(lines)
+        given = text.encode("latin1")[: -1 if number == 0 else None]
+        seen = refused(given)
+        assert seen is not None  # (each has a fault)
+        where: Any = seen.where
+        told = [line] if seen.number in EXACT else allowed(where)
+        names = "" if number == 0 else f"{where.class_name.spelled} {where.member.spelled if where.member else 'null'}"
+        yield given, False, told, names if told == [line] else ""
+
+
+def at_random(seed: int, count: int) -> Iterator[tuple[bytes, bool, list[int], str]]:
+    for text, align in itertools.islice(random_texts(random.Random(seed)), count):
+        given = text if isinstance(text, bytes) else text.encode("latin1")  # type: ignore[attr-defined]  # (all bytes)
+        seen = refused(given, align)
+        if seen is not None and seen.where is not None:
+            where = seen.where
+            yield given, align, [where.line] if seen.number in (*EXACT, *range(100, 107)) else allowed(where), ""
+
+
+def allowed(where: Any) -> list[int]:
+    return sorted({line for line in (where.line, where.member_line, where.class_line) if line})
