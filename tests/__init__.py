@@ -2,8 +2,11 @@
 a given program; `python3 -m unittest`, at the top of the repository, on the one that is built: see tried.py."""
 import os
 import re
+import sys
 
 TOP = os.path.dirname(os.path.dirname(os.path.abspath(__file__)))
+# What is tried stands before what is installed.
+sys.path[:0] = [os.path.join(TOP, place) for place in ("python/src", "bindings/java", "bench/hostile")]
 
 
 def sought(pattern: str, text: str, flags: int = 0) -> re.Match[str]:

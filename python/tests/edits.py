@@ -4,27 +4,11 @@ import itertools
 import random
 from typing import Any
 
-from parts.tries.trying import check
-from python.tests.harm import EVIL, MNEMONICS, WRONG  # (this finds the module below)
-
 import dexasm
 from dexasm import Catch, Field, Insn, Label, Method, Program, Proto, Refused, Try, Type, Value
+from tests.base import TestCase
 from tests.oracle.loose import random_files
-
-
-def try_laws(what: str, data: bytes) -> None:
-    """A file that is read and written is its stripped one, and each class read and written anew has the same lines."""
-    text, program = dexasm.list(data), Program.read(data)
-    check(f"{what}: its text", str(program) == text == str(Program.parse(text)))
-    check(f"{what}: as it came", program.write() == dexasm.strip(data))
-    for at, was in enumerate([*program.classes.texts()]):
-        one = program.classes[at]
-        check(f"{what}: {one.name}, read", str(one) == was)
-        for method in one.methods:
-            if method.code is not None:
-                method.code.insns.sort(key=lambda _: 0)
-        check(f"{what}: {one.name}, read whole", str(one) == was)
-    check(f"{what}: written anew", program.write() == dexasm.strip(data))
+from .harm import EVIL, MNEMONICS, WRONG
 
 
 def made_files(rng: random.Random, count: int) -> list[bytes]:
@@ -186,18 +170,35 @@ def parts(one: dexasm.Class) -> tuple[str, list[str]]:
     return heads[1], sorted(found)
 
 
-def try_edit(what: str, rng: random.Random, data: bytes) -> bool:
-    """A program that was edited is written as what it was edited to, or not at all."""
-    program = Program.read(data)
-    edits = Edits(rng, program)
-    try:
-        for _ in range(rng.choice((1, 1, 1, 2, 5))):
-            if len(program.classes):
-                edits.one()
-        file = program.write()
-    except ValueError as error:
-        check(f"{what}: why", str(error).isascii() and str(error).isprintable(), error)
-        return False
-    is_so = is_accepted(file) and [*map(parts, Program.read(file).classes)] == [*map(parts, program.classes)]
-    check(f"{what}: what it was edited to", is_so, str(program)[-500:])
-    return True
+class LawsTest(TestCase):
+    """A test that programs keep these laws, and edits too."""
+
+    def check_laws(self, what: str, data: bytes) -> None:
+        """A file that is read and written is its stripped one, and each class read and written anew has the same lines."""
+        text, program = dexasm.list(data), Program.read(data)
+        self.check(f"{what}: its text", str(program) == text == str(Program.parse(text)))
+        self.check_equal(f"{what}: as it came", program.write(), dexasm.strip(data))
+        for at, was in enumerate([*program.classes.texts()]):
+            one = program.classes[at]
+            self.check_equal(f"{what}: {one.name}, read", str(one), was)
+            for method in one.methods:
+                if method.code is not None:
+                    method.code.insns.sort(key=lambda _: 0)
+            self.check_equal(f"{what}: {one.name}, read whole", str(one), was)
+        self.check_equal(f"{what}: written anew", program.write(), dexasm.strip(data))
+
+    def check_edit(self, what: str, rng: random.Random, data: bytes) -> bool:
+        """A program that was edited is written as what it was edited to, or not at all."""
+        program = Program.read(data)
+        edits = Edits(rng, program)
+        try:
+            for _ in range(rng.choice((1, 1, 1, 2, 5))):
+                if len(program.classes):
+                    edits.one()
+            file = program.write()
+        except ValueError as error:
+            self.check(f"{what}: why", str(error).isascii() and str(error).isprintable(), error)
+            return False
+        is_so = is_accepted(file) and [*map(parts, Program.read(file).classes)] == [*map(parts, program.classes)]
+        self.check(f"{what}: what it was edited to", is_so, str(program)[-500:])
+        return True

@@ -1,11 +1,5 @@
-"""What the tries of programs as objects share: what is put into names and numbers by harm."""
-import os
-import sys
+"""What the tests of programs as objects share: what is put into names and numbers by harm."""
 from typing import Any
-
-from parts import TOP
-
-sys.path[:0] = [os.path.join(TOP, "python", "src")]
 
 # What a word or a line could be ended by, and what a listing would take for something else.
 EVIL = (

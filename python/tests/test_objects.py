@@ -1,10 +1,9 @@
 """Tries dexasm.Program: what is put into a program by harm or by mistake, laws of what is read and written, and edits
 at random.
 
-The part library runs a small part of it. Alone, with DEXASM_LIBRARY or DEXASM_COMMAND, it tries the laws on --count made
-files (or 500) and on the .dex files below --files, and --edits edits (or 10000).
+Laws are tried on 20 files that are made, or as many as are asked for, and on those below a folder that is named, and by
+200 edits: tried.py says how these are named. tools/try objects tries more.
 """
-import argparse
 import copy
 import glob
 import itertools
@@ -19,14 +18,14 @@ import tempfile
 from collections.abc import Callable
 from typing import Any
 
-from parts import TOP, sought
-from parts.tries.trying import check, last_line
-from python.tests.harm import EVIL, MEMBERS, MNEMONICS, WRONG  # (this finds the module below)
-
 import dexasm
 from dexasm import ArrayData, Catch, Class, Code, Field, FieldRef, Insn, Label, Method, MethodRef, PackedSwitch, Program
 from dexasm import Proto, Refused, SparseSwitch, Try, Type, Value
-from python.tests.edits import is_accepted, made_files, try_edit, try_laws
+from tests import TOP, sought, tried
+from . import edits
+from .edits import is_accepted, made_files
+from .harm import EVIL, MEMBERS, MNEMONICS, WRONG
+from .module import ModuleTest
 
 Change = Callable[[Any, Any], Any]  # of a program and its class, also to what their types forbid
 HELLO = r"""dex 035 listing 2
@@ -69,27 +68,6 @@ def changed(change: Change) -> str | ValueError | KeyError:
         return error
 
 
-def is_refused(what: str, change: Change) -> None:
-    """That nothing is written after a change: a ValueError, of which Refused is one kind, tells why in one line."""
-    seen = changed(change)
-    is_so = isinstance(seen, ValueError) and str(seen).isascii() and str(seen).isprintable()
-    check(f"{what} is refused", is_so, seen)
-
-
-def becomes(what: str, old: str, new: str, change: Change, *labels: tuple[str, str]) -> None:
-    """That a change of the program is this change of its listing, these of its labels, and no other."""
-    want = HELLO.replace(old, new, 1)
-    for label, other in labels:
-        head, tail = want.split("direct pick")
-        want = (
-            f"{head}direct pick{tail.replace(label, other)}"
-            if label in dict(PICKED)
-            else f"{head.replace(label, other)}direct pick{tail}"
-        )
-    seen = changed(change)
-    check(what, old in HELLO and seen == want, (seen, want))
-
-
 # ---- harm
 
 
@@ -122,105 +100,6 @@ def set_in(path: str, value: Any) -> Change:
         setattr(at[one], slot, value)
 
     return change
-
-
-def try_names() -> None:
-    """In no slot of a name or a number does a text become a word or a line more."""
-    types = "hello.name", "hello.superclass", "name.type", "catch.type"
-    for path in (*types, "name.name", "get.name", "get.proto", "const.name"):
-        for evil in (*EVIL, *WRONG):
-            is_right = (
-                evil is None
-                if path in ("hello.superclass", "const.name")
-                else evil in MEMBERS and path in ("name.name", "get.name")
-            )
-            if not is_right:
-                is_refused(f"{path} = {ascii(evil)}", set_in(path, evil))
-    for path in (
-        "hello.flags",
-        "name.flags",
-        "get.flags",
-        "code.registers",
-        "code.ins",
-        "code.outs",
-        "payload.first",
-        "const.literal",
-    ):
-        for evil in (*EVIL, 1.5, b"1", [], 1 << 40, -1 << 40, "1", "0x1"):
-            is_refused(f"{path} = {ascii(evil)}", set_in(path, evil))
-    for evil in (*EVIL, *WRONG, Label(Insn("nop")), Label()):
-        is_refused(
-            f"a target {ascii(evil)}", set_in("switch.target", evil) if evil is not None else set_in("try.start", evil)
-        )
-        is_refused(f"a register {ascii(evil)}", at_first(Insn("const/4", 300 if evil is True else evil, literal=0)))
-        if not isinstance(evil, Label):
-            is_refused(f"interfaces {ascii(evil)}", lambda _, hello: hello.interfaces.append(evil))
-    forged = str.__new__(Type, "LA; 0x1\nend class")
-    for path in types[1:]:
-        is_refused(f"{path}, forged", set_in(path, forged))
-
-
-def try_makers() -> None:
-    """A text that isn't of a name's form makes none."""
-    for kind in (Type, Proto, FieldRef, MethodRef):
-        for evil in (*EVIL, *WRONG):
-            if (kind, evil) == (MethodRef, "LA;->m()V"):
-                continue
-            try:
-                check(f"{kind.__name__} of {ascii(evil)}", False, kind(evil))
-            except ValueError as error:
-                check(f"{kind.__name__} of {ascii(evil)}", str(error).isascii() and str(error).isprintable(), error)
-
-
-def try_insns() -> None:
-    for evil in (*MNEMONICS, *WRONG, "no-such", "packed-switch-payload", "sparse-switch-payload"):
-        is_refused(f"a mnemonic {ascii(evil)}", at_first(Insn(evil)))
-        is_refused(f"a mnemonic {ascii(evil)} with a name", at_first(Insn(evil, name="LX;")))
-    for evil in (5, None, "nop", [], Label(), Class(Type("LA;"))):
-        is_refused(f"an instruction {ascii(evil)}", at_first(evil))
-        is_refused(f"a try {ascii(evil)}", lambda _, hello: hello.method("get").code.tries.append(evil))
-        if evil is not None:
-            is_refused(f"a code {ascii(evil)}", set_in("get.code", evil))
-        for members in ("statics", "instances", "directs", "virtuals"):
-            is_refused(f"{members} {ascii(evil)}", lambda _, hello: getattr(hello, members).append(evil))
-    nop = Insn("nop")
-    is_refused(
-        "a label of what stands twice",
-        lambda _, hello: hello.method("get").code.insns.extend([nop, nop, Insn("goto", target=Label(nop))]),
-    )
-    is_refused("keys without targets", at_first(SparseSwitch([1], [])))
-    is_refused("data that is no bytes", at_first(ArrayData(1, "00\nnop")))  # type: ignore[arg-type]  # (which is tried)
-
-
-def try_texts() -> None:
-    """Any text is one text."""
-    evil: Any
-    for evil in (*EVIL, "\ud83d\ude00", "\ude00\ud83d", "\U0001f600", "a\x7f\x80", "\\u0041", '\\"'):
-        word = "".join(f"\\u{unit:04x}" for unit in units(evil))
-        canonical = re.sub(r"\\u00([2-7]\d|[2-6][a-f]|7[a-e])", lambda found: plain(int(found[1], 16)), word)
-        becomes(f"a source {ascii(evil)}", '"Hello.java"', f'"{canonical}"', set_in("hello.source", evil))
-        becomes(f"a value {ascii(evil)}", '"the answer"', f'"{canonical}"', set_in("value.value", evil))
-        insert = at_first(Insn("const-string", 0, text=evil))
-        head = "code 2 1 0\n"
-        seen = changed(insert)
-        check(
-            f"a constant {ascii(evil)}",
-            isinstance(seen, str) and f'{head}const-string v0 "{canonical}"\nconst/16' in seen,
-            seen,
-        )
-        program = Program.parse(HELLO)
-        insert(program, program["LHello;"])
-        again = Program.read(program.write())["LHello;"].method("get").insns[0].text
-        assert again is not None  # (it is that of a const-string)
-        check(
-            f"a constant {ascii(evil)} is read again",
-            units(again) == units(evil) and "\ud83d\ude00" not in again,
-            again,
-        )
-    for evil in (5, b"a", [], True):
-        is_refused(f"a source {evil!a}", set_in("hello.source", evil))
-        is_refused(f"a value {evil!a}", set_in("value.value", evil))
-        is_refused(f"a constant {evil!a}", at_first(Insn("const-string", 0, text=evil)))
 
 
 def units(text: str) -> list[int]:
@@ -264,99 +143,6 @@ WRONG_VALUES: tuple[Any, ...] = (
 )
 VALUES = [Value("int", -3), Value("boolean", False), Value("float", 0x7F800001), Value("enum", FieldRef("LA;->a:LA;"))]
 WORDS = "array { int -3 false float 7f800001 enum LA;->a:LA; array { } }"
-
-
-def try_values() -> None:
-    for evil in WRONG_VALUES:
-        is_refused(f"a value {evil!a:.60}", set_in("name.value", evil))
-    field = Field("a", "I", 0, Value("int", 1))  # type: ignore[arg-type]  # (a text is taken too)
-    is_refused("a value of an instance field", lambda _, hello: hello.instances.append(field))
-    array = Value("array", [*VALUES, Value("array", [])])
-    becomes("an array", 'string "the answer"', WORDS, set_in("name.value", array))
-    kinds = [one.kind for one in array.all()]
-    check("all values of an array", kinds == ["array", "int", "boolean", "float", "enum", "array"], kinds)
-    check("the number of bits", (Value("float", 0x3F800000).number, Value("double", 0xBFF << 52).number) == (1.0, -1.0))
-    try:
-        check("all values of a ring", False, [*itertools.islice(RING.all(), 10**6)])
-    except ValueError:
-        check("all values of a ring", True)
-
-
-def try_bytes() -> None:
-    """What is no bytes is no file."""
-    job: Any
-    evil: Any
-    for job in (dexasm.check, dexasm.list, dexasm.strip, dexasm.assemble, Program.read):
-        for evil in (5, 0, True, None, [1, 2], 1.5, {}):
-            try:
-                check(f"{job.__name__} of {evil!a}", False, job(evil))
-            except TypeError:
-                check(f"{job.__name__} of {evil!a}", True)
-    file = dexasm.assemble(HELLO)
-    for given in (bytearray(file), memoryview(file), memoryview(b"".join(bytes([byte, 0]) for byte in file))[::2]):
-        check("bytes of another kind", dexasm.list(given) == HELLO)
-    for text in ("\ud800", "dex 035 listing 2\n\ud800", "\u00e9"):
-        try:
-            check("a text of another kind", False, dexasm.assemble(text))
-        except Refused as refused:
-            check("a text of another kind", refused.number == 100, refused)
-
-
-# ---- what it does
-
-
-def try_changes() -> None:
-    """A few changes, each with what becomes of the listing."""
-    becomes(
-        "a constant", "v0 41", "v0 42", lambda _, hello: setattr(hello.method("get(Z)I").code.insns[0], "literal", 42)
-    )
-    becomes("a name", "direct get (Z)I", "direct fetch (Z)I", set_in("get.name", "fetch"))
-    becomes(
-        "a name that isn't ASCII",
-        "class LHello;",
-        "class LH\\u00e9/\\ud83d\\ude00;",
-        set_in("hello.name", "LH\u00e9/\U0001f600;"),
-    )
-    becomes(
-        "a call of a range, and one of two registers",
-        "code 2 1 0\n",
-        "code 2 1 0\ninvoke-static/range v0 2 LA;->m(II)V\ninvoke-static { v0 v1 } LA;->m(II)V\n"
-        "invoke-static { } LA;->m()V\n",
-        lambda _, hello: hello.method("get").code.insns.__setitem__(slice(0, 0), CALLS),
-        (":L3", ":L6"),
-    )
-    becomes(
-        "one more moves branches, payloads and tries",
-        "code 2 1 1\n",
-        "code 2 1 1\nnop\nnop\n",
-        lambda _, hello: hello.method("pick").code.insns.__setitem__(slice(0, 0), [Insn("nop"), Insn("nop")]),
-        *PICKED,
-    )
-
-
-def try_replacing() -> None:
-    """Branches to what is replaced; classes more and none."""
-    becomes(
-        "what led to an instruction leads to those in its place",
-        ":L3\nreturn v0",
-        ":L3\nconst/4 v0 0\nreturn v0",
-        lambda _, hello: replaced(hello.method("get").code, 3, Insn("const/4", 0, literal=0), Insn("return", 0)),
-    )
-    becomes(
-        "what led to one that is taken away leads to the next",
-        "v1 :L3\nadd-int/lit8 v0 v0 -1\n:L3\n",
-        "v1 :L2\n:L2\n",
-        lambda _, hello: replaced(hello.method("get").code, 2),
-    )
-    becomes(
-        "a class more",
-        "end code\nend class\n",
-        "end code\nend class\nclass LB; 0x1\nend class\n",
-        lambda program, _: program.classes.append(Class(Type("LB;"))),
-    )
-    becomes("other classes", HELLO[18:], "", lambda program, _: setattr(program, "classes", []))
-    becomes("no class", HELLO[18:], "", lambda program, _: program.classes.clear())
-    becomes("a field's value", ' = string "the answer"', "", set_in("name.value", None))
 
 
 CALLS = [
@@ -419,99 +205,6 @@ def class_of_objects() -> Class:
     return made
 
 
-def try_made() -> None:
-    program = Program([class_of_objects()])
-    check("a program that is made", str(program) == MADE and dexasm.list(program.write()) == MADE, str(program))
-    read: Any = Program.parse(MADE)["LA;"].method("m").code
-    array, packed, sparse = read.insns[6:]
-    seen = type(array), type(packed), type(sparse), array.data, packed.first, sparse.keys, read.tries[0].end.insn
-    want = ArrayData, PackedSwitch, SparseSwitch, b"\1\0\2\0", -1, [-5, 7], None
-    check("payloads are read", seen == want, seen)
-    start = read.tries[0].start
-    check("one label a place", packed.targets[0] is start and start.insn is read.insns[0])
-
-
-def try_copies() -> None:
-    made: Any = class_of_objects()
-    first = made.directs[0].code.insns[0]
-    copies = copy.deepcopy(made), pickle.loads(pickle.dumps(made)), Class.of_text(str(made))
-    check("copies", all(one == made and one.directs[0].code.insns[0] is not first for one in copies))
-    copies[0].directs[0].code.insns[1].literal = 3
-    check("a copy's change is its own", copies[0] != made and str(Program([made])) == MADE)
-
-
-def try_kinds() -> None:
-    """What names tell."""
-    one = Type("[[Ljava/lang/String;")
-    check(
-        "a type",
-        (one.element, one.pretty, Type("V").pretty, Type("[I").element.element)  # type: ignore[union-attr]  # (it is I)
-        == ("[Ljava/lang/String;", "java.lang.String[][]", "void", None),
-    )
-    check(
-        "a package",
-        (Type("La/b/C;").package, Type("LC;").package, Type("I").package, one.package) == ("a.b", "", "", ""),
-    )
-    proto = Proto("(I[[JLx/Y;[Z)V")
-    check(
-        "a prototype",
-        proto.parameters == ("I", "[[J", "Lx/Y;", "[Z") and proto.returns == "V" and Proto("()[I").parameters == (),
-    )
-    method, field = MethodRef.of("[LA;", "<init>", "(I)V"), FieldRef.of("La-;", "x-", "[LB;")
-    check(
-        "a method's parts",
-        (method, method.owner, method.name, method.proto) == ("[LA;-><init>(I)V", "[LA;", "<init>", "(I)V"),
-    )
-    check("a field's parts", (field, field.owner, field.name, field.type) == ("La-;->x-:[LB;", "La-;", "x-", "[LB;"))
-    known: dict[str, int] = {method: 1}
-    check("names hash", known["[LA;-><init>(I)V"] == 1 and pickle.loads(pickle.dumps(method)) == method)
-
-
-def try_finding() -> None:
-    """How classes and members are found."""
-    program = Program.parse(HELLO)
-    hello = program["LHello;"]
-    check(
-        "names of members",
-        (hello.ref(hello.methods[0]), hello.ref(hello.fields[0]))
-        == ("LHello;->get(Z)I", "LHello;->name:Ljava/lang/String;"),
-    )
-    check(
-        "a class is found",
-        "LHello;" in program and "LB;" not in program and 5 not in program and program["LHello;"] is hello,
-    )
-    for find, wrong in (
-        (program.__getitem__, "LB;"),
-        (hello.method, "get(I)I"),
-        (hello.method, "put"),
-        (hello.field, "name:I"),
-    ):
-        try:
-            check(f"no {wrong}", False, find(wrong))
-        except KeyError:
-            check(f"no {wrong}", True)
-    hello.directs.append(Method("get", Proto("()V")))
-    check("a method is found", hello.method("get()V") is hello.directs[-1])
-    try:
-        check("a name of two methods", False, hello.method("get"))
-    except KeyError:
-        check("a name of two methods", True)
-    hello.name = Type("LB;")
-    check("a class of another name", program["LB;"] is hello and "LHello;" not in program)
-    program.classes.append(Class(Type("LB;"), 0x10))
-    program.classes.append(Class(Type("LC;")))
-    check("classes behind", program["LB;"] is hello and program["LC;"] is program.classes[2])
-    del program.classes[1:]
-    check("classes that are gone", "LC;" not in program and program["LB;"] is hello)
-    program.classes.insert(0, Class(Type("LHello;")))
-    check(
-        "a class in front",
-        program["LHello;"] is program.classes[0]
-        and program.classes[1] is hello
-        and [*program.classes.names()] == ["LHello;", "LB;"],
-    )
-
-
 def inserted(method: str, at: int, insn: Insn) -> Change:
     """A change that puts an instruction into a method of this name."""
     return lambda _, hello: hello.method(method).code.insns.insert(at, insn)
@@ -557,22 +250,6 @@ PLACES: dict[str, tuple[Change, int, str | None, int | None]] = {
     "a superclass": (set_in("hello.superclass", "[I"), 110, None, None),
     "a class twice": (class_twice, 112, None, None),
 }
-
-
-def try_places() -> None:
-    """A refusal says in which class, member and instruction it stands."""
-    seen: Any
-    for what, (change, number, member, insn) in PLACES.items():
-        seen = changed(both(change))
-        place = (seen.number, seen.class_name, seen.member, seen.insn) if isinstance(seen, Refused) else seen
-        want = (number, "LHello;", member and f"LHello;->{member}", insn)
-        check(f"the place of {what}", place == want, (place, str(seen)))
-    seen = changed(inserted("pick", 1, WIDE))
-    said = "LHello;->pick(I)V, instruction 1: 42000: a number from -32768 to 32767 stands here; const takes more"
-    check("its line", str(seen) == f"refused 102 Number at {seen.place}: {said}", str(seen))
-    again = pickle.loads(pickle.dumps(seen))
-    check("it is pickled whole", (str(again), again.insn, again.member) == (str(seen), 1, "LHello;->pick(I)V"))
-    check("where there is no program", str(Refused(8, "Checksum", 8)) == "refused 8 Checksum at 8")
 
 
 def both(change: Change) -> Change:
@@ -635,32 +312,6 @@ end class
 """
 
 
-def try_readme() -> None:
-    """The examples of the module's page, as they stand there."""
-    examples = [text for kind, text in page("python/README.md") if kind == "python"]
-    text = CALLED
-    with tempfile.TemporaryDirectory() as at:
-        with open(f"{at}/a.dex", "wb") as file:
-            file.write(dexasm.assemble(text))
-        place, *answers = [run([sys.executable, "-c", example], at) for example in examples]
-        made = [list_of(f"{at}/{name}.dex") for name in ("patched", "renamed")]
-    said = "refused 118 Register at 0: LHello;->m()V, instruction 0: v9 of 2 registers\n5; 9; v9; v9 of 2 registers\n"
-    check("README: a place", place == said, place)
-    check(
-        "README: examples, under twenty lines each",
-        len(examples) == 5 and all(example.count("\n") < 20 for example in examples),
-        len(examples),
-    )
-    check("README: a constant", answers[0] == "" and made[0] == text.replace("v0 41", "v0 42"), (answers[0], made[0]))
-    check(
-        "README: a method",
-        answers[1] == "" and made[1] == text.replace("get (Z)I", "fetch (Z)I").replace("->get(Z)I", "->fetch(Z)I"),
-        answers[1],
-    )
-    check("README: calls", answers[2] == "LHello;->pick(I)V calls LHello;->get(Z)I\n", answers[2])
-    check("README: packages", answers[3] == "2 ''\n1 'a'\n", answers[3])
-
-
 USER = """
 from dexasm import Class, Insn, Label, Program, Type
 
@@ -675,90 +326,438 @@ made: bytes = program.write()
 """
 
 
-def try_types() -> None:
-    """mypy finds nothing to say of the module, nor of one that uses it, and something of one that uses it wrongly."""
-    if not shutil.which("mypy"):
-        print("tools/try library: no mypy here: the types of the module for Python aren't tried", file=sys.stderr)
-        return
-    with tempfile.TemporaryDirectory() as at:
-        for name, text in (("user", USER), ("wrong", USER.replace("number: int", "number: str"))):
-            with open(f"{at}/{name}.py", "w", encoding="ascii") as file:
-                file.write(text)
-        folder = os.path.join(TOP, "bindings", "python", "dexasm")
-        words = ["mypy", "--strict", "--python-version", "3.10", "--cache-dir", f"{at}/cache"]
-        seen = run([*words, folder, "user.py"], at)
-        check("mypy of the module", seen.startswith("Success: "), seen)
-        seen = run([*words, folder, "wrong.py"], at)
-        check("mypy of a wrong use", seen.startswith("wrong.py:8: error: ") and "Found 1 error" in seen, seen)
-
-
 def list_of(path: str) -> str:
     with open(path, "rb") as file:
         return dexasm.list(file.read())
 
 
-def try_cookbook() -> None:
-    """The cookbook's programs, by its sessions, in the order of the page."""
-    blocks = page("docs/COOKBOOK-PYTHON.md")
-    programs = {sought(r'^"""([\w-]+)', text)[1]: text for kind, text in blocks if kind == "python"}
-    sessions = [
-        step.split("\n", 1)
-        for kind, text in blocks
-        if kind == "console"
-        for step in re.split(r"^\$ ", text, flags=re.M)[1:]
-    ]
-    check("COOKBOOK-PYTHON: five programs", len(programs) == 5, [*programs])
-    check("COOKBOOK-PYTHON: each is run", all(any(f"{name}.py" in it[0] for it in sessions) for name in programs))
-    with tempfile.TemporaryDirectory() as at:
-        os.mkdir(f"{at}/bin")
-        os.symlink(sys.executable, f"{at}/bin/python3")
-        for name, text in programs.items():
-            with open(f"{at}/{name}.py", "w", encoding="utf8") as file:
-                file.write(text)
-        for command, want in sessions:
-            seen = run(["bash", "-c", command], at)
-            check(f"COOKBOOK-PYTHON: {command}", seen == want, seen)
+class ObjectsTest(ModuleTest):
+    def is_refused(self, what: str, change: Change) -> None:
+        """That nothing is written after a change: a ValueError, of which Refused is one kind, tells why in one line."""
+        seen = changed(change)
+        is_so = isinstance(seen, ValueError) and str(seen).isascii() and str(seen).isprintable()
+        self.check(f"{what} is refused", is_so, seen)
+
+    def becomes(self, what: str, old: str, new: str, change: Change, *labels: tuple[str, str]) -> None:
+        """That a change of the program is this change of its listing, these of its labels, and no other."""
+        want = HELLO.replace(old, new, 1)
+        for label, other in labels:
+            head, tail = want.split("direct pick")
+            want = (
+                f"{head}direct pick{tail.replace(label, other)}"
+                if label in dict(PICKED)
+                else f"{head.replace(label, other)}direct pick{tail}"
+            )
+        seen = changed(change)
+        self.check(what, old in HELLO and seen == want, (seen, want))
 
 
-TRIES = (
-    try_names,
-    try_makers,
-    try_insns,
-    try_texts,
-    try_values,
-    try_bytes,
-    try_changes,
-    try_replacing,
-    try_made,
-    try_copies,
-    try_kinds,
-    try_finding,
-    try_places,
-    try_types,
-    try_readme,
-    try_cookbook,
-)
+class Words(ObjectsTest):
+    """Names, numbers and texts."""
+
+    def test_names(self) -> None:
+        """In no slot of a name or a number does a text become a word or a line more."""
+        types = "hello.name", "hello.superclass", "name.type", "catch.type"
+        for path in (*types, "name.name", "get.name", "get.proto", "const.name"):
+            for evil in (*EVIL, *WRONG):
+                is_right = (
+                    evil is None
+                    if path in ("hello.superclass", "const.name")
+                    else evil in MEMBERS and path in ("name.name", "get.name")
+                )
+                if not is_right:
+                    self.is_refused(f"{path} = {ascii(evil)}", set_in(path, evil))
+        for path in (
+            "hello.flags",
+            "name.flags",
+            "get.flags",
+            "code.registers",
+            "code.ins",
+            "code.outs",
+            "payload.first",
+            "const.literal",
+        ):
+            for evil in (*EVIL, 1.5, b"1", [], 1 << 40, -1 << 40, "1", "0x1"):
+                self.is_refused(f"{path} = {ascii(evil)}", set_in(path, evil))
+        for evil in (*EVIL, *WRONG, Label(Insn("nop")), Label()):
+            self.is_refused(
+                f"a target {ascii(evil)}",
+                set_in("switch.target", evil) if evil is not None else set_in("try.start", evil),
+            )
+            self.is_refused(
+                f"a register {ascii(evil)}", at_first(Insn("const/4", 300 if evil is True else evil, literal=0))
+            )
+            if not isinstance(evil, Label):
+                self.is_refused(f"interfaces {ascii(evil)}", lambda _, hello: hello.interfaces.append(evil))
+        forged = str.__new__(Type, "LA; 0x1\nend class")
+        for path in types[1:]:
+            self.is_refused(f"{path}, forged", set_in(path, forged))
+
+    def test_makers(self) -> None:
+        """A text that isn't of a name's form makes none."""
+        for kind in (Type, Proto, FieldRef, MethodRef):
+            for evil in (*EVIL, *WRONG):
+                if (kind, evil) == (MethodRef, "LA;->m()V"):
+                    continue
+                try:
+                    self.check(f"{kind.__name__} of {ascii(evil)}", False, kind(evil))
+                except ValueError as error:
+                    self.check(
+                        f"{kind.__name__} of {ascii(evil)}", str(error).isascii() and str(error).isprintable(), error
+                    )
+
+    def test_insns(self) -> None:
+        for evil in (*MNEMONICS, *WRONG, "no-such", "packed-switch-payload", "sparse-switch-payload"):
+            self.is_refused(f"a mnemonic {ascii(evil)}", at_first(Insn(evil)))
+            self.is_refused(f"a mnemonic {ascii(evil)} with a name", at_first(Insn(evil, name="LX;")))
+        for evil in (5, None, "nop", [], Label(), Class(Type("LA;"))):
+            self.is_refused(f"an instruction {ascii(evil)}", at_first(evil))
+            self.is_refused(f"a try {ascii(evil)}", lambda _, hello: hello.method("get").code.tries.append(evil))
+            if evil is not None:
+                self.is_refused(f"a code {ascii(evil)}", set_in("get.code", evil))
+            for members in ("statics", "instances", "directs", "virtuals"):
+                self.is_refused(f"{members} {ascii(evil)}", lambda _, hello: getattr(hello, members).append(evil))
+        nop = Insn("nop")
+        self.is_refused(
+            "a label of what stands twice",
+            lambda _, hello: hello.method("get").code.insns.extend([nop, nop, Insn("goto", target=Label(nop))]),
+        )
+        self.is_refused("keys without targets", at_first(SparseSwitch([1], [])))
+        self.is_refused("data that is no bytes", at_first(ArrayData(1, "00\nnop")))  # type: ignore[arg-type]  # (which is tried)
+
+    def test_texts(self) -> None:
+        """Any text is one text."""
+        evil: Any
+        for evil in (*EVIL, "\ud83d\ude00", "\ude00\ud83d", "\U0001f600", "a\x7f\x80", "\\u0041", '\\"'):
+            word = "".join(f"\\u{unit:04x}" for unit in units(evil))
+            canonical = re.sub(r"\\u00([2-7]\d|[2-6][a-f]|7[a-e])", lambda found: plain(int(found[1], 16)), word)
+            self.becomes(f"a source {ascii(evil)}", '"Hello.java"', f'"{canonical}"', set_in("hello.source", evil))
+            self.becomes(f"a value {ascii(evil)}", '"the answer"', f'"{canonical}"', set_in("value.value", evil))
+            insert = at_first(Insn("const-string", 0, text=evil))
+            head = "code 2 1 0\n"
+            seen = changed(insert)
+            self.check(
+                f"a constant {ascii(evil)}",
+                isinstance(seen, str) and f'{head}const-string v0 "{canonical}"\nconst/16' in seen,
+                seen,
+            )
+            program = Program.parse(HELLO)
+            insert(program, program["LHello;"])
+            again = Program.read(program.write())["LHello;"].method("get").insns[0].text
+            assert again is not None  # (it is that of a const-string)
+            self.check(
+                f"a constant {ascii(evil)} is read again",
+                units(again) == units(evil) and "\ud83d\ude00" not in again,
+                again,
+            )
+        for evil in (5, b"a", [], True):
+            self.is_refused(f"a source {evil!a}", set_in("hello.source", evil))
+            self.is_refused(f"a value {evil!a}", set_in("value.value", evil))
+            self.is_refused(f"a constant {evil!a}", at_first(Insn("const-string", 0, text=evil)))
+
+    def test_values(self) -> None:
+        for evil in WRONG_VALUES:
+            self.is_refused(f"a value {evil!a:.60}", set_in("name.value", evil))
+        field = Field("a", "I", 0, Value("int", 1))  # type: ignore[arg-type]  # (a text is taken too)
+        self.is_refused("a value of an instance field", lambda _, hello: hello.instances.append(field))
+        array = Value("array", [*VALUES, Value("array", [])])
+        self.becomes("an array", 'string "the answer"', WORDS, set_in("name.value", array))
+        kinds = [one.kind for one in array.all()]
+        self.check_equal("all values of an array", kinds, ["array", "int", "boolean", "float", "enum", "array"])
+        self.check_equal(
+            "the number of bits", (Value("float", 0x3F800000).number, Value("double", 0xBFF << 52).number), (1.0, -1.0)
+        )
+        try:
+            self.check("all values of a ring", False, [*itertools.islice(RING.all(), 10**6)])
+        except ValueError:
+            self.check("all values of a ring", True)
+
+    def test_bytes(self) -> None:
+        """What is no bytes is no file."""
+        job: Any
+        evil: Any
+        for job in (dexasm.check, dexasm.list, dexasm.strip, dexasm.assemble, Program.read):
+            for evil in (5, 0, True, None, [1, 2], 1.5, {}):
+                try:
+                    self.check(f"{job.__name__} of {evil!a}", False, job(evil))
+                except TypeError:
+                    self.check(f"{job.__name__} of {evil!a}", True)
+        file = dexasm.assemble(HELLO)
+        for given in (bytearray(file), memoryview(file), memoryview(b"".join(bytes([byte, 0]) for byte in file))[::2]):
+            self.check_equal("bytes of another kind", dexasm.list(given), HELLO)
+        for text in ("\ud800", "dex 035 listing 2\n\ud800", "\u00e9"):
+            try:
+                self.check("a text of another kind", False, dexasm.assemble(text))
+            except Refused as refused:
+                self.check("a text of another kind", refused.number == 100, refused)
 
 
-def try_all(files: int, edits: int, seed: int, folder: str | None = None) -> str:
-    """All of it: a line that tells how many edits were written."""
-    for one in TRIES:
-        one()
-    rng = random.Random(seed)
-    made = made_files(rng, files)
-    given = []
-    for path in sorted(glob.glob(os.path.join(glob.escape(folder), "**", "*.dex"), recursive=True)) if folder else ():
-        with open(path, "rb") as file:
-            data = file.read()
-        if is_accepted(data):
-            given.append((path, data))
-    for what, data in [*((f"seed {seed}, file {at}", data) for at, data in enumerate(made)), *given]:
-        try_laws(what, data)
-    written = sum(try_edit(f"seed {seed}, edit {at}", rng, rng.choice(made)) for at in range(edits))
-    check("edits of both kinds", edits // 5 < written < edits, written)
-    return f"{len(made)} made files, {len(given)} others, {written} of {edits} edits written"
+class Changes(ObjectsTest):
+    def test_changes(self) -> None:
+        """A few changes, each with what becomes of the listing."""
+        self.becomes(
+            "a constant",
+            "v0 41",
+            "v0 42",
+            lambda _, hello: setattr(hello.method("get(Z)I").code.insns[0], "literal", 42),
+        )
+        self.becomes("a name", "direct get (Z)I", "direct fetch (Z)I", set_in("get.name", "fetch"))
+        self.becomes(
+            "a name that isn't ASCII",
+            "class LHello;",
+            "class LH\\u00e9/\\ud83d\\ude00;",
+            set_in("hello.name", "LH\u00e9/\U0001f600;"),
+        )
+        self.becomes(
+            "a call of a range, and one of two registers",
+            "code 2 1 0\n",
+            "code 2 1 0\ninvoke-static/range v0 2 LA;->m(II)V\ninvoke-static { v0 v1 } LA;->m(II)V\n"
+            "invoke-static { } LA;->m()V\n",
+            lambda _, hello: hello.method("get").code.insns.__setitem__(slice(0, 0), CALLS),
+            (":L3", ":L6"),
+        )
+        self.becomes(
+            "one more moves branches, payloads and tries",
+            "code 2 1 1\n",
+            "code 2 1 1\nnop\nnop\n",
+            lambda _, hello: hello.method("pick").code.insns.__setitem__(slice(0, 0), [Insn("nop"), Insn("nop")]),
+            *PICKED,
+        )
+
+    def test_replacing(self) -> None:
+        """Branches to what is replaced; classes more and none."""
+        self.becomes(
+            "what led to an instruction leads to those in its place",
+            ":L3\nreturn v0",
+            ":L3\nconst/4 v0 0\nreturn v0",
+            lambda _, hello: replaced(hello.method("get").code, 3, Insn("const/4", 0, literal=0), Insn("return", 0)),
+        )
+        self.becomes(
+            "what led to one that is taken away leads to the next",
+            "v1 :L3\nadd-int/lit8 v0 v0 -1\n:L3\n",
+            "v1 :L2\n:L2\n",
+            lambda _, hello: replaced(hello.method("get").code, 2),
+        )
+        self.becomes(
+            "a class more",
+            "end code\nend class\n",
+            "end code\nend class\nclass LB; 0x1\nend class\n",
+            lambda program, _: program.classes.append(Class(Type("LB;"))),
+        )
+        self.becomes("other classes", HELLO[18:], "", lambda program, _: setattr(program, "classes", []))
+        self.becomes("no class", HELLO[18:], "", lambda program, _: program.classes.clear())
+        self.becomes("a field's value", ' = string "the answer"', "", set_in("name.value", None))
+
+    def test_made(self) -> None:
+        program = Program([class_of_objects()])
+        self.check(
+            "a program that is made", str(program) == MADE and dexasm.list(program.write()) == MADE, str(program)
+        )
+        read: Any = Program.parse(MADE)["LA;"].method("m").code
+        array, packed, sparse = read.insns[6:]
+        seen = type(array), type(packed), type(sparse), array.data, packed.first, sparse.keys, read.tries[0].end.insn
+        want = ArrayData, PackedSwitch, SparseSwitch, b"\1\0\2\0", -1, [-5, 7], None
+        self.check_equal("payloads are read", seen, want)
+        start = read.tries[0].start
+        self.check("one label a place", packed.targets[0] is start and start.insn is read.insns[0])
+
+    def test_copies(self) -> None:
+        made: Any = class_of_objects()
+        first = made.directs[0].code.insns[0]
+        copies = copy.deepcopy(made), pickle.loads(pickle.dumps(made)), Class.of_text(str(made))
+        self.check("copies", all(one == made and one.directs[0].code.insns[0] is not first for one in copies))
+        copies[0].directs[0].code.insns[1].literal = 3
+        self.check("a copy's change is its own", copies[0] != made and str(Program([made])) == MADE)
+
+    def test_kinds(self) -> None:
+        """What names tell."""
+        one = Type("[[Ljava/lang/String;")
+        self.check_equal(
+            "a type",
+            (
+                one.element,
+                one.pretty,
+                Type("V").pretty,
+                Type("[I").element.element,
+            ),  # type: ignore[union-attr]  # (it is I)
+            ("[Ljava/lang/String;", "java.lang.String[][]", "void", None),
+        )
+        self.check_equal(
+            "a package",
+            (Type("La/b/C;").package, Type("LC;").package, Type("I").package, one.package),
+            ("a.b", "", "", ""),
+        )
+        proto = Proto("(I[[JLx/Y;[Z)V")
+        self.check(
+            "a prototype",
+            proto.parameters == ("I", "[[J", "Lx/Y;", "[Z") and proto.returns == "V" and Proto("()[I").parameters == (),
+        )
+        method, field = MethodRef.of("[LA;", "<init>", "(I)V"), FieldRef.of("La-;", "x-", "[LB;")
+        self.check_equal(
+            "a method's parts",
+            (method, method.owner, method.name, method.proto),
+            ("[LA;-><init>(I)V", "[LA;", "<init>", "(I)V"),
+        )
+        self.check_equal(
+            "a field's parts", (field, field.owner, field.name, field.type), ("La-;->x-:[LB;", "La-;", "x-", "[LB;")
+        )
+        known: dict[str, int] = {method: 1}
+        self.check("names hash", known["[LA;-><init>(I)V"] == 1 and pickle.loads(pickle.dumps(method)) == method)
+
+    def test_finding(self) -> None:
+        """How classes and members are found."""
+        program = Program.parse(HELLO)
+        hello = program["LHello;"]
+        self.check_equal(
+            "names of members",
+            (hello.ref(hello.methods[0]), hello.ref(hello.fields[0])),
+            ("LHello;->get(Z)I", "LHello;->name:Ljava/lang/String;"),
+        )
+        self.check(
+            "a class is found",
+            "LHello;" in program and "LB;" not in program and 5 not in program and program["LHello;"] is hello,
+        )
+        for find, wrong in (
+            (program.__getitem__, "LB;"),
+            (hello.method, "get(I)I"),
+            (hello.method, "put"),
+            (hello.field, "name:I"),
+        ):
+            try:
+                self.check(f"no {wrong}", False, find(wrong))
+            except KeyError:
+                self.check(f"no {wrong}", True)
+        hello.directs.append(Method("get", Proto("()V")))
+        self.check("a method is found", hello.method("get()V") is hello.directs[-1])
+        try:
+            self.check("a name of two methods", False, hello.method("get"))
+        except KeyError:
+            self.check("a name of two methods", True)
+        hello.name = Type("LB;")
+        self.check("a class of another name", program["LB;"] is hello and "LHello;" not in program)
+        program.classes.append(Class(Type("LB;"), 0x10))
+        program.classes.append(Class(Type("LC;")))
+        self.check("classes behind", program["LB;"] is hello and program["LC;"] is program.classes[2])
+        del program.classes[1:]
+        self.check("classes that are gone", "LC;" not in program and program["LB;"] is hello)
+        program.classes.insert(0, Class(Type("LHello;")))
+        self.check(
+            "a class in front",
+            program["LHello;"] is program.classes[0]
+            and program.classes[1] is hello
+            and [*program.classes.names()] == ["LHello;", "LB;"],
+        )
+
+    def test_places(self) -> None:
+        """A refusal says in which class, member and instruction it stands."""
+        seen: Any
+        for what, (change, number, member, insn) in PLACES.items():
+            seen = changed(both(change))
+            place = (seen.number, seen.class_name, seen.member, seen.insn) if isinstance(seen, Refused) else seen
+            want = (number, "LHello;", member and f"LHello;->{member}", insn)
+            self.check(f"the place of {what}", place == want, (place, str(seen)))
+        seen = changed(inserted("pick", 1, WIDE))
+        said = "LHello;->pick(I)V, instruction 1: 42000: a number from -32768 to 32767 stands here; const takes more"
+        self.check_equal("its line", str(seen), f"refused 102 Number at {seen.place}: {said}")
+        again = pickle.loads(pickle.dumps(seen))
+        self.check_equal(
+            "it is pickled whole", (str(again), again.insn, again.member), (str(seen), 1, "LHello;->pick(I)V")
+        )
+        self.check_equal("where there is no program", str(Refused(8, "Checksum", 8)), "refused 8 Checksum at 8")
 
 
-def main(given: argparse.Namespace) -> int:
-    print(try_all(given.count or 500, given.edits, given.seed, given.files))
-    return last_line()
+class Pages(ObjectsTest):
+    """The pages of the module, and its types."""
+
+    def test_readme(self) -> None:
+        """The examples of the module's page, as they stand there."""
+        examples = [text for kind, text in page("python/README.md") if kind == "python"]
+        text = CALLED
+        with tempfile.TemporaryDirectory() as at:
+            with open(f"{at}/a.dex", "wb") as file:
+                file.write(dexasm.assemble(text))
+            place, *answers = [run([sys.executable, "-c", example], at) for example in examples]
+            made = [list_of(f"{at}/{name}.dex") for name in ("patched", "renamed")]
+        said = (
+            "refused 118 Register at 0: LHello;->m()V, instruction 0: v9 of 2 registers\n5; 9; v9; v9 of 2 registers\n"
+        )
+        self.check_equal("README: a place", place, said)
+        self.check(
+            "README: examples, under twenty lines each",
+            len(examples) == 5 and all(example.count("\n") < 20 for example in examples),
+            len(examples),
+        )
+        self.check(
+            "README: a constant", answers[0] == "" and made[0] == text.replace("v0 41", "v0 42"), (answers[0], made[0])
+        )
+        self.check(
+            "README: a method",
+            answers[1] == "" and made[1] == text.replace("get (Z)I", "fetch (Z)I").replace("->get(Z)I", "->fetch(Z)I"),
+            answers[1],
+        )
+        self.check_equal("README: calls", answers[2], "LHello;->pick(I)V calls LHello;->get(Z)I\n")
+        self.check_equal("README: packages", answers[3], "2 ''\n1 'a'\n")
+
+    def test_types(self) -> None:
+        """mypy finds nothing to say of the module, nor of one that uses it, and something of one that uses it wrongly."""
+        if not shutil.which("mypy"):
+            self.skipTest("no mypy here: the types of the module aren't tried")
+        with tempfile.TemporaryDirectory() as at:
+            for name, text in (("user", USER), ("wrong", USER.replace("number: int", "number: str"))):
+                with open(f"{at}/{name}.py", "w", encoding="ascii") as file:
+                    file.write(text)
+            folder = os.path.join(TOP, "python", "src", "dexasm")
+            words = ["mypy", "--strict", "--python-version", "3.10", "--cache-dir", f"{at}/cache"]
+            seen = run([*words, folder, "user.py"], at)
+            self.check("mypy of the module", seen.startswith("Success: "), seen)
+            seen = run([*words, folder, "wrong.py"], at)
+            self.check("mypy of a wrong use", seen.startswith("wrong.py:8: error: ") and "Found 1 error" in seen, seen)
+
+    def test_cookbook(self) -> None:
+        """The cookbook's programs, by its sessions, in the order of the page."""
+        blocks = page("docs/COOKBOOK-PYTHON.md")
+        programs = {sought(r'^"""([\w-]+)', text)[1]: text for kind, text in blocks if kind == "python"}
+        sessions = [
+            step.split("\n", 1)
+            for kind, text in blocks
+            if kind == "console"
+            for step in re.split(r"^\$ ", text, flags=re.M)[1:]
+        ]
+        self.check("COOKBOOK-PYTHON: five programs", len(programs) == 5, [*programs])
+        self.check(
+            "COOKBOOK-PYTHON: each is run", all(any(f"{name}.py" in it[0] for it in sessions) for name in programs)
+        )
+        with tempfile.TemporaryDirectory() as at:
+            os.mkdir(f"{at}/bin")
+            os.symlink(sys.executable, f"{at}/bin/python3")
+            for name, text in programs.items():
+                with open(f"{at}/{name}.py", "w", encoding="utf8") as file:
+                    file.write(text)
+            for command, want in sessions:
+                seen = run(["bash", "-c", command], at)
+                self.check_equal(f"COOKBOOK-PYTHON: {command}", seen, want)
+
+
+class Laws(ModuleTest, edits.LawsTest):
+    """On programs that are made at random, and on those of a folder."""
+
+    def test_laws(self) -> None:
+        made = made_files(random.Random(tried.seed()), tried.count(20))
+        for at, data in enumerate(made):
+            self.check_laws(f"seed {tried.seed()}, file {at}", data)
+
+    def test_files(self) -> None:
+        if not tried.files():
+            self.skipTest("no folder of .dex files is named: DEXASM_TESTS_FILES")
+        for path in sorted(glob.glob(os.path.join(glob.escape(tried.files()), "**", "*.dex"), recursive=True)):
+            with open(path, "rb") as file:
+                data = file.read()
+            if is_accepted(data):
+                self.check_laws(path, data)
+
+    def test_edits(self) -> None:
+        rng, count = random.Random(tried.seed()), tried.edits(200)
+        made = made_files(rng, tried.count(20))
+        written = sum(self.check_edit(f"seed {tried.seed()}, edit {at}", rng, rng.choice(made)) for at in range(count))
+        self.check("edits of both kinds", count // 5 < written < count, written)
+        print(f"{len(made)} made files, {written} of {count} edits written")

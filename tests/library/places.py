@@ -1,23 +1,17 @@
-"""Where the binding for Java finds a refusal in a listing, for tools/try library: each line is that of a mark in the
+"""Where the binding for Java finds a refusal in a listing: each line is that of a mark in the
 text, and of texts at random the one that the module for Python finds, which asks the rules and not the library.
 """
-from __future__ import annotations
-
 import itertools
-import os
 import random
 from collections.abc import Iterator
-from typing import TYPE_CHECKING, Any
+from typing import Any
 
-from python.tests.test_faultlines import BODIES, CLASS, CODE, HEAD, filled, large, marked, refused, surrounded
-from tests.oracle.texts import random_texts
-
-if TYPE_CHECKING:
-    from tests.library.test_java import Java
+from python.tests.marked import BODIES, CLASS, CODE, HEAD, filled, large, marked, refused, surrounded
+from ..base import MEGABYTE
+from ..oracle.texts import random_texts
 
 # Whose line is the very one; of the others it is that, or the member's, or the class's.
 EXACT = (82, 85, 87, 88, 110, 112, 113, 114, 115, 117, 118)
-MEGABYTE = 1 << 20
 END = "end code", "end class"
 FIRST = "dex 035", "class L\\u0041; 1", "direct \\u006d ()V 0", "code 1 0 0"
 LABEL = ":" + "n" * 32
@@ -38,21 +32,6 @@ HOSTILE = (
     [HEAD, CLASS, *CODE, *CAUGHT, *END],
     [HEAD, *BEFORE, "   class   «LA;»   0x0001", "super LB;", "end class"],
 )
-
-
-def try_places(java: Java, seed: int = 2, count: int = 120) -> None:
-    folder = os.path.join(java.folder, "places")
-    os.makedirs(folder)
-    rows = []
-    for at, (text, align, lines, names) in enumerate(itertools.chain(marks(), at_random(seed, count))):
-        with open(f"{folder}/{at}", "wb") as file:
-            file.write(text)
-        rows.append(f"{at}\t{int(align)}\t{' '.join(map(str, lines))}\t{names}")
-    with open(f"{folder}/places", "w", encoding="ascii") as file:
-        file.write("\n".join(rows))
-    status, out, said = java.run("-Xmx1g", "-XX:+UseSerialGC", "-cp", java.path(), "Tries", "places", folder)
-    is_so = status == 0 and out.endswith(b" tried, 0 failed\n") and len(rows) > 250
-    java.check("Java: the places of refusals", is_so, f"{status} {out!r} {said[-600:]}")
 
 
 def texts() -> Iterator[tuple[int, list[str]]]:

@@ -1,29 +1,23 @@
-"""How the binding for Java brings answers to files, for java.py: by the tries of the module for Python, which has the
-same rules (the part contrib's deliver.py), in one process; with its calls of the C library failed one by one; and with
-those of the system failed, or ended by a signal, by strace."""
-from __future__ import annotations
-
+"""How the binding for Java brings answers to files: by the tests of the module for Python, which has the same rules, in
+one process; with its calls of the C library failed one by one; and with those of the system failed, or ended by a
+signal, by strace."""
 import concurrent.futures
+import contextlib
 import errno
 import os
 import re
 import resource
 import subprocess
-import sys
 import threading
 from collections.abc import Sequence
-from typing import TYPE_CHECKING, Any
+from typing import Any
 from urllib.parse import quote, unquote
 
-from python.tests import test_deliver as deliver, test_deliver_calls as deliver_calls
+from python.tests import outs, settings
 from python.tests.tools import rooms
+from ..base import LIMIT
+from .java import QUICK, Java, JavaTest, made
 
-if TYPE_CHECKING:
-    from tests.library.test_java import Java
-
-QUICK = ("-XX:TieredStopAtLevel=1", "-XX:+UseSerialGC", "-XX:-UsePerfData", "-Xshare:auto")  # for short runs
-LIMIT = 600  # seconds for all that one process is asked for, or for one run under strace
-SAME = (deliver.try_plain, deliver.try_names, deliver.try_rights, deliver.try_users, deliver.try_shut)
 NAMES = {os.strerror(number): name for number, name in errno.errorcode.items()}
 # The calls by which an answer is brought. Each is failed by the first of these errors, and some by more.
 CALLS = (
@@ -38,9 +32,9 @@ MORE = {
 # Access control lists, and what the owner, the group and the others may do with a file that can't have them: whom a
 # list names may do no more as one of the group or the others, and the mask holds for all that it names and the group.
 LISTS = (
-    (deliver.listed(6, 6, 6, 4, 4), 0o644), (deliver.listed(6, 7, 6, 4, 6), 0o644),
-    (deliver.listed(6, 0, 4, 4, 4), 0o600), (deliver.listed(6, 4, 6, 6, 6), 0o644),
-    (deliver.listed(6, 6, 0, 6, 0), 0o600),
+    (outs.listed(6, 6, 6, 4, 4), 0o644), (outs.listed(6, 7, 6, 4, 6), 0o644),
+    (outs.listed(6, 0, 4, 4, 4), 0o600), (outs.listed(6, 4, 6, 6, 6), 0o644),
+    (outs.listed(6, 6, 0, 6, 0), 0o600),
 )  # fmt: skip
 # How bringing ends where some of these failed.
 TOLD = {(call, error): error for call in ("write", "fsync", "rename") for error in ("ENOSPC", "EIO")}
@@ -96,15 +90,15 @@ INJECTED = (
 
 
 class Process:
-    """Outs of bindings/java/test: one process that brings answers to files, as deliver.py of the part contrib asks."""
+    """Outs of bindings/java/test: one process that brings answers to files, as outs.py of the part contrib asks."""
 
     def __init__(self, words: list[str], env: dict[str, str]) -> None:
         self.process = subprocess.Popen(words, stdin=subprocess.PIPE, stdout=subprocess.PIPE, env=env)
-        self.timer = threading.Timer(LIMIT, self.process.kill)
+        self.timer = threading.Timer(5 * LIMIT, self.process.kill)
         self.timer.start()
-        self.given = os.path.join(rooms.Tries.folder, "given to Java")
+        self.given = os.path.join(rooms.scratch(), "given to Java")
 
-    def __enter__(self) -> Process:
+    def __enter__(self) -> "Process":
         return self
 
     def __exit__(self, *_: object) -> None:
@@ -117,7 +111,7 @@ class Process:
     def ran(
         self,
         out: str | bytes | os.PathLike[str],
-        given: bytes = deliver.NEW,
+        given: bytes = outs.NEW,
         user: int = 0,
         groups: Sequence[int] = (),
         mask: int = 0o022,
@@ -144,83 +138,13 @@ def words_of(java: Java, *more: str) -> list[str]:
     return ["java", *QUICK, f"-Ddexasm.library={java.library}/libdexasm.so", "-cp", java.path(), *more]
 
 
-def try_same(java: Java) -> None:
-    """The tries of the module for Python, of the binding for Java."""
-
-    def check(what: str, is_so: object, seen: object = "") -> None:
-        java.check(what.replace("deliver,", "Java: OUT,"), is_so, seen)
-
-    module: Any = deliver  # (two of its functions are replaced by others, which take less)
-    before = module.ran, module.check
-    with Process(words_of(java, "dexasm.Outs"), java.env) as process:
-        module.ran, module.check = process.ran, check
-        try:
-            for one in SAME:
-                one()
-        finally:
-            module.ran, module.check = before
-
-
-def try_faults(java: Java) -> None:
-    """Each call of the C library, failed in turn: OUT is what it was or the answer, or that stands whole beside."""
-    failing = java.compiled_c("failing.so", FAILING)
-    if failing is None:
-        print("tools/try library: Java: no C compiler here: no calls are failed", file=sys.stderr)
-        return
-    with Process(words_of(java, "dexasm.Outs"), java.env | {"LD_PRELOAD": failing}) as process:
-        try_lists(java, process)
-        for name, setting in deliver_calls.SETTINGS.items():
-            if os.geteuid() and (setting.user or name in ("a mount point", "an immutable folder")):
-                continue
-            try:
-                deliver_calls.Room(name).end()
-            except (OSError, subprocess.CalledProcessError):
-                continue  # (none can be set up here)
-            count = sum(fail_each(java, process, name, call) for call in CALLS)
-            java.check(f"Java: OUT, {name}, calls are failed", count > 10, count)
-
-
-def try_lists(java: Java, process: Process) -> None:
-    """An access control list that can't be given."""
-    out = deliver.made(rooms.room("lists"))
-    for given, mode in LISTS:
-        try:
-            os.setxattr(out, deliver.ACL, given)
-        except OSError:
-            return
-        seen = process.ran(out, fault=f"fsetxattr 1 {errno.EOPNOTSUPP}")
-        is_so = seen == "done\0" and deliver.acl_of(out) is None and deliver.mode_of(out) == mode
-        java.check(f"Java: OUT, a list that can't be given, {mode:o}", is_so, f"{seen!r} {deliver.mode_of(out):o}")
-
-
-def fail_each(java: Java, process: Process, name: str, call: str) -> int:
-    """How many runs have met what was to fail."""
-    count = 0
-    for error in MORE.get(call, ERRORS[:1]):
-        for nth in range(1, 100):
-            room = deliver_calls.Room(name)
-            try:
-                fault = f"{call} {nth} {getattr(errno, error)}"
-                ended, *is_met = process.ran(room.out, mask=0, user=room.setting.user, fault=fault).split("\0")
-                wrong = room.wrong(0 if ended == "done" else 3, f"{call}:{error}", "")
-                if is_met and (call, error) in TOLD:
-                    wrong = wrong or (None if ended.split()[0] == TOLD[call, error] else "it isn't told so")
-            finally:
-                room.end()
-            java.check(f"Java: OUT, {name}, {call} {nth} ends with {error}", wrong is None, f"{ended} {wrong}")
-            if not is_met:
-                break
-            count += 1
-    return count
-
-
-class Traced(deliver_calls.Room):
+class Traced(settings.Room):
     """A folder in which OUT stands, and a process of its own that writes it under strace."""
 
     def run_java(self, java: Java, injected: str | None = None) -> tuple[int, list[str], str]:
         log, part = f"{self.home}/log", f"{self.real}.0.part"
         words = ["strace", "-qq", "-f", "-s", "0", "-o", log, "-P", part, "-P", "/it begins"]
-        words += ["-e", f"trace={deliver_calls.CALLS},statx"]
+        words += ["-e", f"trace={settings.CALLS},statx"]
         if injected and "signal" in injected:
             # (what comes after the call waits, so that a process that ends by the signal would end before it)
             slow = ",".join(call for call in ("fsync", "rename") if not injected.startswith(call))
@@ -228,47 +152,101 @@ class Traced(deliver_calls.Room):
         else:
             words += ["--seccomp-bpf", *(["-e", f"inject={injected}"] if injected else [])]  # (no signal comes by that)
         words += words_of(java, "dexasm.Outs", self.out, f"{self.home}/given")
-        done = subprocess.run(words, stdin=subprocess.DEVNULL, capture_output=True, timeout=LIMIT, env=java.env)
+        done = subprocess.run(words, stdin=subprocess.DEVNULL, capture_output=True, timeout=5 * LIMIT, env=java.env)
         calls = rooms.get(log).decode("utf8", "replace").splitlines()
         return done.returncode if done.returncode < 128 else 128 - done.returncode, calls, done.stderr.decode("latin1")
 
 
-def traced(java: Java, injected: str | None = None) -> tuple[str | None, list[str]]:
-    """What is wrong with what a run leaves, and its calls."""
-    room = Traced("one name")
-    try:
-        status, calls, told = room.run_java(java, injected)
-        signal = re.search("SIG[A-Z]+", injected or "")
-        is_met = injected is None or any((signal[0] if signal else "INJECTED") in call for call in calls)
-        return room.wrong(status, injected, told) or (None if is_met else "nothing was injected"), calls
-    except subprocess.TimeoutExpired:
-        return "late", []
-    finally:
-        room.end()
+class JavaFaults(JavaTest):
+    def setUp(self) -> None:
+        super().setUp()
+        os.chmod(rooms.scratch(), 0o711)  # (for the cases of another user)
 
+    def test_faults(self) -> None:
+        """Each call of the C library, failed in turn: OUT is what it was or the answer, or that stands whole beside."""
+        failing = self.java.compiled_c("failing.so", FAILING)
+        if failing is None:
+            self.skipTest("no C compiler here: no calls are failed")
+        with Process(words_of(self.java, "dexasm.Outs"), self.java.env | {"LD_PRELOAD": failing}) as process:
+            self.check_lists(process)
+            for name, setting in settings.SETTINGS.items():
+                if os.geteuid() and (setting.user or name in ("a mount point", "an immutable folder")):
+                    continue
+                try:
+                    settings.Room(name).end()
+                except (OSError, subprocess.CalledProcessError):
+                    continue  # (none can be set up here)
+                count = sum(self.fail_each(process, name, call) for call in CALLS)
+                self.check(f"Java: OUT, {name}, calls are failed", count > 10, count)
 
-def try_traced(java: Java) -> None:
-    if not rooms.can_trace():
-        print("tools/try library: Java: no strace here, or it may not trace", file=sys.stderr)
-        return
-    wrong, calls = traced(java)
-    order = deliver_calls.order_wrong("one name", calls) if wrong is None else None
-    java.check("Java: OUT, the order of its calls", not wrong and order is None, f"{wrong} {order}")
-    with concurrent.futures.ThreadPoolExecutor(os.cpu_count() or 1) as pool:
-        for injected, (seen, _) in zip(INJECTED, pool.map(lambda one: traced(java, one), INJECTED)):
-            java.check(f"Java: OUT, {injected}", seen is None, seen)
+    def check_lists(self, process: Process) -> None:
+        """An access control list that can't be given."""
+        out = outs.made(rooms.room("lists"))
+        for given, mode in LISTS:
+            try:
+                os.setxattr(out, outs.ACL, given)
+            except OSError:
+                return
+            seen = process.ran(out, fault=f"fsetxattr 1 {errno.EOPNOTSUPP}")
+            is_so = seen == "done\0" and outs.acl_of(out) is None and outs.mode_of(out) == mode
+            self.check(f"Java: OUT, a list that can't be given, {mode:o}", is_so, f"{seen!r} {outs.mode_of(out):o}")
 
+    def fail_each(self, process: Process, name: str, call: str) -> int:
+        """How many runs have met what was to fail."""
+        count = 0
+        for error in MORE.get(call, ERRORS[:1]):
+            for nth in range(1, 100):
+                room = settings.Room(name)
+                try:
+                    fault = f"{call} {nth} {getattr(errno, error)}"
+                    ended, *is_met = process.ran(room.out, mask=0, user=room.setting.user, fault=fault).split("\0")
+                    wrong = room.wrong(0 if ended == "done" else 3, f"{call}:{error}", "")
+                    if is_met and (call, error) in TOLD:
+                        wrong = wrong or (None if ended.split()[0] == TOLD[call, error] else "it isn't told so")
+                finally:
+                    room.end()
+                self.check(f"Java: OUT, {name}, {call} {nth} ends with {error}", wrong is None, f"{ended} {wrong}")
+                if not is_met:
+                    break
+                count += 1
+        return count
 
-PARTS = (try_same, try_faults, try_traced)
-
-
-def try_java_outs(java: Java) -> None:
-    """All of it; `java` is that of java.py."""
-    rooms.Tries.folder, rooms.Tries.env = os.path.realpath(os.path.join(java.folder, "outs")), java.env
-    os.mkdir(rooms.Tries.folder)
-    os.chmod(rooms.Tries.folder, 0o711)  # for the cases of another user
-    for part in PARTS:
+    def traced(self, injected: str | None = None) -> tuple[str | None, list[str]]:
+        """What is wrong with what a run leaves, and its calls."""
+        room = Traced("one name")
         try:
-            part(java)
-        except Exception as error:
-            java.check(f"Java: {part.__name__}, which ends there", False, repr(error))
+            status, calls, told = room.run_java(self.java, injected)
+            signal = re.search("SIG[A-Z]+", injected or "")
+            is_met = injected is None or any((signal[0] if signal else "INJECTED") in call for call in calls)
+            return room.wrong(status, injected, told) or (None if is_met else "nothing was injected"), calls
+        except subprocess.TimeoutExpired:
+            return "late", []
+        finally:
+            room.end()
+
+    def test_traced(self) -> None:
+        if not rooms.can_trace():
+            self.skipTest("no strace here, or it may not trace")
+        wrong, calls = self.traced()
+        order = settings.order_wrong("one name", calls) if wrong is None else None
+        self.check("Java: OUT, the order of its calls", not wrong and order is None, f"{wrong} {order}")
+        with concurrent.futures.ThreadPoolExecutor(os.cpu_count() or 1) as pool:
+            for injected, (seen, _) in zip(INJECTED, pool.map(self.traced, INJECTED)):
+                self.check(f"Java: OUT, {injected}", seen is None, seen)
+
+
+class JavaOut(outs.OutTest):
+    """The tests of the module for Python, of the binding for Java."""
+
+    by = "Java: OUT"
+
+    def setUp(self) -> None:
+        super().setUp()
+        java = made()
+        os.chmod(rooms.scratch(), 0o711)
+        stack = contextlib.ExitStack()
+        self.process = stack.enter_context(Process(words_of(java, "dexasm.Outs"), java.env))
+        self.addCleanup(stack.close)
+
+    def ran(self, *words: Any, **options: Any) -> str:
+        return self.process.ran(*words, **options)

@@ -13,14 +13,12 @@ import zipfile
 from collections.abc import Callable, Sequence
 from typing import Any
 
+from shapes import File, code, file_of_body, shared_code, sleb, uleb
 from .. import TOP, sought, tried
 from ..base import LIMIT, MEGABYTE, Ended, TestCase, ended, get, limited
 from ..samples import NUMBERED, ODD, closed, without_classes
 from ..samples import ONE_CLASS as LISTING
 from . import out_cases, terminal_cases
-
-sys.path.append(os.path.join(TOP, "bench/hostile"))
-from shapes import File, code, file_of_body, shared_code, sleb, uleb  # noqa: E402
 
 TEXTS = os.path.join(TOP, "crates/dexasm_plan/src/texts.rt")
 CANNOT_READ, CANNOT_WRITE = "dexasm: cannot read\n", "dexasm: cannot write\n"

@@ -1,1 +1,1 @@
-"""The helpers of python/src/dexasm/tools, each in a module of its own, and the recipes of the pages."""
+"""Tests of the helpers, each in a module of its own, and of the recipes of the pages."""

@@ -10,7 +10,7 @@ import subprocess
 import time
 from typing import Any
 
-from python.tests.tools.rooms import Tries, path
+from .rooms import environment, path
 
 Message = dict[str, Any]  # of the protocol, as JSON has it
 WAIT = 30  # seconds for an answer
@@ -46,7 +46,7 @@ class Browser:
             stderr=subprocess.DEVNULL,
             close_fds=False,
             preexec_fn=place,
-            env=Tries.env,
+            env=environment(),
         )
         os.close(to_read)
         os.close(to_write)

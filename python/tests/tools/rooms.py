@@ -1,4 +1,5 @@
-"""What the tries of the helpers share: the rooms that they are tried in, and how they are run there."""
+"""What the tests of the helpers share: the rooms that they are tried in, and how they are run there."""
+import atexit
 import collections
 import concurrent.futures
 import functools
@@ -13,11 +14,10 @@ import tempfile
 from collections.abc import Callable, Collection, Iterable, Sequence
 from typing import Any, TypeVar
 
-from parts import TOP as TOP
-from parts.tries.trying import can_trace as is_strace_there, check as check  # noqa: F401 (each try takes it from here)
+from tests import TOP as TOP, tried
+from tests.base import LIMIT as LIMIT, TestCase, can_trace as is_strace_there
 
 TOOLS = os.path.join(TOP, "python", "bin")
-LIMIT = 60  # seconds for a command
 Ended = tuple[int | str, str, str]  # status, or "late"; standard output; standard error
 Case = TypeVar("Case", bound=tuple[Any, ...])
 Answer = TypeVar("Answer")
@@ -69,37 +69,40 @@ NAMES = (
 )
 
 
-class Tries:
-    """What is tried: the program, the library, in which folder, with which environment."""
+class HelperTest(TestCase):
+    """A test of what is run as a command; each by this very Python."""
 
-    program = library = ""
-    folder = ""
-    env: dict[str, str] = {}
+    @classmethod
+    def setUpClass(cls) -> None:
+        super().setUpClass()
+        # (a gate in the background ignores SIGINT, and what it starts would too)
+        signal.signal(signal.SIGINT, signal.default_int_handler)
 
 
-def begin(program: str, library: str = "") -> None:
-    """Of this program, in a folder of its own; each helper runs by this very Python."""
-    # (a gate in the background ignores SIGINT, and what it starts would too)
-    signal.signal(signal.SIGINT, signal.default_int_handler)
-    Tries.program, Tries.library = os.path.abspath(program), library and os.path.abspath(library)
-    Tries.folder = tempfile.mkdtemp(prefix="try contrib ")
-    os.mkdir(path("bin"))
-    os.symlink(Tries.program, path("bin", "dexasm"))
+@functools.cache
+def scratch() -> str:
+    """The folder of all tests, which goes when they end."""
+    made = os.path.realpath(tempfile.mkdtemp(prefix="try helpers "))
+    atexit.register(shutil.rmtree, made, ignore_errors=True)
+    os.mkdir(os.path.join(made, "bin"))
+    os.symlink(tried.program(), os.path.join(made, "bin", "dexasm"))
+    return made
+
+
+@functools.cache
+def environment() -> dict[str, str]:
+    """What a command is given: the program that is tried first on its PATH, and the helpers."""
     ways = [path("bin"), TOOLS, os.path.dirname(sys.executable), os.environ["PATH"]]
-    Tries.env = {name: value for name, value in os.environ.items() if not name.startswith(("DEXASM", "GIT_", "PYTHON"))}
-    Tries.env |= {"PATH": os.pathsep.join(ways), "LANG": "C.UTF-8", "HOME": Tries.folder, "NO_PWNED": "1"}
-
-
-def end() -> None:
-    shutil.rmtree(Tries.folder, ignore_errors=True)
+    kept = {name: value for name, value in os.environ.items() if not name.startswith(("DEXASM", "GIT_", "PYTHON"))}
+    return kept | {"PATH": os.pathsep.join(ways), "LANG": "C.UTF-8", "HOME": scratch(), "NO_PWNED": "1"}
 
 
 def path(*parts: str) -> str:
-    return os.path.join(Tries.folder, *parts)
+    return os.path.join(scratch(), *parts)
 
 
 def room(name: str) -> str:
-    """A new folder for one try."""
+    """A new folder for one test."""
     os.makedirs(path(name))
     return path(name)
 
@@ -147,8 +150,8 @@ def run(
             input=given,
             capture_output=True,
             timeout=LIMIT,
-            cwd=at or Tries.folder,
-            env={**Tries.env, **env},
+            cwd=at or scratch(),
+            env={**environment(), **env},
             preexec_fn=limit,
         )
     except subprocess.TimeoutExpired:
@@ -212,7 +215,7 @@ def shell(text: str, at: str, **options: Any) -> Ended:
 
 
 def dexasm(*words: str, given: bytes = b"") -> bytes:
-    out: bytes = subprocess.run([Tries.program, *words], input=given, capture_output=True, timeout=LIMIT).stdout
+    out: bytes = subprocess.run([tried.program(), *words], input=given, capture_output=True, timeout=LIMIT).stdout
     return out
 
 

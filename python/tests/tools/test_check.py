@@ -1,7 +1,6 @@
 """dexasm-check: files, folders, archives and lists that are meant to do harm, in each of its forms, by the library and
 by the command; what can't be looked at is told, and the others go on.
 """
-import functools
 import hashlib
 import io
 import json
@@ -9,7 +8,6 @@ import os
 import pty
 import re
 import shlex
-import shutil
 import signal
 import socket
 import stat
@@ -23,10 +21,28 @@ from typing import Any
 from urllib.parse import unquote_to_bytes
 from xml.etree import ElementTree
 
-from parts import sought
-from python.tests.tools.test_apk import CRC, FLAGS, archive, changed
-from python.tests.tools.test_streams import answers, fake
-from python.tests.tools.rooms import ESC, HEAD, LISTING, NAMES, TOOLS, TOP, Ended, Tries, assembled, check, dexasm, get, put, room, run
+from tests import sought, tried
+from .archives import CRC, FLAGS, archive, changed
+from .checked import alone, properties
+from .rooms import (
+    ESC,
+    HEAD,
+    LISTING,
+    NAMES,
+    TOOLS,
+    TOP,
+    Ended,
+    HelperTest,
+    assembled,
+    dexasm,
+    environment,
+    get,
+    put,
+    room,
+    run,
+)
+from .streaming import answers, fake
+
 
 EVIL = (
     *(os.fsencode(name) for name in NAMES),
@@ -34,7 +50,7 @@ EVIL = (
     b" ::error file=b::x",
     b"##[error]x",
     b"a%0Ab%25%3A,c:d",
-    b"<a b=\"c\">&amp;]]>'",
+    b'<a b="c">&amp;]]>\'',
     b'{"a": "b\\u0000"}\\',
     b"no utf8 \xff\xfe",
     b"surrogate \xed\xa0\x80\xed\xb0\x80",
@@ -44,8 +60,6 @@ EVIL = (
     b"\x9b31m \x7f \x01 \xc2\x9b",
 )
 FORMS = ("", "--json", "--sarif", "--github", "--junit")
-# What GitHub's runner undoes (actions/runner, ActionCommand.cs), in its order.
-RUNNER = (("%0D", "\r"), ("%0A", "\n"), ("%3A", ":"), ("%2C", ","), ("%25", "%"))
 # Of the schema of SARIF 2.1.0, which takes no other properties: what an object has to have, and what else it may.
 SARIF: dict[str, tuple[set[str], set[str]]] = {
     "log": ({"version", "runs"}, {"$schema"}),
@@ -67,21 +81,10 @@ SARIF: dict[str, tuple[set[str], set[str]]] = {
 URI = re.compile(r"(?:[A-Za-z0-9._~!$&'()*+,;=@/:-]|%[0-9A-F]{2})+")
 
 
-@functools.cache
-def alone() -> str:
-    """The helpers without any library beside them: over the command."""
-    at = room("check alone")
-    for folder in ("python/bin", "python/src"):
-        shutil.copytree(os.path.join(TOP, folder), os.path.join(at, folder), ignore=shutil.ignore_patterns("*.so*"))
-    for page in ("FORMAT.md", "LISTING.md"):
-        put(at, f"docs/{page}", get(TOP, "docs", page))
-    return os.path.join(at, "python", "bin")
-
-
 def checked(*words: str, at: str, given: bytes = b"", **env: Any) -> Ended:
     """Status, output and errors; by the library, where there is one."""
-    if Tries.library:
-        env = {"DEXASM_LIBRARY": Tries.library, **env}
+    if tried.shared_library():
+        env = {"DEXASM_LIBRARY": tried.shared_library(), **env}
     return run([os.path.join(TOOLS, "dexasm-check"), *words], given, at, **env)
 
 
@@ -101,111 +104,11 @@ def is_safe(out: str) -> bool:
     )
 
 
-# ---- verdicts
-
-
-def try_verdicts() -> None:
-    """Each kind of input, its line and the status, by the library and by the command alike."""
-    at, file = room("check verdicts"), assembled(LISTING)
-    put(at, "a.dex", file)
-    put(at, "f/B.DeX", damaged(file))
-    put(at, "f/other", b"no file")
-    put(at, "x.txt", LISTING)
-    put(at, "y.txt", b"\n" + HEAD + b"class LA; 0x1\n   super 7\nend class\n")
-    put(at, "z.txt", HEAD + b"class LB; 0x1\nend class\n" + b"class LA; 0x1\nsuper LA;\nend class\n")
-    put(at, "app.apk", archive(("classes2.dex", b"no file"), ("classes.dex", file), ("lib/classes3.dex", b"x")))
-    put(at, "n.jar", archive(("a.class", b"x")))
-    put(at, "n.APK", archive(("a.class", b"x")))
-    words: tuple[str, ...] | str
-    words = ("a.dex", "f", "x.txt", "y.txt", "app.apk", "n.jar", "n.APK", "none")
-    want: str | int
-    want = (
-        "a.dex: ok\n"
-        "f/B.DeX:0x08: error: 8 Checksum: the Adler-32 differs\n"
-        "x.txt: ok\n"
-        "y.txt:4:10: error: 101 Name: 7: it isn't a type, as I or [Ljava/lang/String; (in LA;)\n"
-    )
-    rest = (
-        "app.apk!classes.dex: ok\n"
-        "app.apk!classes2.dex:0x07: error: 1 TooShort: there are fewer than 112 bytes\n"
-        "n.jar: no classes*.dex in it\n"
-        "n.APK: error: no classes*.dex in it\n"
-        "none: error: No such file or directory\n"
-    )
-    seen = checked(*words, at=at)
-    check("dexasm-check, verdicts", seen[::2] == (3, "") and seen[1].startswith(want) and seen[1].endswith(rest), seen)
-    check("dexasm-check, verdicts by the command", by_command(*words, at=at) == seen, by_command(*words, at=at))
-    quiet = "".join(line for line in seen[1].splitlines(True) if ": error: " in line)
-    check("dexasm-check --quiet", checked("--quiet", *words, at=at) == (3, quiet, ""))
-    for words, want in (("a.dex", 0), ("n.jar", 0), ("f", 1), ("app.apk", 1), ("f none", 3), ("n.APK", 3)):
-        seen = checked(*words.split(), at=at)
-        check(f"dexasm-check {words}, its status", seen[0] == want, seen)
-    seen = checked("z.txt", at=at)
-    want = "z.txt:5:7: error: 112 ClassOrder: LA; is its own superclass (in LA;)\n"
-    check("dexasm-check, a class", seen == (1, want, ""), seen)
-
-
-def try_places() -> None:
-    """Where in a listing a rule is broken: in words, and each part of it for machines."""
-    at = room("check places")
-    code = b"class LA; 0x1\ndirect m\\u0041 (I)V 0x8\ncode 2 1 0\n  const/4 v0 1\n  move v0 v9\nend code\nend class\n"
-    put(at, "x.txt", HEAD + code)
-    put(at, "w.txt", HEAD + code.replace(b"v9", b"v16"))
-    where = " (in mA(I)V, instruction 1)\n"
-    want: str | dict[str, Any]
-    want = f"x.txt:6:11: error: 118 Register: v9 of 2 registers{where}"
-    want += f"w.txt:6:11: error: 102 Number: v16: v0 to v15 here; move/from16 or move/16 takes more{where}"
-    for how, runs in (("the library", checked), ("the command", by_command)):
-        seen = runs("x.txt", "w.txt", at=at)
-        check(f"dexasm-check, places by {how}", seen == (1, want, ""), seen)
-    told = json.loads(checked("--json", "x.txt", at=at)[1])
-    want = {"line": 6, "column": 11, "class": "LA;", "member": "mA(I)V", "instruction": 1, "place": 0}
-    check("dexasm-check --json, a place", {name: told[name] for name in want} == want, told)
-
-
-def try_names_decide() -> None:
-    """A listing, an archive or no archive under the name of something else isn't accepted."""
-    at, file = room("check kinds"), assembled(LISTING)
-    zipped = archive(("classes.dex", file))
-    for name, given, want in (
-        ("list.dex", LISTING, ":0x00: error: 2 Magic: "),
-        ("zip.DEX", zipped, ":0x00: error: 2 Magic: "),
-        ("dex.apk", file, ": error: no zip archive can be read: "),
-        ("list.JAR", LISTING, ": error: no zip archive can be read: "),
-        ("inner.apk", archive(("classes.dex", LISTING)), "!classes.dex:0x00: error: 2 Magic: "),
-        ("nested.apk", archive(("classes.dex", zipped)), "!classes.dex:0x"),
-        ("empty", b"", ":0x00: error: 1 TooShort: "),
-        ("empty.zip", b"", ": error: no zip archive can be read: "),
-    ):
-        put(at, name, given)
-        seen = checked(name, at=at)
-        is_so = seen[0] in (1, 3) and seen[1].startswith(name + want) and seen[1].count("\n") == 1
-        check(f"dexasm-check {name}", is_so and seen[2] == "", seen)
-    put(at, "zip", zipped)
-    check("dexasm-check zip", checked("zip", at=at) == (0, "zip!classes.dex: ok\n", ""))
-
-
-def try_programs() -> None:
-    """The program's sum, of a file, of one that isn't packed, and of a listing."""
-    at, file = room("check programs"), assembled(LISTING)
-    longer = file + b"\0\0\0\0"
-    for place, form, number in ((104, "<I", struct.unpack_from("<I", file, 104)[0] + 4), (32, "<I", len(longer))):
-        longer = longer[:place] + struct.pack(form, number) + longer[place + 4 :]
-    put(at, "longer", longer)
-    run([os.path.join(TOOLS, "dexasm-close"), "longer", "--output", "longer.dex"], at=at)
-    put(at, "a.dex", file)
-    put(at, "a.txt", LISTING)
-    put(at, "b.dex", damaged(file))
-    want = hashlib.sha256(dexasm("strip", given=file)).hexdigest()
-    for how, runs in (("the library", checked), ("the command", by_command)):
-        seen = runs("--json", "--program", "a.dex", "a.txt", "longer.dex", "b.dex", at=at)
-        found = [json.loads(line)["program"] for line in seen[1].splitlines()]
-        check(f"dexasm-check --program by {how}", found == [want] * 3 + [None] and seen[0] == 1, seen)
-
-
 # ---- what a device would refuse
 
-LINTED = HEAD + b"""class LA; 0x1
+LINTED = (
+    HEAD
+    + b"""class LA; 0x1
 static n I 0x9 = long 5
 direct m (I)V 0x9
 code 3 1 0
@@ -215,8 +118,11 @@ code 3 1 0
 end code
 end class
 """
+)
 VALUE = "a static field's value is of another type: long in I"
-USED = "v0 holds a new object (java.lang.Object, from {}), and add-int takes an int: first call invoke-direct {{ v0 .. }} "
+USED = (
+    "v0 holds a new object (java.lang.Object, from {}), and add-int takes an int: first call invoke-direct {{ v0 .. }} "
+)
 USED += "Ljava/lang/Object;-><init>"
 IN_FILE = (
     f"LA;->n:I: error: {VALUE} (value-type, dex-format, class_def_item)",
@@ -241,90 +147,6 @@ def linted(at: str) -> tuple[tuple[str, ...], list[str]]:
     told += [f"f.apk!classes.dex: {line}" for line in IN_FILE] + ["f.apk!classes2.dex: ok"]
     told += [f"f.apk!classes3.dex: {line}" for line in IN_FILE] + ["none: error: No such file or directory"]
     return ("a.txt", "b.txt", "c.txt", "d.dex", "e.dex", "f.apk", "none"), told
-
-
-def try_lint() -> None:
-    """What dexasm accepts and a device would refuse, with each thing that is refused in its place."""
-    at = room("check lint")
-    names, told = linted(at)
-    want: tuple[int, str, str] | int
-    for how, runs in (("the library", checked), ("the command", by_command)):
-        for jobs in ("1", "4"):
-            seen = runs("--lint", "--jobs", jobs, *names, at=at)
-            want = (3, "".join(f"{line}\n" for line in told), "")
-            check(f"dexasm-check --lint by {how}, --jobs {jobs}", seen == want, seen)
-    for words, want in (("--lint d.dex", 1), ("--lint b.txt", 0), ("--lint --quiet b.txt", 0), ("d.dex", 0)):
-        check(f"dexasm-check {words}, its status", checked(*words.split(), at=at)[0] == want)
-    both = run([os.path.join(TOOLS, "dexasm-lint"), "--code", "a.txt", "d.dex"], at=at)[1].splitlines()
-    check("dexasm-lint --code tells the same of code", [line for line in told if line in both] == both[1::2], both)
-    shown = on_terminal(at, "--lint", "a.txt", "b.txt", "d.dex")
-    check("dexasm-check --lint on a terminal", f"LA;->n:I: {ESC}[1;31merror:{ESC}[0m a static" in shown, shown)
-
-
-def try_lint_forms() -> None:
-    """The same for machines."""
-    at = room("check lint forms")
-    linted(at)
-    found = [*map(json.loads, checked("--lint", "--json", "--program", "a.txt", "d.dex", at=at)[1].splitlines())]
-    place = ("status", "line", "column", "class", "member", "instruction", "address", "register", "rule", "number")
-    want: list[Any]
-    want = [
-        ("broken", None, None, "LA;", "n:I", None, None, None, "value-type", None),
-        ("broken", 7, 17, "LA;", "m(I)V", 1, None, 0, "uninitialized-use", None),
-        ("broken", None, None, "LA;", "n:I", None, None, None, "value-type", None),
-        ("broken", None, None, "LA;", "m(I)V", 1, 2, 0, "uninitialized-use", None),
-    ]
-    seen = [tuple(one[name] for name in place) for one in found]
-    check("dexasm-check --lint --json", seen == want, found)
-    sentence = "an object is used before its constructor is called"
-    check("dexasm-check --lint --json, sentences", [found[n]["sentence"] for n in (1, 3)] == [sentence] * 2, found)
-    sum_ = hashlib.sha256(dexasm("strip", given=get(at, "d.dex"))).hexdigest()
-    check("dexasm-check --lint --program", [one["program"] for one in found] == [sum_] * 4, found)
-    without = json.loads(checked("--json", "d.dex", at=at)[1])
-    check("dexasm-check --json without --lint", {*found[0]} - {*without} == {"address", "register", "rule", "page"})
-    document = json.loads(checked("--lint", "--sarif", "a.txt", "d.dex", "f.apk", at=at)[1])
-    results = document["runs"][0]["results"]
-    check("dexasm-check --lint --sarif, the schema", [*faults(document)] == [] and len(results) == 8, document)
-    check("dexasm-check --lint --sarif", results[1]["message"]["text"] == USED.format("line 6"), results[1])
-    lines = checked("--lint", "--github", "a.txt", "b.txt", "d.dex", at=at)[1].splitlines()
-    said = USED.format("instruction 0")
-    want = [
-        f"::error file=a.txt,title=value-type::a.txt: {VALUE} (in LA;->n:I)",
-        f"::error file=a.txt,line=7,col=17,title=uninitialized-use::a.txt:7:17: {USED.format('line 6')} (in LA;->m(I)V)",
-        f"::error file=d.dex,title=value-type::d.dex: {VALUE} (in LA;->n:I)",
-        f"::error file=d.dex,title=uninitialized-use::d.dex: instruction 1 (0x02): {said} (in LA;->m(I)V)",
-    ]
-    check("dexasm-check --lint --github", lines == want, lines)
-    out = checked("--lint", "--junit", "a.txt", "b.txt", "d.dex", at=at)[1]
-    cases = [(case.get("name"), len(case)) for case in ElementTree.fromstring(out).findall("testsuite/testcase")]
-    want = [("a.txt", 1), ("a.txt:7:17", 1), ("b.txt", 0), ("d.dex", 1), ("d.dex", 1)]
-    check("dexasm-check --lint --junit", cases == want, out)
-
-
-def try_lint_limits() -> None:
-    """A program that takes too long to be linted, and one at which the worker is killed: what was told stays, once."""
-    at = room("check lint limits")
-    linted(at)
-    program = shlex.quote(Tries.program)
-    # (the command is asked twice of a file with --lint: whether it is accepted, and for its listing)
-    does = '[ "$1" = list ] || exec {0} "$@"\ncat >"$0.$$"\n{1}\nexec {0} "$@" <"$0.$$"'
-    slow = fake(at, "slow/dexasm", does.format(program, "sleep 611"))
-    seen = by_command("--lint", "--seconds", "0.3", "d.dex", "none", at=at, DEXASM_COMMAND=slow)
-    want = "d.dex: error: it takes longer than --seconds\nnone: error: No such file or directory\n"
-    check("dexasm-check --lint, too slow", seen == (3, want, ""), seen)
-    killed = fake(at, "killed/dexasm", does.format(program, "kill -9 $PPID"))
-    seen = by_command("--lint", "d.dex", "b.txt", at=at, DEXASM_COMMAND=killed)
-    want = "d.dex: error: its worker was killed\nb.txt: error: its worker was killed\n"
-    check("dexasm-check --lint, killed", seen == (3, want, ""), seen)
-    seen = run([sys.executable, "-B", "-c", TOLD_ONCE, os.path.join(TOP, "python", "src")], at=at)
-    check("dexasm-check --lint, told once", seen == (0, "broken broken broken killed broken ok\n", ""), seen)
-    head = LINTED.replace(b"add-int v1 v0 v0", b"nop").replace(b"long 5", b"int 5")
-    many = head.replace(b"end class", b"end class\n" + b"".join(
-        b"class LB%d; 0x1\nstatic n I 0x9 = long 5\nend class\n" % number for number in range(3000)
-    ), 1).replace(b"\n\n", b"\n")
-    put(at, "many.txt", many)
-    status, out, said = checked("--lint", "many.txt", at=at)
-    check("dexasm-check --lint, many", (status, said, out.count("\n")) == (1, "", 3000), (status, out[:300], said))
 
 
 # Of a worker that is killed at its second file when it told of one rule, at the next try of two, and then of none.
@@ -368,74 +190,6 @@ def of_names(form: str, at: str) -> Ended:
     given = b"".join(name + b"\0" for name in listed())
     words = ["--quiet", *([form] if form else []), "-"]
     return checked(*words, at=os.path.join(at, "f"), given=given)
-
-
-def try_names() -> None:
-    """Names that a terminal, GitHub's runner, or a reader of JSON, XML or SARIF could take for something else."""
-    at = evil("check names")
-    names = listed()
-    status, out, said = of_names("", at)
-    check("dexasm-check, names", (status, said) == (1, "") and is_safe(out) and out.count("\n") == len(names), out)
-    status, out, said = of_names("--json", at)
-    found = [json.loads(line) for line in out.splitlines()]
-    uris = [unquote_to_bytes(one["uri"]) for one in found]
-    check("dexasm-check --json, names", (status, said, uris) == (1, "", names) and out.isascii(), out)
-    is_text = all(not re.search("[\ud800-\udfff]", one["file"]) for one in found)
-    check("dexasm-check --json, names are texts", is_text and found[0].keys() == found[-1].keys(), out)
-    status, out, said = of_names("--github", at)
-    lines = out.encode("latin1").decode("utf8").splitlines()
-    check("dexasm-check --github, names", (status, said, len(lines)) == (1, "", len(names)), (status, out, said))
-    for line, name in zip(lines, names):
-        file = properties(line).get("file")
-        is_same = file == name.decode("utf8", "replace") or "\\" in (file or "")
-        is_exact = file == name.decode("utf8", "replace") or not name.decode("utf8", "replace").isprintable()
-        is_exact = is_exact or b"\xff" in name or b"\xed" in name or b"\x9b" in name
-        check(f"dexasm-check --github, {name!r}", is_same and is_exact and line.isprintable(), line)
-    status, out, said = of_names("--junit", at)
-    cases = ElementTree.fromstring(out).findall("testsuite/testcase")
-    is_so = len(cases) == len(names) and all(case.attrib["name"].isprintable() for case in cases)
-    check("dexasm-check --junit, names", (status, said) == (1, "") and is_so and out.isascii(), out)
-
-
-def properties(line: str) -> dict[str, str]:
-    """The properties of a command, as GitHub's runner reads them; {} of what is none."""
-    head = re.match(r"::error ([^\n]*?)::", line)
-    found: dict[str, str] = {}
-    for one in head[1].split(",") if head else ():
-        name, _, value = one.partition("=")
-        for said, is_meant in RUNNER:
-            value = value.replace(said, is_meant)
-        found[name] = value
-    return found
-
-
-def try_sarif() -> None:
-    """The document keeps the schema's rules, and says the very names; of an archive's entry it has no region."""
-    at = evil("check sarif")
-    status, out, said = of_names("--sarif", at)
-    document = json.loads(out)
-    results = document["runs"][0]["results"]
-    uris = [one["locations"][0]["physicalLocation"]["artifactLocation"]["uri"] for one in results]
-    check("dexasm-check --sarif, names", (status, said, [*map(unquote_to_bytes, uris)]) == (1, "", listed()), out)
-    put(at, "y.txt", HEAD + b"class LA; 0x1\nsuper 7\nend class\n")
-    put(at, "a.apk", archive(("classes.dex", damaged(assembled(LISTING))), ("classes2.dex", assembled(LISTING))))
-    whole = os.path.join(at, "f", "-x.dex")
-    status, out, said = checked("--sarif", "./y.txt", "a.apk", "none", whole, at=at)
-    other = json.loads(out)
-    check("dexasm-check --sarif, the schema", [*faults(document), *faults(other)] == [], [*faults(other)])
-    results, invocation = other["runs"][0]["results"], other["runs"][0]["invocations"][0]
-    places = [one["locations"][0]["physicalLocation"] for one in results]
-    want = [
-        {"artifactLocation": {"uri": "y.txt"}, "region": {"startLine": 3, "startColumn": 7}},
-        {"artifactLocation": {"uri": "a.apk"}},
-        {"artifactLocation": {"uri": "file://" + whole.replace(" ", "%20")}, "region": {"byteOffset": 7}},
-    ]
-    check("dexasm-check --sarif, places", places == want and status == 3, places)
-    rules = [one["ruleId"] for one in results]
-    is_so = rules == ["101", "8", "1"] and invocation["executionSuccessful"] is False
-    check("dexasm-check --sarif, what couldn't be read", is_so and invocation["exitCode"] == 3, other)
-    seen = checked("--sarif", "--jobs", "1", "a.apk", at=at)
-    check("dexasm-check --sarif, all could", json.loads(seen[1])["runs"][0]["invocations"][0]["executionSuccessful"])
 
 
 def faults(document: dict[str, Any]) -> Iterator[str]:
@@ -486,140 +240,6 @@ def located(kind: str, given: dict[str, Any]) -> Iterator[str]:
             yield f"region {region}"
 
 
-# ---- what can't be looked at
-
-
-def try_no_files() -> None:
-    """Pipes, devices, sockets, loops of links, what isn't there: a line each, and the others go on."""
-    at, file = room("check no files"), assembled(LISTING)
-    put(at, "a.dex", file)
-    os.mkfifo(os.path.join(at, "fifo.dex"))
-    os.symlink("loop", os.path.join(at, "loop"))
-    os.symlink("a.dex", os.path.join(at, "link.dex"))
-    with socket.socket(socket.AF_UNIX) as listening:
-        listening.bind(os.path.relpath(os.path.join(at, "socket.dex")))
-    words = ("fifo.dex", "loop", "/dev/zero", "socket.dex", "", "n" * 300, "a.dex/b", "a.dex", "link.dex")
-    for how, runs in (("the library", checked), ("the command", by_command)):
-        status, out, said = runs(*words, at=at)
-        lines = out.splitlines()
-        is_so = lines[-2:] == ["a.dex: ok", "link.dex: ok"] and all(": error: " in line for line in lines[:-2])
-        is_so = is_so and (status, said, len(lines)) == (3, "", 9)
-        check(f"dexasm-check, no files, by {how}", is_so, (status, out, said))
-    put(at, "d/x.DEX", file)
-    put(at, "d/other.txt", b"")
-    os.mkfifo(os.path.join(at, "d", "fifo.dex"))
-    for name, to in (("up", ".."), ("top", "/"), ("l.dex", "/etc/passwd")):
-        os.symlink(to, os.path.join(at, "d", name))
-    check("dexasm-check, links in a folder", checked("d", at=at) == (0, "d/x.DEX: ok\n", ""), checked("d", at=at))
-
-
-def try_folders() -> None:
-    """A folder that can't be read: one that is too deep for a name, and one of no rights."""
-    at, file = room("check folders"), assembled(LISTING)
-    put(at, "f/a.dex", file)
-    put(at, "f/z.dex", file)
-    here = os.open(os.path.join(at, "f"), os.O_RDONLY | os.O_DIRECTORY)
-    for _ in range(18):
-        os.mkdir("d" * 250, dir_fd=here)
-        inner = os.open("d" * 250, os.O_RDONLY | os.O_DIRECTORY, dir_fd=here)
-        os.close(here)
-        here = inner
-    os.close(here)
-    seen = checked("f", at=at)
-    lines = seen[1].splitlines()
-    is_so = lines[:2] == ["f/a.dex: ok", "f/z.dex: ok"] and lines[2].endswith(": error: File name too long")
-    check("dexasm-check, a folder that is too deep", seen[::2] == (3, "") and is_so and len(lines) == 3, seen)
-    put(at, "g/a.dex", file)
-    os.mkdir(os.path.join(at, "g", "b"), 0)
-    put(at, "g/c/d.dex", file)
-    want = "g/a.dex: ok\ng/b: error: Permission denied\ng/c/d.dex: ok\n"
-    if os.geteuid():
-        seen = checked("g", at=at)
-        check("dexasm-check, a folder without rights", seen == (3, want, ""), seen)
-    os.chmod(os.path.join(at, "g", "b"), stat.S_IRWXU)
-
-
-def try_archives() -> None:
-    """Archives that lie, and what is no archive: a line each, with the entry where it is known."""
-    at, file = room("check archives"), assembled(LISTING)
-    good, two = archive(("classes.dex", file)), archive(("classes.dex", file), ("classes2.dex", file))
-    cases = {
-        "encrypted.apk": (changed(two, "classes.dex", *FLAGS, 1), "!classes.dex: error: it is encrypted, or says so"),
-        "sum.apk": (changed(two, "classes.dex", *CRC, 7), "!classes.dex: error: it can't be read: "),
-        "twice.apk": (archive(("classes.dex", file), ("classes.dex", file)), "!classes.dex: error: it is there more "),
-        "cut.apk": (good[:-30], ": error: no zip archive can be read: "),
-        "text.zip": (f"{ESC}[31m".encode(), ": error: no zip archive can be read: "),
-    }
-    for name, (given, want) in cases.items():
-        put(at, name, given)
-        status, out, said = checked(name, at=at)
-        is_so = out.startswith(name + want) and (f"{name}!classes2.dex: ok\n" in out) == (len(given) == len(two))
-        check(f"dexasm-check {name}", (status, said) == (3, "") and is_so and is_safe(out), (status, out, said))
-
-
-def try_bombs() -> None:
-    """What grows past --memory, or says so, or is as large: told as that, fast, and the others go on."""
-    at, file = room("check bombs"), assembled(LISTING)
-    made = io.BytesIO()
-    with zipfile.ZipFile(made, "w", zipfile.ZIP_DEFLATED) as zipped:
-        with zipped.open("classes.dex", "w") as entry:
-            for _ in range(40):
-                entry.write(bytes(10 << 20))
-        zipped.writestr("classes2.dex", file)
-    put(at, "bomb.apk", made.getvalue())
-    with open(os.path.join(at, "sparse.dex"), "wb") as sparse:
-        sparse.truncate(1 << 40)
-    put(at, "a.dex", file)
-    want = "it takes more than --memory\n"
-    want = f"bomb.apk!classes.dex: error: {want}bomb.apk!classes2.dex: ok\nsparse.dex: error: {want}a.dex: ok\n"
-    for jobs in ("1", "3"):
-        seen = checked("--memory", "250M", "--jobs", jobs, "bomb.apk", "sparse.dex", "a.dex", at=at)
-        check(f"dexasm-check, bombs, --jobs {jobs}", seen == (4, want, ""), seen)
-
-
-def try_limits() -> None:
-    """A file that takes too long, and one at which the worker is killed: the others go on, and nothing is left."""
-    at, file = room("check limits"), assembled(LISTING)
-    program = shlex.quote(Tries.program)
-    does = 'cat >"$0.$$"; if grep -q SLOW "$0.$$"; then sleep 613; elif grep -q KILL "$0.$$"; then kill -9 $PPID; fi'
-    command = fake(at, "fake/dexasm", f'[ "$1" != check ] && exec {program} "$@"\n{does}\nexec {program} "$@" <"$0.$$"')
-    for name, given in (("a", file), ("b", b"SLOW"), ("c", file), ("d", b"KILL"), ("e", file)):
-        put(at, f"{name}.dex", given)
-    seen = by_command("--seconds", "0.2", *(f"{name}.dex" for name in "abcde"), at=at, DEXASM_COMMAND=command)
-    want = "b.dex: error: it takes longer than --seconds\nc.dex: ok\nd.dex: error: its worker was killed\n"
-    check("dexasm-check, limits", seen == (3, f"a.dex: ok\n{want}e.dex: ok\n", ""), seen)
-    left = [one for one in os.listdir("/proc") if one.isdigit() and words_of(one) == [b"sleep", b"613"]]
-    check("dexasm-check, nothing is left running", left == [], left)
-
-
-def try_interrupted() -> None:
-    """Control-C while a file is looked at: its status, no line, and nothing is left running."""
-    at = room("check interrupted")
-    program, slow = shlex.quote(Tries.program), '[ "$1" != check ] && exec {} "$@"\n: >"$0.begun"\nsleep 617'
-    command = fake(at, "fake/dexasm", slow.format(program))
-    put(at, "a.dex", assembled(LISTING))
-    env = {**Tries.env, "DEXASM_COMMAND": command}
-    streams: dict[str, Any] = {"stdin": subprocess.DEVNULL, "stdout": subprocess.PIPE, "stderr": subprocess.PIPE}
-    # (a shell may have begun this test without that signal)
-    obeyed: dict[str, Any] = {"preexec_fn": lambda: signal.signal(signal.SIGINT, signal.SIG_DFL)}
-    begun = subprocess.Popen([os.path.join(alone(), "dexasm-check"), "a.dex"], cwd=at, env=env, **streams, **obeyed)
-    for _ in range(200):
-        if os.path.exists(f"{command}.begun"):
-            break
-        time.sleep(0.05)
-    begun.send_signal(signal.SIGINT)
-    try:
-        said = begun.communicate(timeout=20)
-    except subprocess.TimeoutExpired:
-        begun.kill()
-        said = begun.communicate()
-    check("dexasm-check, interrupted", (begun.returncode, *said) == (130, b"", b""), (begun.returncode, said))
-    left = [one for one in os.listdir("/proc") if one.isdigit() and words_of(one) == [b"sleep", b"617"]]
-    check("dexasm-check, nothing is left running after it", left == [], left)
-    for one in left:
-        os.kill(int(one), signal.SIGKILL)
-
-
 def words_of(process: str) -> list[bytes]:
     try:
         return get("/proc", process, "cmdline").split(b"\0")[:-1]
@@ -642,37 +262,6 @@ for one in judge_all(found, asked, lambda: None): print(one.path.decode(), one.s
 """
 
 
-def try_changes() -> None:
-    """Files that become something else after they were found."""
-    at = room("check changes")
-    for name in "abcde":
-        put(at, f"f/{name}.dex", assembled(LISTING))
-    env: dict[str, Any] = {"DEXASM_LIBRARY": Tries.library} if Tries.library else {}
-    share = os.path.join(TOP, "python", "src")
-    seen = run([sys.executable, "-B", "-c", CHANGES, share], at=at, **env)
-    want = (
-        "f/a.dex failed None No such file or directory\nf/b.dex failed None no file\nf/c.dex refused 1 None\n"
-        "f/d.dex failed None no file\nf/e.dex ok None None\n"
-    )
-    check("dexasm-check, files that change", seen == (0, want, ""), seen)
-
-
-def try_many() -> None:
-    """100,000 paths on standard input, most of which aren't there; each has its line, in that order."""
-    at, count = room("check many"), 100000
-    put(at, "a.dex", assembled(LISTING))
-    names = ["a.dex" if number % 1000 == 0 else str(number) for number in range(count)]
-    status, out, said = checked("-", at=at, given="\0".join(names).encode())
-    lines = out.splitlines()
-    is_so = all(line.startswith(f"{name}: ") for line, name in zip(lines, names))
-    is_so = is_so and (status, said, len(lines)) == (3, "", count)
-    check("dexasm-check, 100,000 paths", is_so, (status, said, out[:99]))
-    check("dexasm-check, their verdicts", lines.count("a.dex: ok") == count // 1000, out[:99])
-    for given, want in ((b"", 0), (b"\0\0\0", 0), (b"a.dex", 0), (b"a.dex\n", 3), (os.urandom(5000), 3)):
-        seen = checked("-", at=at, given=given)
-        check(f"dexasm-check, {given[:9]!r} on standard input", seen[0] == want and is_safe(seen[1]), seen)
-
-
 WORKERS = """
 import sys
 sys.path.insert(0, sys.argv[1])
@@ -687,98 +276,16 @@ print(count_workers([(b"a", 500)] * 1000, asked))
 """
 
 
-def try_workers() -> None:
-    """A further worker is for what is worth one; the lines are the same (try_order)."""
-    share = os.path.join(TOP, "python", "src")
-    seen = run([sys.executable, "-B", "-c", WORKERS, share], at=room("check workers"))
-    check("dexasm-check, how many workers", seen == (0, "1\n1\n4\n2\n4\n1\n1\n4\n", ""), seen)
-
-
-def try_order() -> None:
-    """Whatever the number of workers, and however long each file takes, the lines are the same."""
-    at = room("check order")
-    for number in range(40):
-        size = (1, 400, 30)[number % 3]
-        text = HEAD + b"".join(b"class L%s%d; 0x1\nend class\n" % (b"x" * 60, n) for n in range(size))
-        put(at, f"f/{number:02}.dex", assembled(text) if number % 7 else b"no file")
-    # (more than a worker is given at once)
-    names = [f"f/{number % 40:02}.dex" for number in range(0, 40 * 77, 7)] * 5
-    one, many = (checked("--jobs", jobs, *names, at=at) for jobs in ("1", "4"))
-    told = [line.partition(":")[0] for line in many[1].splitlines()]
-    check("dexasm-check, the order", told == names and one == many and one[0] == 1, (one[2], many[2]))
-
-
-# ---- commands, words, terminals
-
-
-def try_commands() -> None:
-    """Over a command that answers what is none: nothing is accepted, and each has a line."""
-    at = room("check commands")
-    put(at, "a.dex", assembled(LISTING))
-    given = [*answers(at), ("true", "/bin/true"), ("a signal", fake(at, "fake/signal", "kill -11 $$"))]
-    given += [("nothing that runs", put(at, "fake/no", b"no program")), ("nothing there", os.path.join(at, "none"))]
-    ready = f'[ "$1" = --version ] && exec {shlex.quote(Tries.program)} --version\n'
-    for number, (name, command) in enumerate(given):
-        if number % 6 == 0:
-            seen = by_command("a.dex", at=at, DEXASM_COMMAND=command)
-            is_so = seen[:2] == (3, "") and seen[2].startswith("dexasm-check: a worker doesn't start: ")
-            check(f"dexasm-check by a command that answers {name}", is_so and seen[2].count("\n") == 1, seen)
-        later = fake(at, f"later/{number}", f'{ready}exec {shlex.quote(command)} "$@"')
-        seen = by_command("a.dex", "a.dex", at=at, DEXASM_COMMAND=later)
-        lines = seen[1].splitlines()
-        is_so = seen[::2] == (3, "") and len(lines) == 2 and all(": error: " in line for line in lines)
-        check(f"dexasm-check by a command that answers {name} later", is_so and is_safe(seen[1]), seen)
-
-
-def try_words() -> None:
-    at = room("check words")
-    put(at, "a.dex", assembled(LISTING))
-    for words in (
-        "",
-        "--json --sarif a.dex",
-        "--program a.dex",
-        "--sarif --program a.dex",
-        "--jobs 0 a.dex",
-        "--jobs -1 a.dex",
-        "--jobs 9999999999 a.dex",
-        "--seconds nan a.dex",
-        "--seconds inf a.dex",
-        "--memory 1 a.dex",
-        "--memory 5X a.dex",
-        "--color sometimes a.dex",
-        "--jso a.dex",
-        "--lint",
-    ):
-        seen = checked(*words.split(), at=at)
-        check(f"dexasm-check {words}", seen[:2] == (2, "") and seen[2].startswith("usage: dexasm-check "), seen)
-    check("dexasm-check, no .dex file in a folder", checked(at, at=room("check empty")) == (0, f"{at}/a.dex: ok\n", ""))
-    for form in FORMS:
-        seen = checked(*[form] * bool(form), room(f"check nothing{form}"), at=at)
-        check(f"dexasm-check {form}, nothing to look at", seen[::2] == (0, ""), seen)
-
-
-def try_terminal() -> None:
-    """Colours where they are asked for, and a line of progress that is gone at the end."""
-    at, file = room("check terminal"), assembled(LISTING)
-    put(at, "a.dex", file)
-    put(at, "b.dex", damaged(file))
-    plain = "a.dex: ok\nb.dex:0x08: error: 8 Checksum: the Adler-32 differs\n"
-    colored = f"a.dex: {ESC}[32mok{ESC}[0m\nb.dex:0x08: {ESC}[1;31merror:{ESC}[0m 8 Checksum: the Adler-32 differs\n"
-    for word, want in (("auto", plain), ("never", plain), ("always", colored)):
-        seen = checked("--color", word, "a.dex", "b.dex", at=at)
-        check(f"dexasm-check --color {word}", seen == (1, want, ""), seen)
-    for env, want in (({"NO_COLOR": ""}, colored), ({"NO_COLOR": "1"}, plain)):
-        shown = on_terminal(at, "a.dex", "b.dex", **env)
-        is_so = all(line in shown for line in want.splitlines())
-        check(f"dexasm-check on a terminal, {env}", is_so and (want == colored) == ("[32m" in shown), shown)
-        check(f"dexasm-check on a terminal, {env}, the line goes", not re.search(r"of 2 files[^\r]*$", shown), shown)
-
-
 def on_terminal(at: str, *words: str, **env: str) -> str:
     """What a terminal is sent."""
     ours, theirs = pty.openpty()
     words = (os.path.join(TOOLS, "dexasm-check"), *words)
-    env = {**Tries.env, "TERM": "xterm", **({"DEXASM_LIBRARY": Tries.library} if Tries.library else {}), **env}
+    env = {
+        **environment(),
+        "TERM": "xterm",
+        **({"DEXASM_LIBRARY": tried.shared_library()} if tried.shared_library() else {}),
+        **env,
+    }
     with subprocess.Popen(words, stdin=theirs, stdout=theirs, stderr=theirs, cwd=at, env=env) as running:
         os.close(theirs)
         shown = b""
@@ -795,60 +302,542 @@ def on_terminal(at: str, *words: str, **env: str) -> str:
     return shown.decode("utf8")
 
 
-def try_hooks_file() -> None:
-    """The hook of pre-commit.com: which names it takes, and what it does with them."""
-    text = get(TOP, ".pre-commit-hooks.yaml").decode()
-    field = dict(re.findall(r"^[ -] (\w+): (.*)$", text, re.M))
-    pattern = re.compile(field["files"])
-    for name in ("a.dex", "f/X.DEX", "x.apk", "X.Jar", "a.zip", "--seconds=9.dex"):
-        check(f".pre-commit-hooks.yaml takes {name}", pattern.search(name) is not None)
-    for name in ("a.dexx", "a.apk.txt", "dex", "adex"):
-        check(f".pre-commit-hooks.yaml leaves {name}", pattern.search(name) is None)
-    at = room("check hooks file")
-    entry = shlex.split(field["entry"])
-    names = ("a.dex", "--seconds=9.dex", "-x.dex", "new\nline.dex")
-    for name in names:
-        put(at, name, assembled(LISTING))
-    words = [os.path.join(TOP, entry[0]), *entry[1:], *names]
-    check(".pre-commit-hooks.yaml, accepted", run(words, at=at) == (0, "", "") and field["language"] == "script")
-    put(at, "-x.dex", b"no file")
-    seen = run(words, at=at)
-    check(".pre-commit-hooks.yaml, refused", seen[0] == 1 and seen[1].startswith("-x.dex:0x07: error: 1 "), seen)
+class Check(HelperTest):
+    def test_verdicts(self) -> None:
+        """Each kind of input, its line and the status, by the library and by the command alike."""
+        at, file = room("check verdicts"), assembled(LISTING)
+        put(at, "a.dex", file)
+        put(at, "f/B.DeX", damaged(file))
+        put(at, "f/other", b"no file")
+        put(at, "x.txt", LISTING)
+        put(at, "y.txt", b"\n" + HEAD + b"class LA; 0x1\n   super 7\nend class\n")
+        put(at, "z.txt", HEAD + b"class LB; 0x1\nend class\n" + b"class LA; 0x1\nsuper LA;\nend class\n")
+        put(at, "app.apk", archive(("classes2.dex", b"no file"), ("classes.dex", file), ("lib/classes3.dex", b"x")))
+        put(at, "n.jar", archive(("a.class", b"x")))
+        put(at, "n.APK", archive(("a.class", b"x")))
+        words: tuple[str, ...] | str
+        words = ("a.dex", "f", "x.txt", "y.txt", "app.apk", "n.jar", "n.APK", "none")
+        want: str | int
+        want = (
+            "a.dex: ok\n"
+            "f/B.DeX:0x08: error: 8 Checksum: the Adler-32 differs\n"
+            "x.txt: ok\n"
+            "y.txt:4:10: error: 101 Name: 7: it isn't a type, as I or [Ljava/lang/String; (in LA;)\n"
+        )
+        rest = (
+            "app.apk!classes.dex: ok\n"
+            "app.apk!classes2.dex:0x07: error: 1 TooShort: there are fewer than 112 bytes\n"
+            "n.jar: no classes*.dex in it\n"
+            "n.APK: error: no classes*.dex in it\n"
+            "none: error: No such file or directory\n"
+        )
+        seen = checked(*words, at=at)
+        self.check(
+            "dexasm-check, verdicts", seen[::2] == (3, "") and seen[1].startswith(want) and seen[1].endswith(rest), seen
+        )
+        self.check_equal("dexasm-check, verdicts by the command", by_command(*words, at=at), seen)
+        quiet = "".join(line for line in seen[1].splitlines(True) if ": error: " in line)
+        self.check_equal("dexasm-check --quiet", checked("--quiet", *words, at=at), (3, quiet, ""))
+        for words, want in (("a.dex", 0), ("n.jar", 0), ("f", 1), ("app.apk", 1), ("f none", 3), ("n.APK", 3)):
+            seen = checked(*words.split(), at=at)
+            self.check(f"dexasm-check {words}, its status", seen[0] == want, seen)
+        seen = checked("z.txt", at=at)
+        want = "z.txt:5:7: error: 112 ClassOrder: LA; is its own superclass (in LA;)\n"
+        self.check_equal("dexasm-check, a class", seen, (1, want, ""))
 
+    def test_places(self) -> None:
+        """Where in a listing a rule is broken: in words, and each part of it for machines."""
+        at = room("check places")
+        code = (
+            b"class LA; 0x1\ndirect m\\u0041 (I)V 0x8\ncode 2 1 0\n  const/4 v0 1\n  move v0 v9\nend code\nend class\n"
+        )
+        put(at, "x.txt", HEAD + code)
+        put(at, "w.txt", HEAD + code.replace(b"v9", b"v16"))
+        where = " (in mA(I)V, instruction 1)\n"
+        want: str | dict[str, Any]
+        want = f"x.txt:6:11: error: 118 Register: v9 of 2 registers{where}"
+        want += f"w.txt:6:11: error: 102 Number: v16: v0 to v15 here; move/from16 or move/16 takes more{where}"
+        for how, runs in (("the library", checked), ("the command", by_command)):
+            seen = runs("x.txt", "w.txt", at=at)
+            self.check_equal(f"dexasm-check, places by {how}", seen, (1, want, ""))
+        told = json.loads(checked("--json", "x.txt", at=at)[1])
+        want = {"line": 6, "column": 11, "class": "LA;", "member": "mA(I)V", "instruction": 1, "place": 0}
+        self.check("dexasm-check --json, a place", {name: told[name] for name in want} == want, told)
 
-def try_version() -> None:
-    """Each helper tells the version, which is the command's; a command that tells none is a line."""
-    want = sought(r"dexasm (\S+)\n", dexasm("--version").decode())[1]
-    for name in sorted(os.listdir(TOOLS)):
-        seen = run([os.path.join(TOOLS, name), "--version"])
-        check(f"{name} --version", seen == (0, f"{name} {want}\n", ""), seen)
-    seen = run([os.path.join(TOOLS, "dexasm-check"), "--version"], DEXASM_COMMAND="/bin/true")
-    check("dexasm-check --version by /bin/true", seen[:2] == (3, "") and seen[2].count("\n") == 1, seen)
+    def test_names_decide(self) -> None:
+        """A listing, an archive or no archive under the name of something else isn't accepted."""
+        at, file = room("check kinds"), assembled(LISTING)
+        zipped = archive(("classes.dex", file))
+        for name, given, want in (
+            ("list.dex", LISTING, ":0x00: error: 2 Magic: "),
+            ("zip.DEX", zipped, ":0x00: error: 2 Magic: "),
+            ("dex.apk", file, ": error: no zip archive can be read: "),
+            ("list.JAR", LISTING, ": error: no zip archive can be read: "),
+            ("inner.apk", archive(("classes.dex", LISTING)), "!classes.dex:0x00: error: 2 Magic: "),
+            ("nested.apk", archive(("classes.dex", zipped)), "!classes.dex:0x"),
+            ("empty", b"", ":0x00: error: 1 TooShort: "),
+            ("empty.zip", b"", ": error: no zip archive can be read: "),
+        ):
+            put(at, name, given)
+            seen = checked(name, at=at)
+            is_so = seen[0] in (1, 3) and seen[1].startswith(name + want) and seen[1].count("\n") == 1
+            self.check(f"dexasm-check {name}", is_so and seen[2] == "", seen)
+        put(at, "zip", zipped)
+        self.check_equal("dexasm-check zip", checked("zip", at=at), (0, "zip!classes.dex: ok\n", ""))
 
+    def test_programs(self) -> None:
+        """The program's sum, of a file, of one that isn't packed, and of a listing."""
+        at, file = room("check programs"), assembled(LISTING)
+        longer = file + b"\0\0\0\0"
+        for place, form, number in ((104, "<I", struct.unpack_from("<I", file, 104)[0] + 4), (32, "<I", len(longer))):
+            longer = longer[:place] + struct.pack(form, number) + longer[place + 4 :]
+        put(at, "longer", longer)
+        run([os.path.join(TOOLS, "dexasm-close"), "longer", "--output", "longer.dex"], at=at)
+        put(at, "a.dex", file)
+        put(at, "a.txt", LISTING)
+        put(at, "b.dex", damaged(file))
+        want = hashlib.sha256(dexasm("strip", given=file)).hexdigest()
+        for how, runs in (("the library", checked), ("the command", by_command)):
+            seen = runs("--json", "--program", "a.dex", "a.txt", "longer.dex", "b.dex", at=at)
+            found = [json.loads(line)["program"] for line in seen[1].splitlines()]
+            self.check(f"dexasm-check --program by {how}", found == [want] * 3 + [None] and seen[0] == 1, seen)
 
-TRIES = (
-    try_verdicts,
-    try_places,
-    try_names_decide,
-    try_programs,
-    try_lint,
-    try_lint_forms,
-    try_lint_limits,
-    try_names,
-    try_sarif,
-    try_no_files,
-    try_folders,
-    try_archives,
-    try_bombs,
-    try_limits,
-    try_interrupted,
-    try_changes,
-    try_many,
-    try_workers,
-    try_order,
-    try_commands,
-    try_words,
-    try_terminal,
-    try_hooks_file,
-    try_version,
-)
+    def test_lint(self) -> None:
+        """What dexasm accepts and a device would refuse, with each thing that is refused in its place."""
+        at = room("check lint")
+        names, told = linted(at)
+        want: tuple[int, str, str] | int
+        for how, runs in (("the library", checked), ("the command", by_command)):
+            for jobs in ("1", "4"):
+                seen = runs("--lint", "--jobs", jobs, *names, at=at)
+                want = (3, "".join(f"{line}\n" for line in told), "")
+                self.check_equal(f"dexasm-check --lint by {how}, --jobs {jobs}", seen, want)
+        for words, want in (("--lint d.dex", 1), ("--lint b.txt", 0), ("--lint --quiet b.txt", 0), ("d.dex", 0)):
+            self.check_equal(f"dexasm-check {words}, its status", checked(*words.split(), at=at)[0], want)
+        both = run([os.path.join(TOOLS, "dexasm-lint"), "--code", "a.txt", "d.dex"], at=at)[1].splitlines()
+        self.check(
+            "dexasm-lint --code tells the same of code", [line for line in told if line in both] == both[1::2], both
+        )
+        shown = on_terminal(at, "--lint", "a.txt", "b.txt", "d.dex")
+        self.check("dexasm-check --lint on a terminal", f"LA;->n:I: {ESC}[1;31merror:{ESC}[0m a static" in shown, shown)
+
+    def test_lint_forms(self) -> None:
+        """The same for machines."""
+        at = room("check lint forms")
+        linted(at)
+        found = [*map(json.loads, checked("--lint", "--json", "--program", "a.txt", "d.dex", at=at)[1].splitlines())]
+        place = ("status", "line", "column", "class", "member", "instruction", "address", "register", "rule", "number")
+        want: list[Any]
+        want = [
+            ("broken", None, None, "LA;", "n:I", None, None, None, "value-type", None),
+            ("broken", 7, 17, "LA;", "m(I)V", 1, None, 0, "uninitialized-use", None),
+            ("broken", None, None, "LA;", "n:I", None, None, None, "value-type", None),
+            ("broken", None, None, "LA;", "m(I)V", 1, 2, 0, "uninitialized-use", None),
+        ]
+        seen = [tuple(one[name] for name in place) for one in found]
+        self.check("dexasm-check --lint --json", seen == want, found)
+        sentence = "an object is used before its constructor is called"
+        self.check(
+            "dexasm-check --lint --json, sentences", [found[n]["sentence"] for n in (1, 3)] == [sentence] * 2, found
+        )
+        sum_ = hashlib.sha256(dexasm("strip", given=get(at, "d.dex"))).hexdigest()
+        self.check("dexasm-check --lint --program", [one["program"] for one in found] == [sum_] * 4, found)
+        without = json.loads(checked("--json", "d.dex", at=at)[1])
+        self.check_equal(
+            "dexasm-check --json without --lint", {*found[0]} - {*without}, {"address", "register", "rule", "page"}
+        )
+        document = json.loads(checked("--lint", "--sarif", "a.txt", "d.dex", "f.apk", at=at)[1])
+        results = document["runs"][0]["results"]
+        self.check("dexasm-check --lint --sarif, the schema", [*faults(document)] == [] and len(results) == 8, document)
+        self.check("dexasm-check --lint --sarif", results[1]["message"]["text"] == USED.format("line 6"), results[1])
+        lines = checked("--lint", "--github", "a.txt", "b.txt", "d.dex", at=at)[1].splitlines()
+        said = USED.format("instruction 0")
+        want = [
+            f"::error file=a.txt,title=value-type::a.txt: {VALUE} (in LA;->n:I)",
+            f"::error file=a.txt,line=7,col=17,title=uninitialized-use::a.txt:7:17: {USED.format('line 6')} (in LA;->m(I)V)",
+            f"::error file=d.dex,title=value-type::d.dex: {VALUE} (in LA;->n:I)",
+            f"::error file=d.dex,title=uninitialized-use::d.dex: instruction 1 (0x02): {said} (in LA;->m(I)V)",
+        ]
+        self.check_equal("dexasm-check --lint --github", lines, want)
+        out = checked("--lint", "--junit", "a.txt", "b.txt", "d.dex", at=at)[1]
+        cases = [(case.get("name"), len(case)) for case in ElementTree.fromstring(out).findall("testsuite/testcase")]
+        want = [("a.txt", 1), ("a.txt:7:17", 1), ("b.txt", 0), ("d.dex", 1), ("d.dex", 1)]
+        self.check("dexasm-check --lint --junit", cases == want, out)
+
+    def test_lint_limits(self) -> None:
+        """A program that takes too long to be linted, and one at which the worker is killed: what was told stays, once."""
+        at = room("check lint limits")
+        linted(at)
+        program = shlex.quote(tried.program())
+        # (the command is asked twice of a file with --lint: whether it is accepted, and for its listing)
+        does = '[ "$1" = list ] || exec {0} "$@"\ncat >"$0.$$"\n{1}\nexec {0} "$@" <"$0.$$"'
+        slow = fake(at, "slow/dexasm", does.format(program, "sleep 611"))
+        seen = by_command("--lint", "--seconds", "0.3", "d.dex", "none", at=at, DEXASM_COMMAND=slow)
+        want = "d.dex: error: it takes longer than --seconds\nnone: error: No such file or directory\n"
+        self.check_equal("dexasm-check --lint, too slow", seen, (3, want, ""))
+        killed = fake(at, "killed/dexasm", does.format(program, "kill -9 $PPID"))
+        seen = by_command("--lint", "d.dex", "b.txt", at=at, DEXASM_COMMAND=killed)
+        want = "d.dex: error: its worker was killed\nb.txt: error: its worker was killed\n"
+        self.check_equal("dexasm-check --lint, killed", seen, (3, want, ""))
+        seen = run([sys.executable, "-B", "-c", TOLD_ONCE, os.path.join(TOP, "python", "src")], at=at)
+        self.check_equal("dexasm-check --lint, told once", seen, (0, "broken broken broken killed broken ok\n", ""))
+        head = LINTED.replace(b"add-int v1 v0 v0", b"nop").replace(b"long 5", b"int 5")
+        many = head.replace(
+            b"end class",
+            b"end class\n"
+            + b"".join(b"class LB%d; 0x1\nstatic n I 0x9 = long 5\nend class\n" % number for number in range(3000)),
+            1,
+        ).replace(b"\n\n", b"\n")
+        put(at, "many.txt", many)
+        status, out, said = checked("--lint", "many.txt", at=at)
+        self.check(
+            "dexasm-check --lint, many", (status, said, out.count("\n")) == (1, "", 3000), (status, out[:300], said)
+        )
+
+    def test_names(self) -> None:
+        """Names that a terminal, GitHub's runner, or a reader of JSON, XML or SARIF could take for something else."""
+        at = evil("check names")
+        names = listed()
+        status, out, said = of_names("", at)
+        self.check(
+            "dexasm-check, names", (status, said) == (1, "") and is_safe(out) and out.count("\n") == len(names), out
+        )
+        status, out, said = of_names("--json", at)
+        found = [json.loads(line) for line in out.splitlines()]
+        uris = [unquote_to_bytes(one["uri"]) for one in found]
+        self.check("dexasm-check --json, names", (status, said, uris) == (1, "", names) and out.isascii(), out)
+        is_text = all(not re.search("[\ud800-\udfff]", one["file"]) for one in found)
+        self.check("dexasm-check --json, names are texts", is_text and found[0].keys() == found[-1].keys(), out)
+        status, out, said = of_names("--github", at)
+        lines = out.encode("latin1").decode("utf8").splitlines()
+        self.check(
+            "dexasm-check --github, names", (status, said, len(lines)) == (1, "", len(names)), (status, out, said)
+        )
+        for line, name in zip(lines, names):
+            file = properties(line).get("file")
+            is_same = file == name.decode("utf8", "replace") or "\\" in (file or "")
+            is_exact = file == name.decode("utf8", "replace") or not name.decode("utf8", "replace").isprintable()
+            is_exact = is_exact or b"\xff" in name or b"\xed" in name or b"\x9b" in name
+            self.check(f"dexasm-check --github, {name!r}", is_same and is_exact and line.isprintable(), line)
+        status, out, said = of_names("--junit", at)
+        cases = ElementTree.fromstring(out).findall("testsuite/testcase")
+        is_so = len(cases) == len(names) and all(case.attrib["name"].isprintable() for case in cases)
+        self.check("dexasm-check --junit, names", (status, said) == (1, "") and is_so and out.isascii(), out)
+
+    def test_sarif(self) -> None:
+        """The document keeps the schema's rules, and says the very names; of an archive's entry it has no region."""
+        at = evil("check sarif")
+        status, out, said = of_names("--sarif", at)
+        document = json.loads(out)
+        results = document["runs"][0]["results"]
+        uris = [one["locations"][0]["physicalLocation"]["artifactLocation"]["uri"] for one in results]
+        self.check(
+            "dexasm-check --sarif, names", (status, said, [*map(unquote_to_bytes, uris)]) == (1, "", listed()), out
+        )
+        put(at, "y.txt", HEAD + b"class LA; 0x1\nsuper 7\nend class\n")
+        put(at, "a.apk", archive(("classes.dex", damaged(assembled(LISTING))), ("classes2.dex", assembled(LISTING))))
+        whole = os.path.join(at, "f", "-x.dex")
+        status, out, said = checked("--sarif", "./y.txt", "a.apk", "none", whole, at=at)
+        other = json.loads(out)
+        self.check("dexasm-check --sarif, the schema", [*faults(document), *faults(other)] == [], [*faults(other)])
+        results, invocation = other["runs"][0]["results"], other["runs"][0]["invocations"][0]
+        places = [one["locations"][0]["physicalLocation"] for one in results]
+        want = [
+            {"artifactLocation": {"uri": "y.txt"}, "region": {"startLine": 3, "startColumn": 7}},
+            {"artifactLocation": {"uri": "a.apk"}},
+            {"artifactLocation": {"uri": "file://" + whole.replace(" ", "%20")}, "region": {"byteOffset": 7}},
+        ]
+        self.check("dexasm-check --sarif, places", places == want and status == 3, places)
+        rules = [one["ruleId"] for one in results]
+        is_so = rules == ["101", "8", "1"] and invocation["executionSuccessful"] is False
+        self.check("dexasm-check --sarif, what couldn't be read", is_so and invocation["exitCode"] == 3, other)
+        seen = checked("--sarif", "--jobs", "1", "a.apk", at=at)
+        self.check(
+            "dexasm-check --sarif, all could", json.loads(seen[1])["runs"][0]["invocations"][0]["executionSuccessful"]
+        )
+
+    def test_no_files(self) -> None:
+        """Pipes, devices, sockets, loops of links, what isn't there: a line each, and the others go on."""
+        at, file = room("check no files"), assembled(LISTING)
+        put(at, "a.dex", file)
+        os.mkfifo(os.path.join(at, "fifo.dex"))
+        os.symlink("loop", os.path.join(at, "loop"))
+        os.symlink("a.dex", os.path.join(at, "link.dex"))
+        with socket.socket(socket.AF_UNIX) as listening:
+            listening.bind(os.path.relpath(os.path.join(at, "socket.dex")))
+        words = ("fifo.dex", "loop", "/dev/zero", "socket.dex", "", "n" * 300, "a.dex/b", "a.dex", "link.dex")
+        for how, runs in (("the library", checked), ("the command", by_command)):
+            status, out, said = runs(*words, at=at)
+            lines = out.splitlines()
+            is_so = lines[-2:] == ["a.dex: ok", "link.dex: ok"] and all(": error: " in line for line in lines[:-2])
+            is_so = is_so and (status, said, len(lines)) == (3, "", 9)
+            self.check(f"dexasm-check, no files, by {how}", is_so, (status, out, said))
+        put(at, "d/x.DEX", file)
+        put(at, "d/other.txt", b"")
+        os.mkfifo(os.path.join(at, "d", "fifo.dex"))
+        for name, to in (("up", ".."), ("top", "/"), ("l.dex", "/etc/passwd")):
+            os.symlink(to, os.path.join(at, "d", name))
+        self.check_equal("dexasm-check, links in a folder", checked("d", at=at), (0, "d/x.DEX: ok\n", ""))
+
+    def test_folders(self) -> None:
+        """A folder that can't be read: one that is too deep for a name, and one of no rights."""
+        at, file = room("check folders"), assembled(LISTING)
+        put(at, "f/a.dex", file)
+        put(at, "f/z.dex", file)
+        here = os.open(os.path.join(at, "f"), os.O_RDONLY | os.O_DIRECTORY)
+        for _ in range(18):
+            os.mkdir("d" * 250, dir_fd=here)
+            inner = os.open("d" * 250, os.O_RDONLY | os.O_DIRECTORY, dir_fd=here)
+            os.close(here)
+            here = inner
+        os.close(here)
+        seen = checked("f", at=at)
+        lines = seen[1].splitlines()
+        is_so = lines[:2] == ["f/a.dex: ok", "f/z.dex: ok"] and lines[2].endswith(": error: File name too long")
+        self.check("dexasm-check, a folder that is too deep", seen[::2] == (3, "") and is_so and len(lines) == 3, seen)
+        put(at, "g/a.dex", file)
+        os.mkdir(os.path.join(at, "g", "b"), 0)
+        put(at, "g/c/d.dex", file)
+        want = "g/a.dex: ok\ng/b: error: Permission denied\ng/c/d.dex: ok\n"
+        if os.geteuid():
+            seen = checked("g", at=at)
+            self.check_equal("dexasm-check, a folder without rights", seen, (3, want, ""))
+        os.chmod(os.path.join(at, "g", "b"), stat.S_IRWXU)
+
+    def test_archives(self) -> None:
+        """Archives that lie, and what is no archive: a line each, with the entry where it is known."""
+        at, file = room("check archives"), assembled(LISTING)
+        good, two = archive(("classes.dex", file)), archive(("classes.dex", file), ("classes2.dex", file))
+        cases = {
+            "encrypted.apk": (
+                changed(two, "classes.dex", *FLAGS, 1),
+                "!classes.dex: error: it is encrypted, or says so",
+            ),
+            "sum.apk": (changed(two, "classes.dex", *CRC, 7), "!classes.dex: error: it can't be read: "),
+            "twice.apk": (
+                archive(("classes.dex", file), ("classes.dex", file)),
+                "!classes.dex: error: it is there more ",
+            ),
+            "cut.apk": (good[:-30], ": error: no zip archive can be read: "),
+            "text.zip": (f"{ESC}[31m".encode(), ": error: no zip archive can be read: "),
+        }
+        for name, (given, want) in cases.items():
+            put(at, name, given)
+            status, out, said = checked(name, at=at)
+            is_so = out.startswith(name + want) and (f"{name}!classes2.dex: ok\n" in out) == (len(given) == len(two))
+            self.check(
+                f"dexasm-check {name}", (status, said) == (3, "") and is_so and is_safe(out), (status, out, said)
+            )
+
+    def test_bombs(self) -> None:
+        """What grows past --memory, or says so, or is as large: told as that, fast, and the others go on."""
+        at, file = room("check bombs"), assembled(LISTING)
+        made = io.BytesIO()
+        with zipfile.ZipFile(made, "w", zipfile.ZIP_DEFLATED) as zipped:
+            with zipped.open("classes.dex", "w") as entry:
+                for _ in range(40):
+                    entry.write(bytes(10 << 20))
+            zipped.writestr("classes2.dex", file)
+        put(at, "bomb.apk", made.getvalue())
+        with open(os.path.join(at, "sparse.dex"), "wb") as sparse:
+            sparse.truncate(1 << 40)
+        put(at, "a.dex", file)
+        want = "it takes more than --memory\n"
+        want = f"bomb.apk!classes.dex: error: {want}bomb.apk!classes2.dex: ok\nsparse.dex: error: {want}a.dex: ok\n"
+        for jobs in ("1", "3"):
+            seen = checked("--memory", "250M", "--jobs", jobs, "bomb.apk", "sparse.dex", "a.dex", at=at)
+            self.check_equal(f"dexasm-check, bombs, --jobs {jobs}", seen, (4, want, ""))
+
+    def test_limits(self) -> None:
+        """A file that takes too long, and one at which the worker is killed: the others go on, and nothing is left."""
+        at, file = room("check limits"), assembled(LISTING)
+        program = shlex.quote(tried.program())
+        does = (
+            'cat >"$0.$$"; if grep -q SLOW "$0.$$"; then sleep 613; elif grep -q KILL "$0.$$"; then kill -9 $PPID; fi'
+        )
+        command = fake(
+            at, "fake/dexasm", f'[ "$1" != check ] && exec {program} "$@"\n{does}\nexec {program} "$@" <"$0.$$"'
+        )
+        for name, given in (("a", file), ("b", b"SLOW"), ("c", file), ("d", b"KILL"), ("e", file)):
+            put(at, f"{name}.dex", given)
+        seen = by_command("--seconds", "0.2", *(f"{name}.dex" for name in "abcde"), at=at, DEXASM_COMMAND=command)
+        want = "b.dex: error: it takes longer than --seconds\nc.dex: ok\nd.dex: error: its worker was killed\n"
+        self.check_equal("dexasm-check, limits", seen, (3, f"a.dex: ok\n{want}e.dex: ok\n", ""))
+        left = [one for one in os.listdir("/proc") if one.isdigit() and words_of(one) == [b"sleep", b"613"]]
+        self.check_equal("dexasm-check, nothing is left running", left, [])
+
+    def test_interrupted(self) -> None:
+        """Control-C while a file is looked at: its status, no line, and nothing is left running."""
+        at = room("check interrupted")
+        program, slow = shlex.quote(tried.program()), '[ "$1" != check ] && exec {} "$@"\n: >"$0.begun"\nsleep 617'
+        command = fake(at, "fake/dexasm", slow.format(program))
+        put(at, "a.dex", assembled(LISTING))
+        env = {**environment(), "DEXASM_COMMAND": command}
+        streams: dict[str, Any] = {"stdin": subprocess.DEVNULL, "stdout": subprocess.PIPE, "stderr": subprocess.PIPE}
+        # (a shell may have begun this test without that signal)
+        obeyed: dict[str, Any] = {"preexec_fn": lambda: signal.signal(signal.SIGINT, signal.SIG_DFL)}
+        begun = subprocess.Popen([os.path.join(alone(), "dexasm-check"), "a.dex"], cwd=at, env=env, **streams, **obeyed)
+        for _ in range(200):
+            if os.path.exists(f"{command}.begun"):
+                break
+            time.sleep(0.05)
+        begun.send_signal(signal.SIGINT)
+        try:
+            said = begun.communicate(timeout=20)
+        except subprocess.TimeoutExpired:
+            begun.kill()
+            said = begun.communicate()
+        self.check("dexasm-check, interrupted", (begun.returncode, *said) == (130, b"", b""), (begun.returncode, said))
+        left = [one for one in os.listdir("/proc") if one.isdigit() and words_of(one) == [b"sleep", b"617"]]
+        self.check_equal("dexasm-check, nothing is left running after it", left, [])
+        for one in left:
+            os.kill(int(one), signal.SIGKILL)
+
+    def test_changes(self) -> None:
+        """Files that become something else after they were found."""
+        at = room("check changes")
+        for name in "abcde":
+            put(at, f"f/{name}.dex", assembled(LISTING))
+        env: dict[str, Any] = {"DEXASM_LIBRARY": tried.shared_library()} if tried.shared_library() else {}
+        share = os.path.join(TOP, "python", "src")
+        seen = run([sys.executable, "-B", "-c", CHANGES, share], at=at, **env)
+        want = (
+            "f/a.dex failed None No such file or directory\nf/b.dex failed None no file\nf/c.dex refused 1 None\n"
+            "f/d.dex failed None no file\nf/e.dex ok None None\n"
+        )
+        self.check_equal("dexasm-check, files that change", seen, (0, want, ""))
+
+    def test_many(self) -> None:
+        """100,000 paths on standard input, most of which aren't there; each has its line, in that order."""
+        at, count = room("check many"), 100000
+        put(at, "a.dex", assembled(LISTING))
+        names = ["a.dex" if number % 1000 == 0 else str(number) for number in range(count)]
+        status, out, said = checked("-", at=at, given="\0".join(names).encode())
+        lines = out.splitlines()
+        is_so = all(line.startswith(f"{name}: ") for line, name in zip(lines, names))
+        is_so = is_so and (status, said, len(lines)) == (3, "", count)
+        self.check("dexasm-check, 100,000 paths", is_so, (status, said, out[:99]))
+        self.check("dexasm-check, their verdicts", lines.count("a.dex: ok") == count // 1000, out[:99])
+        for given, want in ((b"", 0), (b"\0\0\0", 0), (b"a.dex", 0), (b"a.dex\n", 3), (os.urandom(5000), 3)):
+            seen = checked("-", at=at, given=given)
+            self.check(f"dexasm-check, {given[:9]!r} on standard input", seen[0] == want and is_safe(seen[1]), seen)
+
+    def test_workers(self) -> None:
+        """A further worker is for what is worth one; the lines are the same (try_order)."""
+        share = os.path.join(TOP, "python", "src")
+        seen = run([sys.executable, "-B", "-c", WORKERS, share], at=room("check workers"))
+        self.check_equal("dexasm-check, how many workers", seen, (0, "1\n1\n4\n2\n4\n1\n1\n4\n", ""))
+
+    def test_order(self) -> None:
+        """Whatever the number of workers, and however long each file takes, the lines are the same."""
+        at = room("check order")
+        for number in range(40):
+            size = (1, 400, 30)[number % 3]
+            text = HEAD + b"".join(b"class L%s%d; 0x1\nend class\n" % (b"x" * 60, n) for n in range(size))
+            put(at, f"f/{number:02}.dex", assembled(text) if number % 7 else b"no file")
+        # (more than a worker is given at once)
+        names = [f"f/{number % 40:02}.dex" for number in range(0, 40 * 77, 7)] * 5
+        one, many = (checked("--jobs", jobs, *names, at=at) for jobs in ("1", "4"))
+        told = [line.partition(":")[0] for line in many[1].splitlines()]
+        self.check("dexasm-check, the order", told == names and one == many and one[0] == 1, (one[2], many[2]))
+
+    def test_commands(self) -> None:
+        """Over a command that answers what is none: nothing is accepted, and each has a line."""
+        at = room("check commands")
+        put(at, "a.dex", assembled(LISTING))
+        given = [*answers(at), ("true", "/bin/true"), ("a signal", fake(at, "fake/signal", "kill -11 $$"))]
+        given += [("nothing that runs", put(at, "fake/no", b"no program")), ("nothing there", os.path.join(at, "none"))]
+        ready = f'[ "$1" = --version ] && exec {shlex.quote(tried.program())} --version\n'
+        for number, (name, command) in enumerate(given):
+            if number % 6 == 0:
+                seen = by_command("a.dex", at=at, DEXASM_COMMAND=command)
+                is_so = seen[:2] == (3, "") and seen[2].startswith("dexasm-check: a worker doesn't start: ")
+                self.check(f"dexasm-check by a command that answers {name}", is_so and seen[2].count("\n") == 1, seen)
+            later = fake(at, f"later/{number}", f'{ready}exec {shlex.quote(command)} "$@"')
+            seen = by_command("a.dex", "a.dex", at=at, DEXASM_COMMAND=later)
+            lines = seen[1].splitlines()
+            is_so = seen[::2] == (3, "") and len(lines) == 2 and all(": error: " in line for line in lines)
+            self.check(f"dexasm-check by a command that answers {name} later", is_so and is_safe(seen[1]), seen)
+
+    def test_words(self) -> None:
+        at = room("check words")
+        put(at, "a.dex", assembled(LISTING))
+        for words in (
+            "",
+            "--json --sarif a.dex",
+            "--program a.dex",
+            "--sarif --program a.dex",
+            "--jobs 0 a.dex",
+            "--jobs -1 a.dex",
+            "--jobs 9999999999 a.dex",
+            "--seconds nan a.dex",
+            "--seconds inf a.dex",
+            "--memory 1 a.dex",
+            "--memory 5X a.dex",
+            "--color sometimes a.dex",
+            "--jso a.dex",
+            "--lint",
+        ):
+            seen = checked(*words.split(), at=at)
+            self.check(
+                f"dexasm-check {words}", seen[:2] == (2, "") and seen[2].startswith("usage: dexasm-check "), seen
+            )
+        self.check_equal(
+            "dexasm-check, no .dex file in a folder", checked(at, at=room("check empty")), (0, f"{at}/a.dex: ok\n", "")
+        )
+        for form in FORMS:
+            seen = checked(*[form] * bool(form), room(f"check nothing{form}"), at=at)
+            self.check(f"dexasm-check {form}, nothing to look at", seen[::2] == (0, ""), seen)
+
+    def test_terminal(self) -> None:
+        """Colours where they are asked for, and a line of progress that is gone at the end."""
+        at, file = room("check terminal"), assembled(LISTING)
+        put(at, "a.dex", file)
+        put(at, "b.dex", damaged(file))
+        plain = "a.dex: ok\nb.dex:0x08: error: 8 Checksum: the Adler-32 differs\n"
+        colored = (
+            f"a.dex: {ESC}[32mok{ESC}[0m\nb.dex:0x08: {ESC}[1;31merror:{ESC}[0m 8 Checksum: the Adler-32 differs\n"
+        )
+        for word, want in (("auto", plain), ("never", plain), ("always", colored)):
+            seen = checked("--color", word, "a.dex", "b.dex", at=at)
+            self.check_equal(f"dexasm-check --color {word}", seen, (1, want, ""))
+        for env, want in (({"NO_COLOR": ""}, colored), ({"NO_COLOR": "1"}, plain)):
+            shown = on_terminal(at, "a.dex", "b.dex", **env)
+            is_so = all(line in shown for line in want.splitlines())
+            self.check(f"dexasm-check on a terminal, {env}", is_so and (want == colored) == ("[32m" in shown), shown)
+            self.check(
+                f"dexasm-check on a terminal, {env}, the line goes", not re.search(r"of 2 files[^\r]*$", shown), shown
+            )
+
+    def test_hooks_file(self) -> None:
+        """The hook of pre-commit.com: which names it takes, and what it does with them."""
+        text = get(TOP, ".pre-commit-hooks.yaml").decode()
+        field = dict(re.findall(r"^[ -] (\w+): (.*)$", text, re.M))
+        pattern = re.compile(field["files"])
+        for name in ("a.dex", "f/X.DEX", "x.apk", "X.Jar", "a.zip", "--seconds=9.dex"):
+            self.check(f".pre-commit-hooks.yaml takes {name}", pattern.search(name) is not None)
+        for name in ("a.dexx", "a.apk.txt", "dex", "adex"):
+            self.check(f".pre-commit-hooks.yaml leaves {name}", pattern.search(name) is None)
+        at = room("check hooks file")
+        entry = shlex.split(field["entry"])
+        names = ("a.dex", "--seconds=9.dex", "-x.dex", "new\nline.dex")
+        for name in names:
+            put(at, name, assembled(LISTING))
+        words = [os.path.join(TOP, entry[0]), *entry[1:], *names]
+        self.check(
+            ".pre-commit-hooks.yaml, accepted", run(words, at=at) == (0, "", "") and field["language"] == "script"
+        )
+        put(at, "-x.dex", b"no file")
+        seen = run(words, at=at)
+        self.check(
+            ".pre-commit-hooks.yaml, refused", seen[0] == 1 and seen[1].startswith("-x.dex:0x07: error: 1 "), seen
+        )
+
+    def test_version(self) -> None:
+        """Each helper tells the version, which is the command's; a command that tells none is a line."""
+        want = sought(r"dexasm (\S+)\n", dexasm("--version").decode())[1]
+        for name in sorted(os.listdir(TOOLS)):
+            seen = run([os.path.join(TOOLS, name), "--version"])
+            self.check_equal(f"{name} --version", seen, (0, f"{name} {want}\n", ""))
+        seen = run([os.path.join(TOOLS, "dexasm-check"), "--version"], DEXASM_COMMAND="/bin/true")
+        self.check("dexasm-check --version by /bin/true", seen[:2] == (3, "") and seen[2].count("\n") == 1, seen)

@@ -8,10 +8,11 @@ import shutil
 from collections.abc import Iterable
 from typing import Any
 
-from python.tests.tools.test_apk import archive
-from python.tests.tools.test_check import alone, properties
-from python.tests.tools.test_recipes import EVIL, IDENTITY, TEXT, TURNED, many
-from python.tests.tools.rooms import TOP, Ended, Tries, assembled, check, get, put, room, run, shell
+from .archives import archive
+from .checked import alone, properties
+from .recipe import EVIL, IDENTITY, TEXT, TURNED, many
+from .rooms import TOP, Ended, HelperTest, assembled, environment, get, put, room, run, shell
+
 
 HOOK = os.path.join(TOP, "docs/ci/pre-commit")
 COMMIT = ("git", "commit", "-qm", "a")
@@ -58,125 +59,7 @@ def failing(name: str, program: str, *words: str) -> str:
 
 
 def before(folder: str) -> dict[str, Any]:
-    return {"PATH": os.pathsep.join([folder, Tries.env["PATH"]])}
-
-
-# ---- the hook
-
-
-def try_names() -> None:
-    """The hook looks at what is staged."""
-    seen: Ended | tuple[Ended, Ended]
-    for name in ("a", EVIL, "-x", "0:a", "/b", "./c", ":(top)d", TURNED):
-        at = repository(f"hook {name!r}".replace("/", "_"))
-        path = name.lstrip("./") + ".dex" if name in ("./c", "/b") else f"{name}.dex"
-        seen = staged(at, path, assembled(TEXT)), committed(at)
-        check(f"hook, {path!r} is accepted", seen[1][0] == 0, seen)
-        staged(at, path, b"no file")
-        put(at, path, assembled(TEXT))
-        seen = committed(at)
-        is_so = (
-            seen[0] == 1
-            and "error: 1 TooShort: " in seen[2]
-            and seen[2].count("\n") == 1
-            and seen[2][:-1].isprintable()
-        )
-        check(f"hook, {path!r} is refused as it is staged", is_so and "PWNED" not in os.listdir(at), seen)
-
-
-def try_kinds() -> None:
-    """A name in any case, archives too, and what is no file; what has no .dex file in it isn't kept out."""
-    seen: Ended | tuple[Ended, Ended]
-    for number, name in enumerate(LOOKED_AT):
-        at = repository(f"hook kind {number}")
-        staged(at, name, refused(b"no file", name))
-        seen = committed(at)
-        is_so = seen[0] == 1 and f"pre-commit: {name}" in seen[2] and "1 TooShort: " in seen[2] and count(at) == "0"
-        check(f"hook, {name}", is_so, seen)
-        staged(at, name, refused(assembled(TEXT), name))
-        seen = committed(at)
-        check(f"hook, {name}, accepted", (seen[0], seen[2], count(at)) == (0, "", "1"), seen)
-    at = repository("hook other kinds")
-    staged(at, "gradle-wrapper.jar", archive(("a.class", b"x")))
-    staged(at, "x.zip", archive())
-    staged(at, "x.dexx", b"no file")
-    check("hook, archives without a .dex file, other names", committed(at)[0] == 0 and count(at) == "1")
-    staged(at, "x.jar", b"no archive")
-    seen = committed(at)
-    check("hook, no archive", seen[0] == 1 and "x.jar: " in seen[2], seen)
-    at = repository("hook link")
-    put(at, "blob", b"no file")
-    os.symlink("blob", os.path.join(at, "a.dex"))
-    run(["git", "add", "-A"], at=at)
-    seen = committed(at)
-    check("hook, a link", seen[0] == 1 and "a.dex: " in seen[2] and count(at) == "0", seen)
-    at = repository("hook link of a file's bytes")
-    put(at, "good", assembled(TEXT))
-    seen = shell("git update-index --add --cacheinfo 120000,$(git hash-object -w good),a.dex", at), committed(at)
-    check("hook, a link whose bytes are a file", seen[1][0] == 1 and count(at) == "0", seen)
-
-
-def try_merged() -> None:
-    """What a merge brings, by the hook's other name."""
-    at = repository("hook merge", ("pre-commit", "pre-merge-commit"))
-    staged(at, "a.dex", assembled(TEXT))
-    seen = [committed(at), run(["git", "checkout", "-qb", "theirs"], at=at)]
-    staged(at, "b.dex", b"no file")
-    seen += [committed(at, "--no-verify"), run(["git", "checkout", "-q", "-"], at=at)]
-    staged(at, "c", b"")
-    seen += [committed(at), run(["git", "merge", "-qm", "b", "theirs"], at=at, **IDENTITY)]
-    said = seen[-1][2]
-    is_so = seen[-1][0] == 1 and "b.dex:0x07: error: 1 TooShort: " in said and said.startswith("pre-merge-commit: ")
-    check("hook, a merge", is_so and count(at) == "3" and [one[0] for one in seen[:-1]] == [0] * 5, seen)
-
-
-def try_hook_fails() -> None:
-    """Whatever git can't do, or dexasm or the disk, ends in failure."""
-    at = repository("hook fails")
-    staged(at, "a.dex", assembled(TEXT))
-    hook, git = [os.path.join(at, ".git/hooks/pre-commit")], shutil.which("git")
-    assert git is not None  # (the repository was made by it)
-    check("hook, by itself", run(hook, at=at) == (0, "", ""))
-    for word in ("rev-parse", "hash-object", "diff-index", "cat-file"):
-        seen = run(hook, at=at, **before(failing(f"hook git {word}", git, word)))
-        # (without rev-parse, all files count as new)
-        check(f"hook, git {word} fails", seen[0] != 0 or word == "rev-parse", seen)
-    seen = run(hook, at=at, **before(failing("hook git", git)))
-    check("hook, git fails", seen[0] != 0, seen)
-    put(at, "b.dex", b"no file")
-    run(["git", "add", "-A"], at=at)
-    for setting in ("diff.orderFile=/none", "diff.external=/none", "diff.relative=true", "core.quotePath=false"):
-        seen = run(["git", "-c", setting, *COMMIT[1:]], at=at, **IDENTITY)
-        check(f"hook, {setting}", seen[0] != 0 and "b.dex:0x07: " in seen[2] and count(at) == "0", seen)
-    for name in ("GIT_LITERAL_PATHSPECS", "GIT_ICASE_PATHSPECS", "GIT_GLOB_PATHSPECS", "GIT_NOGLOB_PATHSPECS"):
-        seen = committed(at, **{name: "1"})
-        check(f"hook, {name}", seen[0] != 0 and "b.dex:0x07: " in seen[2] and count(at) == "0", seen)
-    seen = run(hook, at=room("hook nowhere"))
-    check("hook, no repository", seen[0] != 0, seen)
-    seen = committed(at, TMPDIR="/none")
-    check("hook, no folder for what it looks at", seen[0] != 0 and count(at) == "0", seen)
-    run(["git", "rm", "-qf", "b.dex"], at=at)
-    os.mkdir(os.path.join(at, "without"))
-    os.symlink("/bin/true", os.path.join(at, "without", "dexasm"))
-    ways = os.pathsep.join([alone(), os.path.join(at, "without")])
-    seen = committed(at, **before(ways))
-    check("hook, a dexasm that answers nothing", seen[0] != 0 and count(at) == "0", seen)
-    seen = committed(at, PATH=os.path.dirname(git))
-    check("hook, no dexasm", seen[0] == 1 and count(at) == "0", seen)
-    seen = run(["bash", "-c", 'ulimit -f 0; exec "$@"', "-", *COMMIT], at=at, **IDENTITY)
-    check("hook, no room for what it looks at", seen[0] != 0 and count(at) == "0", seen)
-
-
-# ---- the workflow
-
-
-def step_of() -> str:
-    """The step of the workflow that looks, as a file."""
-    text = get(TOP, "docs/ci/github-actions.yml").decode()
-    found = re.findall(r"^ {8}run: \|\n((?: {10}.*\n)+)", text, re.M)
-    steps = [re.sub(r"^ {10}", "", step, flags=re.M) for step in found]
-    check("workflow, its steps", len(steps) == 2 and all("${{" not in step for step in steps), steps)
-    return put(room("workflow step"), "step", steps[1].encode())
+    return {"PATH": os.pathsep.join([folder, environment()["PATH"]])}
 
 
 def worked(step: str, at: str, **env: Any) -> Ended:
@@ -184,56 +67,160 @@ def worked(step: str, at: str, **env: Any) -> Ended:
     return run(["bash", "--noprofile", "--norc", "-eo", "pipefail", step], at=at, **env)
 
 
-def try_workflow() -> None:
-    """The steps of the workflow, as bash runs them there, but the one that installs."""
-    step, at = step_of(), room("workflow")
-    bad = many(at) + 1  # (a link)
-    put(at, "a.apk", archive(("classes.dex", assembled(TEXT))))
-    put(at, "b.apk", b"no archive")
-    for number, name in enumerate(LOOKED_AT):
-        put(at, f"{number}/{name}", refused(b"no file", name))
-    run(["git", "init", "-q", "."], at=at)
-    run(["git", "add", "-A"], at=at)
-    status, out, said = worked(step, at)
-    lines = out.encode("latin1").decode("utf8").splitlines()
-    is_so = len(lines) == bad + 1 + len(LOOKED_AT)
-    is_so = is_so and all(line.startswith("refused: ") or properties(line) for line in lines)
-    is_so = is_so and all(line.isprintable() for line in lines)
-    check(
-        "workflow, what is refused",
-        status == 1 and said == "" and is_so and "PWNED" not in os.listdir(at),
-        (status, out, said),
-    )
-    good = room("workflow good")
-    put(good, "a.dex", assembled(TEXT))
-    put(good, "gradle-wrapper.jar", archive(("a.class", b"x")))
-    run(["git", "init", "-q", "."], at=good)
-    run(["git", "add", "-A"], at=good)
-    check("workflow, all is accepted", worked(step, good) == (0, "", ""))
-    try_workflow_fails(step, good)
+class ContinuousIntegration(HelperTest):
+    def test_names(self) -> None:
+        """The hook looks at what is staged."""
+        seen: Ended | tuple[Ended, Ended]
+        for name in ("a", EVIL, "-x", "0:a", "/b", "./c", ":(top)d", TURNED):
+            at = repository(f"hook {name!r}".replace("/", "_"))
+            path = name.lstrip("./") + ".dex" if name in ("./c", "/b") else f"{name}.dex"
+            seen = staged(at, path, assembled(TEXT)), committed(at)
+            self.check(f"hook, {path!r} is accepted", seen[1][0] == 0, seen)
+            staged(at, path, b"no file")
+            put(at, path, assembled(TEXT))
+            seen = committed(at)
+            is_so = (
+                seen[0] == 1
+                and "error: 1 TooShort: " in seen[2]
+                and seen[2].count("\n") == 1
+                and seen[2][:-1].isprintable()
+            )
+            self.check(f"hook, {path!r} is refused as it is staged", is_so and "PWNED" not in os.listdir(at), seen)
 
+    def test_kinds(self) -> None:
+        """A name in any case, archives too, and what is no file; what has no .dex file in it isn't kept out."""
+        seen: Ended | tuple[Ended, Ended]
+        for number, name in enumerate(LOOKED_AT):
+            at = repository(f"hook kind {number}")
+            staged(at, name, refused(b"no file", name))
+            seen = committed(at)
+            is_so = seen[0] == 1 and f"pre-commit: {name}" in seen[2] and "1 TooShort: " in seen[2] and count(at) == "0"
+            self.check(f"hook, {name}", is_so, seen)
+            staged(at, name, refused(assembled(TEXT), name))
+            seen = committed(at)
+            self.check(f"hook, {name}, accepted", (seen[0], seen[2], count(at)) == (0, "", "1"), seen)
+        at = repository("hook other kinds")
+        staged(at, "gradle-wrapper.jar", archive(("a.class", b"x")))
+        staged(at, "x.zip", archive())
+        staged(at, "x.dexx", b"no file")
+        self.check("hook, archives without a .dex file, other names", committed(at)[0] == 0 and count(at) == "1")
+        staged(at, "x.jar", b"no archive")
+        seen = committed(at)
+        self.check("hook, no archive", seen[0] == 1 and "x.jar: " in seen[2], seen)
+        at = repository("hook link")
+        put(at, "blob", b"no file")
+        os.symlink("blob", os.path.join(at, "a.dex"))
+        run(["git", "add", "-A"], at=at)
+        seen = committed(at)
+        self.check("hook, a link", seen[0] == 1 and "a.dex: " in seen[2] and count(at) == "0", seen)
+        at = repository("hook link of a file's bytes")
+        put(at, "good", assembled(TEXT))
+        seen = shell("git update-index --add --cacheinfo 120000,$(git hash-object -w good),a.dex", at), committed(at)
+        self.check("hook, a link whose bytes are a file", seen[1][0] == 1 and count(at) == "0", seen)
 
-def try_workflow_fails(step: str, good: str) -> None:
-    """What it couldn't look at ends in failure."""
-    git = shutil.which("git")
-    assert git is not None  # (the repository was made by it)
-    seen = worked(step, room("workflow nowhere"))
-    check("workflow, no repository", seen[0] != 0, seen)
-    seen = worked(step, good, GIT_TEST_ASSUME_DIFFERENT_OWNER="1")
-    check("workflow, another one's repository", seen[0] != 0, seen)
-    seen = worked(step, good, **before(failing("workflow git", git, "ls-files")))
-    check("workflow, git ls-files fails", seen[0] != 0, seen)
-    seen = worked(step, good, TMPDIR="/none")
-    check("workflow, no folder for the list", seen[0] != 0, seen)
-    seen = worked(step, good, PATH=os.path.dirname(git))
-    check("workflow, no dexasm", seen[0] == 1, seen)
-    os.mkdir(os.path.join(good, "without"))
-    os.symlink("/bin/true", os.path.join(good, "without", "dexasm"))
-    seen = worked(step, good, **before(os.pathsep.join([alone(), os.path.join(good, "without")])))
-    check("workflow, a dexasm that answers nothing", seen[0] == 1, seen)
-    os.remove(os.path.join(good, "a.dex"))
-    seen = worked(step, good)
-    check("workflow, a file that isn't there", seen[0] == 1 and "a.dex" in seen[1], seen)
+    def test_merged(self) -> None:
+        """What a merge brings, by the hook's other name."""
+        at = repository("hook merge", ("pre-commit", "pre-merge-commit"))
+        staged(at, "a.dex", assembled(TEXT))
+        seen = [committed(at), run(["git", "checkout", "-qb", "theirs"], at=at)]
+        staged(at, "b.dex", b"no file")
+        seen += [committed(at, "--no-verify"), run(["git", "checkout", "-q", "-"], at=at)]
+        staged(at, "c", b"")
+        seen += [committed(at), run(["git", "merge", "-qm", "b", "theirs"], at=at, **IDENTITY)]
+        said = seen[-1][2]
+        is_so = seen[-1][0] == 1 and "b.dex:0x07: error: 1 TooShort: " in said and said.startswith("pre-merge-commit: ")
+        self.check("hook, a merge", is_so and count(at) == "3" and [one[0] for one in seen[:-1]] == [0] * 5, seen)
 
+    def test_hook_fails(self) -> None:
+        """Whatever git can't do, or dexasm or the disk, ends in failure."""
+        at = repository("hook fails")
+        staged(at, "a.dex", assembled(TEXT))
+        hook, git = [os.path.join(at, ".git/hooks/pre-commit")], shutil.which("git")
+        assert git is not None  # (the repository was made by it)
+        self.check_equal("hook, by itself", run(hook, at=at), (0, "", ""))
+        for word in ("rev-parse", "hash-object", "diff-index", "cat-file"):
+            seen = run(hook, at=at, **before(failing(f"hook git {word}", git, word)))
+            # (without rev-parse, all files count as new)
+            self.check(f"hook, git {word} fails", seen[0] != 0 or word == "rev-parse", seen)
+        seen = run(hook, at=at, **before(failing("hook git", git)))
+        self.check("hook, git fails", seen[0] != 0, seen)
+        put(at, "b.dex", b"no file")
+        run(["git", "add", "-A"], at=at)
+        for setting in ("diff.orderFile=/none", "diff.external=/none", "diff.relative=true", "core.quotePath=false"):
+            seen = run(["git", "-c", setting, *COMMIT[1:]], at=at, **IDENTITY)
+            self.check(f"hook, {setting}", seen[0] != 0 and "b.dex:0x07: " in seen[2] and count(at) == "0", seen)
+        for name in ("GIT_LITERAL_PATHSPECS", "GIT_ICASE_PATHSPECS", "GIT_GLOB_PATHSPECS", "GIT_NOGLOB_PATHSPECS"):
+            seen = committed(at, **{name: "1"})
+            self.check(f"hook, {name}", seen[0] != 0 and "b.dex:0x07: " in seen[2] and count(at) == "0", seen)
+        seen = run(hook, at=room("hook nowhere"))
+        self.check("hook, no repository", seen[0] != 0, seen)
+        seen = committed(at, TMPDIR="/none")
+        self.check("hook, no folder for what it looks at", seen[0] != 0 and count(at) == "0", seen)
+        run(["git", "rm", "-qf", "b.dex"], at=at)
+        os.mkdir(os.path.join(at, "without"))
+        os.symlink("/bin/true", os.path.join(at, "without", "dexasm"))
+        ways = os.pathsep.join([alone(), os.path.join(at, "without")])
+        seen = committed(at, **before(ways))
+        self.check("hook, a dexasm that answers nothing", seen[0] != 0 and count(at) == "0", seen)
+        seen = committed(at, PATH=os.path.dirname(git))
+        self.check("hook, no dexasm", seen[0] == 1 and count(at) == "0", seen)
+        seen = run(["bash", "-c", 'ulimit -f 0; exec "$@"', "-", *COMMIT], at=at, **IDENTITY)
+        self.check("hook, no room for what it looks at", seen[0] != 0 and count(at) == "0", seen)
 
-TRIES = (try_names, try_kinds, try_merged, try_hook_fails, try_workflow)
+    def step_of(self) -> str:
+        """The step of the workflow that looks, as a file."""
+        text = get(TOP, "docs/ci/github-actions.yml").decode()
+        found = re.findall(r"^ {8}run: \|\n((?: {10}.*\n)+)", text, re.M)
+        steps = [re.sub(r"^ {10}", "", step, flags=re.M) for step in found]
+        self.check("workflow, its steps", len(steps) == 2 and all("${{" not in step for step in steps), steps)
+        return put(room("workflow step"), "step", steps[1].encode())
+
+    def test_workflow(self) -> None:
+        """The steps of the workflow, as bash runs them there, but the one that installs."""
+        step, at = self.step_of(), room("workflow")
+        bad = many(at) + 1  # (a link)
+        put(at, "a.apk", archive(("classes.dex", assembled(TEXT))))
+        put(at, "b.apk", b"no archive")
+        for number, name in enumerate(LOOKED_AT):
+            put(at, f"{number}/{name}", refused(b"no file", name))
+        run(["git", "init", "-q", "."], at=at)
+        run(["git", "add", "-A"], at=at)
+        status, out, said = worked(step, at)
+        lines = out.encode("latin1").decode("utf8").splitlines()
+        is_so = len(lines) == bad + 1 + len(LOOKED_AT)
+        is_so = is_so and all(line.startswith("refused: ") or properties(line) for line in lines)
+        is_so = is_so and all(line.isprintable() for line in lines)
+        self.check(
+            "workflow, what is refused",
+            status == 1 and said == "" and is_so and "PWNED" not in os.listdir(at),
+            (status, out, said),
+        )
+        good = room("workflow good")
+        put(good, "a.dex", assembled(TEXT))
+        put(good, "gradle-wrapper.jar", archive(("a.class", b"x")))
+        run(["git", "init", "-q", "."], at=good)
+        run(["git", "add", "-A"], at=good)
+        self.check_equal("workflow, all is accepted", worked(step, good), (0, "", ""))
+        self.check_workflow_fails(step, good)
+
+    def check_workflow_fails(self, step: str, good: str) -> None:
+        """What it couldn't look at ends in failure."""
+        git = shutil.which("git")
+        assert git is not None  # (the repository was made by it)
+        seen = worked(step, room("workflow nowhere"))
+        self.check("workflow, no repository", seen[0] != 0, seen)
+        seen = worked(step, good, GIT_TEST_ASSUME_DIFFERENT_OWNER="1")
+        self.check("workflow, another one's repository", seen[0] != 0, seen)
+        seen = worked(step, good, **before(failing("workflow git", git, "ls-files")))
+        self.check("workflow, git ls-files fails", seen[0] != 0, seen)
+        seen = worked(step, good, TMPDIR="/none")
+        self.check("workflow, no folder for the list", seen[0] != 0, seen)
+        seen = worked(step, good, PATH=os.path.dirname(git))
+        self.check("workflow, no dexasm", seen[0] == 1, seen)
+        os.mkdir(os.path.join(good, "without"))
+        os.symlink("/bin/true", os.path.join(good, "without", "dexasm"))
+        seen = worked(step, good, **before(os.pathsep.join([alone(), os.path.join(good, "without")])))
+        self.check("workflow, a dexasm that answers nothing", seen[0] == 1, seen)
+        os.remove(os.path.join(good, "a.dex"))
+        seen = worked(step, good)
+        self.check("workflow, a file that isn't there", seen[0] == 1 and "a.dex" in seen[1], seen)

@@ -3,7 +3,8 @@ import os
 import shutil
 from collections.abc import Sequence
 
-from python.tests.tools.rooms import NAMES, TOP, check, put, room, run, shell
+from .rooms import NAMES, TOP, HelperTest, put, room, run, shell
+
 
 BASH = """. {file}
 COMP_WORDS=({words}) COMP_CWORD={at}
@@ -20,47 +21,46 @@ def completed(at: str, words: Sequence[str], function: str = "_dexasm_helper") -
     return sorted(out.split("\0")[:-1]) if (status, said) == (0, "") else (status, said)
 
 
-def try_bash() -> None:
-    at = room("completion")
-    for words, want in (
-        (("dexasm-apk", "''"), ["check", "list", "strip"]),
-        (("dexasm-query", "c"), ["calls", "classes"]),
-        (("dexasm-info", "--h"), ["--help", "--hex"]),
-        (("dexasm-diff", "--color", "a"), ["always", "auto"]),
-        (("dexasm-size", "--by", "''"), ["class", "method", "package", "string"]),
-        (("dexasm-merge", "--"), ["--help", "--output", "--same", "--version"]),
-        (("dexasm-size", "--s"), ["--sort"]),
-        (("dexasm-split", "--"), ["--help", "--join", "--version"]),
-        (("dexasm-browse", "--graphs", "''"), ["all"]),
-        (("dexasm-graph", "--format", "s"), ["svg"]),
-        (("dexasm-explain", "--j"), ["--json"]),
-        (("/a/b/dexasm-apk", "s"), ["strip"]),
-    ):
-        check(f"bash completes {words!r}", completed(at, words) == want, completed(at, words))
-    check("bash completes dexasm", completed(at, ("dexasm", "str"), "_dexasm") == ["strip"])
-    # (bash reads what it is offered by lines)
-    names = [name for name in NAMES if "\n" not in name]
-    for name in names:
-        put(at, name, b"")
-    found = completed(at, ("dexasm-diff", "a.dex", "''"))
-    check("bash completes files", found == sorted(os.fsencode(name).decode("latin1") for name in names), found)
-    for word in ("'$(touch PWNED)'", "'`touch PWNED`'", "'a|;e touch'", "'$(touch'", "'*'"):
-        completed(at, ("dexasm-diff", "a.dex", word))
-        completed(at, ("dexasm", "list", word), "_dexasm")
-    check("bash runs no name", "PWNED" not in os.listdir(at))
+class Completion(HelperTest):
+    def test_bash(self) -> None:
+        at = room("completion")
+        for words, want in (
+            (("dexasm-apk", "''"), ["check", "list", "strip"]),
+            (("dexasm-query", "c"), ["calls", "classes"]),
+            (("dexasm-info", "--h"), ["--help", "--hex"]),
+            (("dexasm-diff", "--color", "a"), ["always", "auto"]),
+            (("dexasm-size", "--by", "''"), ["class", "method", "package", "string"]),
+            (("dexasm-merge", "--"), ["--help", "--output", "--same", "--version"]),
+            (("dexasm-size", "--s"), ["--sort"]),
+            (("dexasm-split", "--"), ["--help", "--join", "--version"]),
+            (("dexasm-browse", "--graphs", "''"), ["all"]),
+            (("dexasm-graph", "--format", "s"), ["svg"]),
+            (("dexasm-explain", "--j"), ["--json"]),
+            (("/a/b/dexasm-apk", "s"), ["strip"]),
+        ):
+            self.check_equal(f"bash completes {words!r}", completed(at, words), want)
+        self.check_equal("bash completes dexasm", completed(at, ("dexasm", "str"), "_dexasm"), ["strip"])
+        # (bash reads what it is offered by lines)
+        names = [name for name in NAMES if "\n" not in name]
+        for name in names:
+            put(at, name, b"")
+        found = completed(at, ("dexasm-diff", "a.dex", "''"))
+        self.check_equal("bash completes files", found, sorted(os.fsencode(name).decode("latin1") for name in names))
+        for word in ("'$(touch PWNED)'", "'`touch PWNED`'", "'a|;e touch'", "'$(touch'", "'*'"):
+            completed(at, ("dexasm-diff", "a.dex", word))
+            completed(at, ("dexasm", "list", word), "_dexasm")
+        self.check("bash runs no name", "PWNED" not in os.listdir(at))
 
-
-def try_others() -> None:
-    """zsh and fish take their files."""
-    at = room("completion others")
-    file = f"{TOP}/contrib/completion"
-    if shutil.which("zsh"):
-        seen = run(["zsh", "-n", f"{file}/_dexasm"], at=at)
-        check("zsh reads its completions", seen == (0, "", ""), seen)
-    if shutil.which("fish"):
-        text = f"source '{file}/dexasm.fish'; complete -C 'dexasm-diff --color a'; complete -C 'dexasm-query c'"
-        seen = run(["fish", "--no-config", "-c", text], at=at)
-        check("fish completes", seen[0] == 0 and {"always", "auto", "calls", "classes"} <= set(seen[1].split()), seen)
-
-
-TRIES = (try_bash, try_others)
+    def test_others(self) -> None:
+        """zsh and fish take their files."""
+        at = room("completion others")
+        file = f"{TOP}/contrib/completion"
+        if shutil.which("zsh"):
+            seen = run(["zsh", "-n", f"{file}/_dexasm"], at=at)
+            self.check_equal("zsh reads its completions", seen, (0, "", ""))
+        if shutil.which("fish"):
+            text = f"source '{file}/dexasm.fish'; complete -C 'dexasm-diff --color a'; complete -C 'dexasm-query c'"
+            seen = run(["fish", "--no-config", "-c", text], at=at)
+            self.check(
+                "fish completes", seen[0] == 0 and {"always", "auto", "calls", "classes"} <= set(seen[1].split()), seen
+            )

@@ -4,15 +4,31 @@ A row of ROWS has a test's name, what it is about, how many cases of it ART has,
 None where ART takes the file (made version 035, its sums right), and the classes. They are all in one listing. What a
 listing can't say stands in `changed_files`.
 """
-import hashlib
 import itertools
 import os
 import re
-import struct
 from collections.abc import Callable, Iterator
 
-from python.tests.tools.test_close import resigned
-from python.tests.tools.rooms import ESC, HEAD, NAMES, TOP, assembled, check, dexasm, get, is_one_line, put, room, shell, tool
+from .patched import (
+    CLASSES,
+    FIELDS,
+    MAP_OFF,
+    METHODS,
+    PROTOS,
+    STRINGS,
+    TYPES,
+    Patched,
+    PatchedTest,
+    Place,
+    code,
+    map_entry,
+    swapped,
+    with_interface,
+    with_number,
+    with_super,
+)
+from .rooms import ESC, HEAD, NAMES, TOP, assembled, dexasm, get, is_one_line, put, room, shell, tool
+
 
 PUBLIC, PRIVATE, PROTECTED, STATIC, FINAL, SYNCHRONIZED = 1, 2, 4, 8, 0x10, 0x20
 BRIDGE = VOLATILE = 0x40
@@ -186,193 +202,73 @@ def lines_by_class(out: str) -> dict[str | None, set[str | None]]:
     return told
 
 
-def try_cases() -> None:
-    """Each case alone is refused where ART refuses it, for its reason, and not where ART takes it."""
-    wants: dict[str, tuple[str, str | None]]
-    at, text, wants = room("lint cases"), [HEAD.decode()], {}
-    for number, (test, about, count, rule, cases) in enumerate(ROWS):
-        check(f"dexasm-lint, as many cases of {test}: {about}", len(cases) >= count, len(cases))
-        for which, (flags, body) in enumerate(cases):
-            name = f"L{test}{number}x{which};"
-            wants[name] = f"{test}, {about}, {which}", rule
-            text.append(f"class {name} {flags:#x}\n{body}end class\n")
-    file = assembled("".join(text).encode("ascii"))
-    put(at, "cases.dex", file)
-    status, out, said = tool("dexasm-lint", "cases.dex", at=at)
-    told = lines_by_class(out)
-    check("dexasm-lint, all cases", status == 1 and said == "" and set(told) <= set(wants), (status, said, out[:300]))
-    for name, (what, rule) in wants.items():
-        seen = told.get(name, set())
-        check(f"dexasm-lint, {what}", rule in seen if rule else not seen, seen)
-    piped = tool("dexasm-lint", "-", at=at, given=dexasm("strip", given=file))[1]
-    check("dexasm-lint, a strip", piped == out.replace("cases.dex", "standard input"), piped[:300])
+class Lint(PatchedTest):
+    def test_cases(self) -> None:
+        """Each case alone is refused where ART refuses it, for its reason, and not where ART takes it."""
+        wants: dict[str, tuple[str, str | None]]
+        at, text, wants = room("lint cases"), [HEAD.decode()], {}
+        for number, (test, about, count, rule, cases) in enumerate(ROWS):
+            self.check(f"dexasm-lint, as many cases of {test}: {about}", len(cases) >= count, len(cases))
+            for which, (flags, body) in enumerate(cases):
+                name = f"L{test}{number}x{which};"
+                wants[name] = f"{test}, {about}, {which}", rule
+                text.append(f"class {name} {flags:#x}\n{body}end class\n")
+        file = assembled("".join(text).encode("ascii"))
+        put(at, "cases.dex", file)
+        status, out, said = tool("dexasm-lint", "cases.dex", at=at)
+        told = lines_by_class(out)
+        self.check(
+            "dexasm-lint, all cases", status == 1 and said == "" and set(told) <= set(wants), (status, said, out[:300])
+        )
+        for name, (what, rule) in wants.items():
+            seen = told.get(name, set())
+            self.check(f"dexasm-lint, {what}", rule in seen if rule else not seen, seen)
+        piped = tool("dexasm-lint", "-", at=at, given=dexasm("strip", given=file))[1]
+        self.check_equal("dexasm-lint, a strip", piped, out.replace("cases.dex", "standard input"))
 
+    def changed_files(self) -> Iterator[tuple[str, bytes, int | None]]:
+        """Of each file that a listing can't say: its test or rule, its bytes, and dexasm's fault of it, or None."""
+        row: Callable[[int, int], Place] = lambda field, by: lambda one: one.offset(field) + by
+        plain = Patched().closed()
+        yield from ((f"Checksum {number}", plain, None) for number in range(4))
+        # (neither looks at debug information, which ART refuses)
+        yield "DebugInfoTypeIdxTest", with_number(lambda one: code(one) + 8, "<I", 0x71), None
+        yield "MethodId class", with_number(row(METHODS, 0), "<H", 0xFFFF), 33
+        yield "MethodId proto", with_number(row(METHODS, 2), "<H", 0xFFFF), 33
+        yield "MethodId name", with_number(row(METHODS, 4), "<I", 0xFFFFFFFF), 33
+        for field in (STRINGS, TYPES, PROTOS, FIELDS, METHODS, CLASSES, MAP_OFF):
+            fault = 12 if field == MAP_OFF else 10
+            yield f"SectionAlignment {field}", with_number(field, "<I", Patched().offset(field) + 1), fault
+        for number in range(2):
+            yield f"ProtoOrdering {number}", swapped(PROTOS, number, 12), 29
+        for what, name in (("itself", b"LA;"), ("one another", b"LB;"), ("circular", b"LC;")):
+            yield f"Superclass {what}", with_super(name), 42
+            yield f"Interface {what}", with_interface(name), 42
+        for number, kind in enumerate((7, 8, 7, 8)):
+            yield f"InvokeCustomDexSamples {number}", with_number(map_entry(7 + number), "<H", kind), 13
+        yield from self.stricter_files()
 
-TEXT = HEAD + b"""class LA; 0x601
-implements LZ;
-end class
-class LB; 0x601
-super LA;
-implements LA;
-static f I 0x9
-direct a_b ()V 0x9
-code 2 0 0
-packed-switch v0 :p
-packed-switch v0 :q
-return-void
-nop
-:p
-packed-switch-payload 0 :l
-:q
-packed-switch-payload 0 :l
-:l
-return-void
-end code
-direct c (I)V 0x10000001
-end class
-class LC; 0x601
-super LB;
-implements LB;
-virtual d (II)V 0x401
-end class
-"""
-# Places of offsets in the header.
-MAP_OFF, STRINGS, TYPES, PROTOS, FIELDS, METHODS, CLASSES = 52, 60, 68, 76, 84, 92, 100
+    def test_changed(self) -> None:
+        """Files that a listing can't say: with dexasm's own refusal, or fine."""
+        at, wants = room("lint files"), []
+        for number, (what, file, fault) in enumerate(self.changed_files()):
+            put(at, f"{number}.dex", file)
+            wants.append((f"{number}.dex", what, fault))
+        cases = sum(count for _, _, count, _, _ in ROWS) + sum(not what.startswith("stricter") for _, what, _ in wants)
+        self.check_equal("dexasm-lint, all of ART's cases", cases, ALL)
+        status, out, said = tool("dexasm-lint", *(name for name, _, _ in wants), at=at)
+        told = dict(re.findall(r"^dexasm-lint: (\d+\.dex): dexasm: refused (\d+) \w+ at \d+$", said, re.M))
+        self.check("dexasm-lint, files that are refused", status == 1 and len(told) == said.count("\n"), said[:300])
+        for name, what, fault in wants:
+            seen = told.get(name), bool(re.search(rf"^{name}: (?!ok$)", out, re.M))
+            # (c's flags are those by which a LEB128 number takes five bytes)
+            self.check_equal(f"dexasm-lint, {what}", seen, (str(fault), False) if fault else (None, True))
 
-
-class Patched:
-    """A file that is changed in place and closed anew."""
-
-    def __init__(self) -> None:
-        self.file = bytearray(assembled(TEXT))
-
-    def offset(self, field: int) -> int:
-        at: int = struct.unpack_from("<I", self.file, field)[0]
-        return at
-
-    def type_of(self, name: bytes) -> int:
-        """The index of a type: strings and types are few, so their rows are walked."""
-        for index in range(self.offset(TYPES - 4)):
-            string = struct.unpack_from("<I", self.file, self.offset(TYPES) + 4 * index)[0]
-            at = struct.unpack_from("<I", self.file, self.offset(STRINGS) + 4 * string)[0]
-            if self.file[at + 1 : self.file.index(0, at)] == name:
-                return index
-        raise KeyError(name)
-
-    def closed(self) -> bytes:
-        file = bytes(self.file)
-        return resigned(file, hashlib.sha1(file[32:]).digest())
-
-
-Place = Callable[[Patched], int]  # in a file
-
-
-def with_number(place: int | Place, form: str, number: int) -> bytes:
-    """The file with another number at a place, which may depend on the file."""
-    one = Patched()
-    struct.pack_into(form, one.file, place(one) if callable(place) else place, number)
-    return one.closed()
-
-
-def swapped(field: int, row: int, size: int) -> bytes:
-    """The file with two rows of a table in the other order."""
-    one = Patched()
-    at = one.offset(field) + row * size
-    one.file[at : at + 2 * size] = one.file[at + size : at + 2 * size] + one.file[at : at + size]
-    return one.closed()
-
-
-def with_super(name: bytes) -> bytes:
-    """LA with another superclass."""
-    one = Patched()
-    struct.pack_into("<I", one.file, one.offset(CLASSES) + 8, one.type_of(name))
-    return one.closed()
-
-
-def with_interface(name: bytes) -> bytes:
-    """LA with another interface than LZ."""
-    one = Patched()
-    list_ = struct.unpack_from("<I", one.file, one.offset(CLASSES) + 12)[0]
-    struct.pack_into("<H", one.file, list_ + 4, one.type_of(name))
-    return one.closed()
-
-
-def replaced(old: bytes, new: bytes) -> bytes:
-    """The file with other bytes, which it has once."""
-    one = Patched()
-    check(f"dexasm-lint, {old!r} is there once", one.file.count(old) == 1, one.file.count(old))
-    one.file[:] = one.file.replace(old, new)
-    return one.closed()
-
-
-def map_entry(number: int) -> Place:
-    return lambda one: one.offset(MAP_OFF) + 4 + 12 * number
-
-
-def code(one: Patched) -> int:
-    """Where the only code is."""
-    return one.file.index(struct.pack("<HHHHII", 2, 0, 0, 0, 0, 21))
-
-
-def changed_files() -> Iterator[tuple[str, bytes, int | None]]:
-    """Of each file that a listing can't say: its test or rule, its bytes, and dexasm's fault of it, or None."""
-    row: Callable[[int, int], Place] = lambda field, by: lambda one: one.offset(field) + by
-    plain = Patched().closed()
-    yield from ((f"Checksum {number}", plain, None) for number in range(4))
-    # (neither looks at debug information, which ART refuses)
-    yield "DebugInfoTypeIdxTest", with_number(lambda one: code(one) + 8, "<I", 0x71), None
-    yield "MethodId class", with_number(row(METHODS, 0), "<H", 0xFFFF), 33
-    yield "MethodId proto", with_number(row(METHODS, 2), "<H", 0xFFFF), 33
-    yield "MethodId name", with_number(row(METHODS, 4), "<I", 0xFFFFFFFF), 33
-    for field in (STRINGS, TYPES, PROTOS, FIELDS, METHODS, CLASSES, MAP_OFF):
-        fault = 12 if field == MAP_OFF else 10
-        yield f"SectionAlignment {field}", with_number(field, "<I", Patched().offset(field) + 1), fault
-    for number in range(2):
-        yield f"ProtoOrdering {number}", swapped(PROTOS, number, 12), 29
-    for what, name in (("itself", b"LA;"), ("one another", b"LB;"), ("circular", b"LC;")):
-        yield f"Superclass {what}", with_super(name), 42
-        yield f"Interface {what}", with_interface(name), 42
-    for number, kind in enumerate((7, 8, 7, 8)):
-        yield f"InvokeCustomDexSamples {number}", with_number(map_entry(7 + number), "<H", kind), 13
-    yield from stricter_files()
-
-
-def stricter_files() -> Iterator[tuple[str, bytes, int]]:
-    """The rules in which dexasm is stricter than ART 14."""
-    plain = Patched().closed()
-    yield "stricter: order of classes", swapped(CLASSES, 0, 32), 42
-    yield "stricter: a shared payload", with_number(lambda one: code(one) + 18, "<I", 14), 70
-    yield "stricter: a space in a name", replaced(b"\x03a_b\0", b"\x03a b\0"), 34
-    yield "stricter: a fifth byte", replaced(b"\x81\x80\x80\x80\x01", b"\x81\x80\x80\x80\x11"), 44
-    yield "stricter: a source file", with_number(lambda one: one.offset(CLASSES) + 16, "<I", 0x7FFFFFFF), 40
-    yield "stricter: bytes after the end", plain + bytes(22), 4
-    yield "stricter: a link section", with_number(44, "<I", 16), 7
-    yield "stricter: a member twice", replaced(b"\x01\x81\x80\x80\x80\x01", b"\x00\x81\x80\x80\x80\x01"), 47
-    yield "stricter: a signature of zeros", resigned(plain, bytes(20)), 9
-
-
-def try_changed() -> None:
-    """Files that a listing can't say: with dexasm's own refusal, or fine."""
-    at, wants = room("lint files"), []
-    for number, (what, file, fault) in enumerate(changed_files()):
-        put(at, f"{number}.dex", file)
-        wants.append((f"{number}.dex", what, fault))
-    cases = sum(count for _, _, count, _, _ in ROWS) + sum(not what.startswith("stricter") for _, what, _ in wants)
-    check("dexasm-lint, all of ART's cases", cases == ALL, cases)
-    status, out, said = tool("dexasm-lint", *(name for name, _, _ in wants), at=at)
-    told = dict(re.findall(r"^dexasm-lint: (\d+\.dex): dexasm: refused (\d+) \w+ at \d+$", said, re.M))
-    check("dexasm-lint, files that are refused", status == 1 and len(told) == said.count("\n"), said[:300])
-    for name, what, fault in wants:
-        seen = told.get(name), bool(re.search(rf"^{name}: (?!ok$)", out, re.M))
-        # (c's flags are those by which a LEB128 number takes five bytes)
-        check(f"dexasm-lint, {what}", seen == ((str(fault), False) if fault else (None, True)), seen)
-
-
-def try_hostile() -> None:
-    """Texts that look like lines, names as long as they can be, marks that turn a terminal's direction."""
-    at, long = room("lint hostile"), "m" * 65535
-    evil = r"\u2066\u061c"
-    text = f"""class L{evil}; 0x1
+    def test_hostile(self) -> None:
+        """Texts that look like lines, names as long as they can be, marks that turn a terminal's direction."""
+        at, long = room("lint hostile"), "m" * 65535
+        evil = r"\u2066\u061c"
+        text = f"""class L{evil}; 0x1
 source "\\u000adirect foo ()V 0x5"
 static code I 0x9
 static a Ljava/lang/String; 0x9 = string "\\u000acode 9 9 9 = int"
@@ -385,58 +281,57 @@ const-string v0 "\\u001b[31m"
 return-void
 end code
 """
-    put(at, "fine.txt", HEAD + f"{text}end class\n".encode())
-    seen = tool("dexasm-lint", "fine.txt", at=at)
-    check("dexasm-lint, texts that look like lines", seen == (0, "fine.txt: ok\n", ""), seen)
-    wrong = "".join(f"virtual {name} ()V 0x5\n{CODE}" for name in (long, evil))
-    put(at, "bad.txt", HEAD + f"{text}{wrong}end class\n".encode())
-    status, out, said = tool("dexasm-lint", "bad.txt", at=at)
-    begins = [f"bad.txt: L{evil};->{name}()V: {ONE_OF}: " for name in (long, evil)]
-    is_so = all(line.startswith(begin) and line.isascii() for line, begin in zip(out.splitlines(), begins))
-    check("dexasm-lint, long and turning names", (status, said, out.count("\n"), is_so) == (1, "", 2, True), out[-300:])
-    for name in NAMES:
-        put(at, name, HEAD)
-    status, out, said = tool("dexasm-lint", "--", *NAMES, at=at)
-    is_so = out.count(": ok\n") == out.count("\n") == len(NAMES) and ESC not in out and "\\x1b[31mred" in out
-    check("dexasm-lint, names of files", (status, said) == (0, "") and is_so, (status, out, said))
+        put(at, "fine.txt", HEAD + f"{text}end class\n".encode())
+        seen = tool("dexasm-lint", "fine.txt", at=at)
+        self.check_equal("dexasm-lint, texts that look like lines", seen, (0, "fine.txt: ok\n", ""))
+        wrong = "".join(f"virtual {name} ()V 0x5\n{CODE}" for name in (long, evil))
+        put(at, "bad.txt", HEAD + f"{text}{wrong}end class\n".encode())
+        status, out, said = tool("dexasm-lint", "bad.txt", at=at)
+        begins = [f"bad.txt: L{evil};->{name}()V: {ONE_OF}: " for name in (long, evil)]
+        is_so = all(line.startswith(begin) and line.isascii() for line, begin in zip(out.splitlines(), begins))
+        self.check(
+            "dexasm-lint, long and turning names",
+            (status, said, out.count("\n"), is_so) == (1, "", 2, True),
+            out[-300:],
+        )
+        for name in NAMES:
+            put(at, name, HEAD)
+        status, out, said = tool("dexasm-lint", "--", *NAMES, at=at)
+        is_so = out.count(": ok\n") == out.count("\n") == len(NAMES) and ESC not in out and "\\x1b[31mred" in out
+        self.check("dexasm-lint, names of files", (status, said) == (0, "") and is_so, (status, out, said))
 
+    def test_words(self) -> None:
+        """What can't be read, and words that are wrong; the other files go on."""
+        at = room("lint words")
+        put(at, "ok.txt", HEAD)
+        put(at, "four", b"#!/bin/sh\nexit 4\n")
+        os.chmod(os.path.join(at, "four"), 0o755)
+        four, none = {"DEXASM_COMMAND": os.path.join(at, "four")}, {"DEXASM_COMMAND": "no/ne"}
+        rows: tuple[tuple[tuple[str, ...], int, dict[str, str]], ...] = (
+            (("none", "ok.txt"), 3, {}),
+            ((".", "ok.txt"), 3, {}),
+            (("", "ok.txt"), 3, {}),
+            (("ok.txt",), 4, four),
+            (("ok.txt",), 3, none),
+        )
+        for words, status, env in rows:
+            got = tool("dexasm-lint", *words, at=at, **env)
+            is_so = got[0] == status and got[1] == "ok.txt: ok\n" * (len(words) - 1)
+            self.check(f"dexasm-lint {words} {env}", is_so and is_one_line(got[2], "dexasm-lint: "), got)
+        put(at, "a.zip", b"PK\3\4" + bytes(99))
+        got = tool("dexasm-lint", "a.zip", "ok.txt", at=at)
+        self.check("dexasm-lint, an archive", got[:2] == (3, "ok.txt: ok\n") and "dexasm-apk" in got[2], got)
+        for words in (("--rules",), (f"--{ESC}[31m",), ("-x",)):
+            got = tool("dexasm-lint", *words, at=at)
+            self.check(f"dexasm-lint {words!r}", got[:2] == (2, "") and ESC not in got[2] and "usage: " in got[2], got)
+        got = shell("dexasm-lint ok.txt >&-; echo $?", at)
+        self.check("dexasm-lint, nobody to tell", got[1] == "3\n" and is_one_line(got[2], "dexasm-lint: "), got)
 
-def try_words() -> None:
-    """What can't be read, and words that are wrong; the other files go on."""
-    at = room("lint words")
-    put(at, "ok.txt", HEAD)
-    put(at, "four", b"#!/bin/sh\nexit 4\n")
-    os.chmod(os.path.join(at, "four"), 0o755)
-    four, none = {"DEXASM_COMMAND": os.path.join(at, "four")}, {"DEXASM_COMMAND": "no/ne"}
-    rows: tuple[tuple[tuple[str, ...], int, dict[str, str]], ...] = (
-        (("none", "ok.txt"), 3, {}),
-        ((".", "ok.txt"), 3, {}),
-        (("", "ok.txt"), 3, {}),
-        (("ok.txt",), 4, four),
-        (("ok.txt",), 3, none),
-    )
-    for words, status, env in rows:
-        got = tool("dexasm-lint", *words, at=at, **env)
-        is_so = got[0] == status and got[1] == "ok.txt: ok\n" * (len(words) - 1)
-        check(f"dexasm-lint {words} {env}", is_so and is_one_line(got[2], "dexasm-lint: "), got)
-    put(at, "a.zip", b"PK\3\4" + bytes(99))
-    got = tool("dexasm-lint", "a.zip", "ok.txt", at=at)
-    check("dexasm-lint, an archive", got[:2] == (3, "ok.txt: ok\n") and "dexasm-apk" in got[2], got)
-    for words in (("--rules",), (f"--{ESC}[31m",), ("-x",)):
-        got = tool("dexasm-lint", *words, at=at)
-        check(f"dexasm-lint {words!r}", got[:2] == (2, "") and ESC not in got[2] and "usage: " in got[2], got)
-    got = shell("dexasm-lint ok.txt >&-; echo $?", at)
-    check("dexasm-lint, nobody to tell", got[1] == "3\n" and is_one_line(got[2], "dexasm-lint: "), got)
-
-
-def try_page() -> None:
-    """docs/VERIFIERS.md and the help have each rule, and no other, and a case of each is tried."""
-    own = tool("dexasm-lint", "--help")[1].partition("With --code")[0]
-    rules = re.findall(r"^  ([a-z][a-z-]+)  ", own, re.M)
-    rows = re.findall(r"^\| [1-9] \| `([a-z-]+)` \|", get(TOP, "docs/VERIFIERS.md").decode(), re.M)
-    check("VERIFIERS and the help have each rule", rules == rows, sorted(set(rules) ^ set(rows)))
-    tried = {rule for _, _, _, rule, _ in ROWS if rule}
-    check("dexasm-lint, each rule is tried", set(rules) == tried, sorted(set(rules) ^ tried))
-
-
-TRIES = (try_cases, try_changed, try_hostile, try_words, try_page)
+    def test_page(self) -> None:
+        """docs/VERIFIERS.md and the help have each rule, and no other, and a case of each is tried."""
+        own = tool("dexasm-lint", "--help")[1].partition("With --code")[0]
+        rules = re.findall(r"^  ([a-z][a-z-]+)  ", own, re.M)
+        rows = re.findall(r"^\| [1-9] \| `([a-z-]+)` \|", get(TOP, "docs/VERIFIERS.md").decode(), re.M)
+        self.check("VERIFIERS and the help have each rule", rules == rows, sorted(set(rules) ^ set(rows)))
+        tried = {rule for _, _, _, rule, _ in ROWS if rule}
+        self.check("dexasm-lint, each rule is tried", set(rules) == tried, sorted(set(rules) ^ tried))

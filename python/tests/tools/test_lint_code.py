@@ -11,21 +11,18 @@ import itertools
 import json
 import os
 import re
-import sys
 from collections.abc import Iterable, Iterator
-from typing import TYPE_CHECKING, Any
+from typing import Any
 
-from python.tests.tools.rooms import ESC, HEAD, TOP, Tries, assembled, check, dexasm, get, put, room, tool
-
-sys.path.insert(0, os.path.join(TOP, "python/src"))
 from dexasm import program as programs
+from dexasm.code import Insn
 from dexasm.tools.lint import code as lint_code, kinds, verify
+from dexasm.tools.lint.asks import Line
 from dexasm.tools.lint.classes import Classes
 from dexasm.tools.lint.steps import step_of
+from tests import tried
+from .rooms import ESC, HEAD, TOP, HelperTest, assembled, dexasm, get, put, room, tool
 
-if TYPE_CHECKING:
-    from dexasm.code import Insn
-    from dexasm.tools.lint.asks import Line
 
 Row = tuple[Any, ...]  # rule, method, code, and of some the number of the instruction that is told of
 PUBLIC, STATIC, CONSTRUCTOR = 0x1, 0x8, 0x10001
@@ -35,16 +32,22 @@ ROWS: tuple[Row, ...] = (
     ("register-kind", "(JD)V 6 4 0", "add-long v0 v2 v4 => add-long v0 v2 v2 / return-void"),
     ("register-kind", "(ILX;)V 2 2 0", "if-eq v0 v1 :x => if-eq v1 v1 :x / :x / return-void"),
     ("register-kind", "(F)V 1 1 0", "if-eqz v0 :x => float-to-int v0 v0 / :x / return-void"),
-    ("register-kind", "(FI)V 2 2 0", "packed-switch v0 :p => packed-switch v1 :p / :x / return-void / :p / "
-     "packed-switch-payload 0 :x"),
+    (
+        "register-kind",
+        "(FI)V 2 2 0",
+        "packed-switch v0 :p => packed-switch v1 :p / :x / return-void / :p / " "packed-switch-payload 0 :x",
+    ),
     ("register-kind", "(I)V 1 1 0", "monitor-enter v0 => nop / return-void"),
     ("register-kind", "(I)V 1 1 0", "check-cast v0 LX; => nop / return-void"),
     ("register-kind", "(I)V 1 1 0", "instance-of v0 v0 LX; => nop / return-void"),
     ("register-kind", "(I)V 1 1 0", "throw v0 => return-void"),
     ("register-kind", "(LX;)V 2 1 0", "move v0 v1 => move-object v0 v1 / return-void"),
     ("register-kind", "(I)V 2 1 0", "move-object v0 v1 => move v0 v1 / return-void"),
-    ("register-kind", "(LX;)V 1 1 1", "invoke-static { v0 } LX;->i(I)V => invoke-static { v0 } LX;->o(LX;)V / "
-     "return-void"),
+    (
+        "register-kind",
+        "(LX;)V 1 1 1",
+        "invoke-static { v0 } LX;->i(I)V => invoke-static { v0 } LX;->o(LX;)V / " "return-void",
+    ),
     ("register-kind", "(I)V 1 1 1", "invoke-static { v0 } LX;->f(F)V => invoke-static { v0 } LX;->i(I)V / return-void"),
     ("register-kind", "(I)V 1 1 0", "iget v0 v0 LX;->f:I => nop / return-void"),
     ("register-kind", "(F)V 1 1 0", "sput v0 LX;->i:I => sput v0 LX;->f:F / return-void"),
@@ -55,15 +58,33 @@ ROWS: tuple[Row, ...] = (
     ("register-kind", "(F)I 1 1 0", "return v0 => float-to-int v0 v0 / return v0"),
     ("register-kind", "(II)LX; 2 2 0", "return-object v0 => const/4 v0 0 / return-object v0"),
     ("register-kind", "(IF)V 2 2 2", "filled-new-array { v0 v1 } [I => filled-new-array { v0 v0 } [I / return-void"),
-    ("ways-differ", "(IF)V 3 2 0", "if-eqz v1 :x / move v0 v1 / goto :y / :x / move v0 v2 => move v0 v1 / :y / "
-     "neg-int v0 v0 / return-void", 4),
-    ("ways-differ", "(ILX;)LX; 3 2 0", "move v0 v1 => move-object v0 v2 / if-eqz v1 :y / move-object v0 v2 / :y / "
-     "return-object v0", 3),
+    (
+        "ways-differ",
+        "(IF)V 3 2 0",
+        "if-eqz v1 :x / move v0 v1 / goto :y / :x / move v0 v2 => move v0 v1 / :y / " "neg-int v0 v0 / return-void",
+        4,
+    ),
+    (
+        "ways-differ",
+        "(ILX;)LX; 3 2 0",
+        "move v0 v1 => move-object v0 v2 / if-eqz v1 :y / move-object v0 v2 / :y / " "return-object v0",
+        3,
+    ),
     ("register-unset", "(I)V 2 1 0", "if-eqz v1 :y / const/4 v0 1 => nop / :y / neg-int v1 v0 => nop / return-void", 2),
-    ("ways-differ", "(JI)V 6 3 0", "move-wide v0 v3 / if-eqz v5 :y / long-to-double v0 v3 => neg-long v0 v3 / :y / "
-     "neg-long v0 v0 / return-void", 3),
-    ("ways-differ", "(I)V 3 1 1", "const/4 v1 0 / :x / new-instance v0 LX; / if-eqz v1 :y / "
-     "invoke-direct { v1 } LX;-><init>()V => nop / :y / move-object v1 v0 => nop / if-nez v2 :x / return-void", 2),
+    (
+        "ways-differ",
+        "(JI)V 6 3 0",
+        "move-wide v0 v3 / if-eqz v5 :y / long-to-double v0 v3 => neg-long v0 v3 / :y / "
+        "neg-long v0 v0 / return-void",
+        3,
+    ),
+    (
+        "ways-differ",
+        "(I)V 3 1 1",
+        "const/4 v1 0 / :x / new-instance v0 LX; / if-eqz v1 :y / "
+        "invoke-direct { v1 } LX;-><init>()V => nop / :y / move-object v1 v0 => nop / if-nez v2 :x / return-void",
+        2,
+    ),
     ("register-unset", "()V 1 0 0", "neg-int v0 v0 => const/4 v0 0 / return-void"),
     ("register-unset", "()LX; 1 0 0", "return-object v0 => const/4 v0 0 / return-object v0"),
     ("register-unset", "()V 3 0 0", "move v0 v1 => nop / return-void"),
@@ -72,35 +93,77 @@ ROWS: tuple[Row, ...] = (
     ("pair-broken", "(J)V 4 2 0", "move v0 v3 => move-wide v0 v2 / return-void"),
     ("pair-broken", "(J)V 4 2 0", "const-wide/16 v1 5 => nop / neg-long v2 v2 / return-void", 1),
     ("pair-broken", "(DJ)V 6 4 0", "move-wide v0 v3 => move-wide v0 v4 / return-void"),
-    ("pair-broken", "(JI)V 4 3 3", "invoke-static { v1 v3 v3 } LX;->j(JI)V => invoke-static { v1 v2 v3 } LX;->j(JI)V / "
-     "return-void"),
+    (
+        "pair-broken",
+        "(JI)V 4 3 3",
+        "invoke-static { v1 v3 v3 } LX;->j(JI)V => invoke-static { v1 v2 v3 } LX;->j(JI)V / " "return-void",
+    ),
     ("pair-outside", "()V 2 0 0", "const-wide/16 v1 5 => const-wide/16 v0 5 / return-void"),
     ("pair-outside", "(I)V 1 1 0", "int-to-long v0 v0 => int-to-byte v0 v0 / return-void"),
     ("pair-outside", "()V 2 0 0", "sget-wide v1 LX;->j:J => sget-wide v0 LX;->j:J / return-void"),
-    ("uninitialized-use", "()V 1 0 1", "new-instance v0 LX; / invoke-virtual { v0 } LX;->m()V => "
-     "invoke-direct { v0 } LX;-><init>()V / return-void", 1),
-    ("uninitialized-use", "()LX; 1 0 1", "new-instance v0 LX; / invoke-static { } LX;->m()V => "
-     "invoke-direct { v0 } LX;-><init>()V / return-object v0", 2),
+    (
+        "uninitialized-use",
+        "()V 1 0 1",
+        "new-instance v0 LX; / invoke-virtual { v0 } LX;->m()V => " "invoke-direct { v0 } LX;-><init>()V / return-void",
+        1,
+    ),
+    (
+        "uninitialized-use",
+        "()LX; 1 0 1",
+        "new-instance v0 LX; / invoke-static { } LX;->m()V => "
+        "invoke-direct { v0 } LX;-><init>()V / return-object v0",
+        2,
+    ),
     ("uninitialized-use", "()V 1 0 1", "new-instance v0 LX; / throw v0 => return-void", 1),
     ("uninitialized-use", "()V 1 0 1", "new-instance v0 LX; / sput-object v0 LX;->o:LX; => nop / return-void", 1),
-    ("uninitialized-use", "<init> ()V 2 1 1", "iget v0 v1 LB;->b:I => nop / invoke-direct { v1 } LB;-><init>()V / "
-     "return-void"),
-    ("uninitialized-use", "<init> (I)V 2 2 1", "iput v1 v0 LB;->b:I => iput v1 v0 LT;->f:I / "
-     "invoke-direct { v0 } LB;-><init>()V / return-void"),
-    ("uninitialized-use", "<init> ()V 1 1 1", "invoke-virtual { v0 } LT;->v()V => nop / "
-     "invoke-direct { v0 } LB;-><init>()V / return-void"),
+    (
+        "uninitialized-use",
+        "<init> ()V 2 1 1",
+        "iget v0 v1 LB;->b:I => nop / invoke-direct { v1 } LB;-><init>()V / " "return-void",
+    ),
+    (
+        "uninitialized-use",
+        "<init> (I)V 2 2 1",
+        "iput v1 v0 LB;->b:I => iput v1 v0 LT;->f:I / " "invoke-direct { v0 } LB;-><init>()V / return-void",
+    ),
+    (
+        "uninitialized-use",
+        "<init> ()V 1 1 1",
+        "invoke-virtual { v0 } LT;->v()V => nop / " "invoke-direct { v0 } LB;-><init>()V / return-void",
+    ),
     ("constructor-call", "(LX;)V 1 1 1", "invoke-direct { v0 } LX;-><init>()V => nop / return-void"),
-    ("constructor-call", "()V 1 0 1", "new-instance v0 LX; / invoke-direct { v0 } LX;-><init>()V / "
-     "invoke-direct { v0 } LX;-><init>()V => nop / return-void", 2),
-    ("constructor-call", "()V 1 0 1", "const/4 v0 0 => new-instance v0 LX; / invoke-direct { v0 } LX;-><init>()V / "
-     "return-void", 1),
-    ("constructor-call", "<init> ()V 1 1 1", "invoke-direct { v0 } LB;-><init>()V => nop / "
-     "invoke-direct { v0 } LB;-><init>()V / return-void", 1),
+    (
+        "constructor-call",
+        "()V 1 0 1",
+        "new-instance v0 LX; / invoke-direct { v0 } LX;-><init>()V / "
+        "invoke-direct { v0 } LX;-><init>()V => nop / return-void",
+        2,
+    ),
+    (
+        "constructor-call",
+        "()V 1 0 1",
+        "const/4 v0 0 => new-instance v0 LX; / invoke-direct { v0 } LX;-><init>()V / " "return-void",
+        1,
+    ),
+    (
+        "constructor-call",
+        "<init> ()V 1 1 1",
+        "invoke-direct { v0 } LB;-><init>()V => nop / " "invoke-direct { v0 } LB;-><init>()V / return-void",
+        1,
+    ),
     ("constructor-return", "<init> ()V 1 1 1", "nop => invoke-direct { v0 } LB;-><init>()V / return-void", 1),
-    ("constructor-return", "<init> (I)V 2 2 1", "if-eqz v1 :x => nop / invoke-direct { v0 } LB;-><init>()V / :x / "
-     "return-void", 2),
-    ("constructor-return", "<init> ()V 2 1 1", "new-instance v0 LB; => move-object v0 v1 / "
-     "invoke-direct { v0 } LB;-><init>()V / return-void", 2),
+    (
+        "constructor-return",
+        "<init> (I)V 2 2 1",
+        "if-eqz v1 :x => nop / invoke-direct { v0 } LB;-><init>()V / :x / " "return-void",
+        2,
+    ),
+    (
+        "constructor-return",
+        "<init> ()V 2 1 1",
+        "new-instance v0 LB; => move-object v0 v1 / " "invoke-direct { v0 } LB;-><init>()V / return-void",
+        2,
+    ),
     ("field-static", "this ()V 1 1 0", "iget v0 v0 LT;->s:I => sget v0 LT;->s:I / return-void"),
     ("field-static", "()V 1 0 0", "sget v0 LT;->f:I => sget v0 LX;->f:I / return-void"),
     ("field-static", "this (I)V 2 2 0", "sput v1 LB;->b:I => iput v1 v0 LB;->b:I / return-void"),
@@ -115,64 +178,144 @@ ROWS: tuple[Row, ...] = (
     ("call-kind", "this ()V 1 1 1", "invoke-direct { v0 } LT;->q()V => invoke-static { } LT;->q()V / return-void"),
     ("call-kind", "(LI;)V 1 1 1", "invoke-virtual { v0 } LI;->m()V => invoke-interface { v0 } LI;->m()V / return-void"),
     ("call-kind", "(LT;)V 1 1 1", "invoke-interface { v0 } LT;->v()V => invoke-virtual { v0 } LT;->v()V / return-void"),
-    ("call-kind", "(LD;)V 1 1 1", "invoke-direct { v0 } LD;->absent()V => invoke-virtual { v0 } LD;->absent()V / "
-     "return-void"),
-    ("call-init", "()V 1 0 1", "new-instance v0 LX; / invoke-virtual { v0 } LX;-><init>()V => "
-     "invoke-direct { v0 } LX;-><init>()V / return-void", 1),
+    (
+        "call-kind",
+        "(LD;)V 1 1 1",
+        "invoke-direct { v0 } LD;->absent()V => invoke-virtual { v0 } LD;->absent()V / " "return-void",
+    ),
+    (
+        "call-init",
+        "()V 1 0 1",
+        "new-instance v0 LX; / invoke-virtual { v0 } LX;-><init>()V => "
+        "invoke-direct { v0 } LX;-><init>()V / return-void",
+        1,
+    ),
     ("call-init", "()V 1 0 1", "invoke-static { } LX;-><clinit>()V => nop / return-void"),
-    ("call-init", "(LX;)V 1 1 1", "invoke-static { v0 } LX;-><init>(LX;)V => invoke-static { v0 } LX;->m(LX;)V / "
-     "return-void"),
-    ("argument-count", "(I)V 1 1 2", "invoke-static { v0 v0 } LX;->i(I)V => invoke-static { v0 } LX;->i(I)V / "
-     "return-void"),
+    (
+        "call-init",
+        "(LX;)V 1 1 1",
+        "invoke-static { v0 } LX;-><init>(LX;)V => invoke-static { v0 } LX;->m(LX;)V / " "return-void",
+    ),
+    (
+        "argument-count",
+        "(I)V 1 1 2",
+        "invoke-static { v0 v0 } LX;->i(I)V => invoke-static { v0 } LX;->i(I)V / " "return-void",
+    ),
     ("argument-count", "(I)V 1 1 2", "invoke-static { v0 } LX;->j(J)V => invoke-static { } LX;->m()V / return-void"),
     ("argument-count", "(LX;)V 1 1 2", "invoke-virtual { } LX;->m()V => invoke-virtual { v0 } LX;->m()V / return-void"),
-    ("argument-count", "(III)V 3 3 3", "invoke-static/range v0 2 LX;->m(III)V => "
-     "invoke-static/range v0 3 LX;->m(III)V / return-void"),
-    ("argument-type", "(LD;)V 1 1 1", "invoke-static { v0 } LX;->m(LB;)V => invoke-static { v0 } LX;->m(LI;)V / "
-     "return-void"),
-    ("argument-type", "(Ljava/lang/Object;)V 1 1 1", "invoke-static { v0 } LX;->m([I)V => "
-     "invoke-static { v0 } LX;->m(Ljava/lang/Object;)V / return-void"),
-    ("argument-type", "([I)V 1 1 1", "invoke-static { v0 } LX;->m([J)V => invoke-static { v0 } LX;->m([I)V / "
-     "return-void"),
-    ("argument-type", "([[I)V 1 1 1", "invoke-static { v0 } LX;->m([[Ljava/lang/Object;)V => "
-     "invoke-static { v0 } LX;->m([Ljava/lang/Object;)V / return-void"),
+    (
+        "argument-count",
+        "(III)V 3 3 3",
+        "invoke-static/range v0 2 LX;->m(III)V => " "invoke-static/range v0 3 LX;->m(III)V / return-void",
+    ),
+    (
+        "argument-type",
+        "(LD;)V 1 1 1",
+        "invoke-static { v0 } LX;->m(LB;)V => invoke-static { v0 } LX;->m(LI;)V / " "return-void",
+    ),
+    (
+        "argument-type",
+        "(Ljava/lang/Object;)V 1 1 1",
+        "invoke-static { v0 } LX;->m([I)V => " "invoke-static { v0 } LX;->m(Ljava/lang/Object;)V / return-void",
+    ),
+    (
+        "argument-type",
+        "([I)V 1 1 1",
+        "invoke-static { v0 } LX;->m([J)V => invoke-static { v0 } LX;->m([I)V / " "return-void",
+    ),
+    (
+        "argument-type",
+        "([[I)V 1 1 1",
+        "invoke-static { v0 } LX;->m([[Ljava/lang/Object;)V => "
+        "invoke-static { v0 } LX;->m([Ljava/lang/Object;)V / return-void",
+    ),
     ("argument-type", "(LB;)V 1 1 1", "invoke-static { v0 } LX;->m(LT;)V => check-cast v0 LT; / return-void"),
-    ("receiver-type", "(LD;)V 1 1 1", "invoke-virtual { v0 } LB;->w()V => invoke-virtual { v0 } LX;->w()V / "
-     "return-void"),
+    (
+        "receiver-type",
+        "(LD;)V 1 1 1",
+        "invoke-virtual { v0 } LB;->w()V => invoke-virtual { v0 } LX;->w()V / " "return-void",
+    ),
     ("receiver-type", "(Ljava/lang/Object;)V 1 1 0", "iget v0 v0 LB;->b:I => check-cast v0 LB; / return-void"),
-    ("receiver-type", "([I)V 1 1 1", "invoke-virtual { v0 } LB;->w()V => "
-     "invoke-virtual { v0 } Ljava/lang/Object;->hashCode()I / return-void"),
-    ("receiver-type", "()V 1 0 1", "new-instance v0 LD; / invoke-direct { v0 } LB;-><init>()V => "
-     "invoke-direct { v0 } LD;-><init>()V / return-void", 1),
+    (
+        "receiver-type",
+        "([I)V 1 1 1",
+        "invoke-virtual { v0 } LB;->w()V => " "invoke-virtual { v0 } Ljava/lang/Object;->hashCode()I / return-void",
+    ),
+    (
+        "receiver-type",
+        "()V 1 0 1",
+        "new-instance v0 LD; / invoke-direct { v0 } LB;-><init>()V => "
+        "invoke-direct { v0 } LD;-><init>()V / return-void",
+        1,
+    ),
     ("stored-type", "(LD;)V 1 1 0", "sput-object v0 LX;->o:LB; => sput-object v0 LX;->o:LI; / return-void"),
     ("stored-type", "(LX;[J)V 2 2 0", "iput-object v1 v0 LX;->o:[I => iput-object v1 v0 LX;->o:[J / return-void"),
     ("stored-type", "(LD;)V 1 1 1", "filled-new-array { v0 } [LB; => filled-new-array { v0 } [LD; / return-void"),
     ("result-place", "()V 1 0 0", "move-result v0 => nop / return-void"),
-    ("result-place", "()V 1 0 0", "invoke-static { } LX;->i()I / nop => move-result v0 / move-result v0 => nop / "
-     "return-void", 2),
-    ("result-place", "(I)V 2 1 0", "if-eqz v1 :x => nop / invoke-static { } LX;->i()I / :x / move-result v0 / "
-     "return-void", 2),
-    ("result-kind", "()V 2 0 0", "invoke-static { } LX;->j()J / move-result v0 => move-result-wide v0 / "
-     "return-void", 1),
+    (
+        "result-place",
+        "()V 1 0 0",
+        "invoke-static { } LX;->i()I / nop => move-result v0 / move-result v0 => nop / " "return-void",
+        2,
+    ),
+    (
+        "result-place",
+        "(I)V 2 1 0",
+        "if-eqz v1 :x => nop / invoke-static { } LX;->i()I / :x / move-result v0 / " "return-void",
+        2,
+    ),
+    (
+        "result-kind",
+        "()V 2 0 0",
+        "invoke-static { } LX;->j()J / move-result v0 => move-result-wide v0 / " "return-void",
+        1,
+    ),
     ("result-kind", "()V 2 0 0", "invoke-static { } LX;->m()V / move-result v0 => nop / return-void", 1),
     ("result-kind", "()V 2 0 0", "filled-new-array { } [I / move-result v0 => move-result-object v0 / return-void", 1),
-    ("result-kind", "()V 2 0 0", "invoke-static { } LX;->i()I / move-result-object v0 => move-result v0 / return-void",
-     1),
+    (
+        "result-kind",
+        "()V 2 0 0",
+        "invoke-static { } LX;->i()I / move-result-object v0 => move-result v0 / return-void",
+        1,
+    ),
     ("exception-place", "()V 1 0 0", "move-exception v0 => nop / return-void"),
-    ("exception-place", "(I)V 2 1 0", ":a / if-eqz v1 :h => nop / invoke-static { } LX;->m()V / :b / return-void / "
-     ":h / move-exception v0 / return-void / try :a :b / catchall :h", 3),
-    ("exception-place", "()V 1 0 0", ":a / invoke-static { } LX;->m()V / :b / nop => return-void / :h / "
-     "move-exception v0 / return-void / try :a :b / catchall :h", 2),
-    ("exception-place", "()V 1 0 0", ":a / invoke-static { } LX;->m()V / :b / return-void / :h / nop => nop / "
-     "move-exception v0 => nop / return-void / try :a :b / catchall :h", 3),
+    (
+        "exception-place",
+        "(I)V 2 1 0",
+        ":a / if-eqz v1 :h => nop / invoke-static { } LX;->m()V / :b / return-void / "
+        ":h / move-exception v0 / return-void / try :a :b / catchall :h",
+        3,
+    ),
+    (
+        "exception-place",
+        "()V 1 0 0",
+        ":a / invoke-static { } LX;->m()V / :b / nop => return-void / :h / "
+        "move-exception v0 / return-void / try :a :b / catchall :h",
+        2,
+    ),
+    (
+        "exception-place",
+        "()V 1 0 0",
+        ":a / invoke-static { } LX;->m()V / :b / return-void / :h / nop => nop / "
+        "move-exception v0 => nop / return-void / try :a :b / catchall :h",
+        3,
+    ),
     ("falls-off", "()V 1 0 0", "nop => return-void"),
     ("falls-off", "(I)V 1 1 0", ":x / nop / if-eqz v0 :x => goto :x"),
     ("falls-off", "()V 1 0 0", "invoke-static { } LX;->m()V => return-void"),
     ("payload-reached", "([I)V 1 1 0", "fill-array-data v0 :p / nop => return-void / :p / array-payload 4 00000000", 2),
-    ("payload-reached", "(I)V 1 1 0", "packed-switch v0 :p / :x / nop => return-void / :p / packed-switch-payload 0 :x",
-     2),
-    ("payload-reached", "(I)V 1 1 0", "sparse-switch v0 :p / :x / const v0 5 => return-void / :p / "
-     "sparse-switch-payload 7 :x", 2),
+    (
+        "payload-reached",
+        "(I)V 1 1 0",
+        "packed-switch v0 :p / :x / nop => return-void / :p / packed-switch-payload 0 :x",
+        2,
+    ),
+    (
+        "payload-reached",
+        "(I)V 1 1 0",
+        "sparse-switch v0 :p / :x / const v0 5 => return-void / :p / " "sparse-switch-payload 7 :x",
+        2,
+    ),
     ("return-kind", "()I 1 0 0", "return-void => const/4 v0 0 / return v0"),
     ("return-kind", "()V 1 0 0", "const/4 v0 0 / return v0 => return-void", 1),
     ("return-kind", "(J)J 2 2 0", "return v0 => return-wide v0"),
@@ -194,8 +337,11 @@ ROWS: tuple[Row, ...] = (
     ("array-kind", "([SI)V 2 2 0", "aput-char v1 v0 v1 => aput-short v1 v0 v1 / return-void"),
     ("array-data", "([J)V 1 1 0", "fill-array-data v0 :p => nop / return-void / :p / array-payload 4 00000000"),
     ("array-data", "([LX;)V 1 1 0", "fill-array-data v0 :p => nop / return-void / :p / array-payload 4 00000000"),
-    ("array-data", "([B[S)V 2 2 0", "fill-array-data v0 :p => fill-array-data v1 :p / return-void / :p / "
-     "array-payload 2 0000"),
+    (
+        "array-data",
+        "([B[S)V 2 2 0",
+        "fill-array-data v0 :p => fill-array-data v1 :p / return-void / :p / " "array-payload 2 0000",
+    ),
     ("array-type", "(I)V 1 1 0", "new-array v0 v0 I => new-array v0 v0 [I / return-void"),
     ("array-type", "(I)V 1 1 0", "new-array v0 v0 LX; => new-array v0 v0 [LX; / return-void"),
     ("array-type", "(I)V 1 1 1", "filled-new-array { v0 } I => filled-new-array { v0 } [I / return-void"),
@@ -211,23 +357,40 @@ ROWS: tuple[Row, ...] = (
     ("ins-count", "this (LX;)V 2 1 0 => 2 2 0", "return-void"),
     ("outs-short", "(I)V 1 1 0", "invoke-static { v0 } LX;->i(I)V => invoke-static { } LX;->m()V / return-void"),
     ("outs-short", "(J)V 2 2 1", "invoke-static { v0 v1 } LX;->j(J)V => invoke-static { } LX;->m()V / return-void"),
-    ("outs-short", "(III)V 3 3 2", "filled-new-array/range v0 3 [I / invoke-static/range v0 3 LX;->m(III)V => "
-     "invoke-static/range v0 2 LX;->m(II)V / return-void", 1),
+    (
+        "outs-short",
+        "(III)V 3 3 2",
+        "filled-new-array/range v0 3 [I / invoke-static/range v0 3 LX;->m(III)V => "
+        "invoke-static/range v0 2 LX;->m(II)V / return-void",
+        1,
+    ),
 )
 # Codes that a device takes, and of which something could be told.
 FINE = (
     ("(Ljava/lang/Object;)V 3 1 0", "instance-of v0 v2 LB; / if-eqz v0 :x / iget v0 v2 LB;->b:I / :x / return-void"),
-    ("(Ljava/lang/Object;)V 3 1 0", "instance-of v0 v2 LB; / if-nez v0 :x / return-void / :x / iget v0 v2 LB;->b:I / "
-     "return-void"),
-    ("()V 1 0 0", ":a / const/4 v0 1 / invoke-static { } LX;->m()V / :b / return-void / :h / neg-int v0 v0 / "
-     "return-void / try :a :b / catchall :h"),
-    ("()V 2 0 0", ":a / invoke-static { } LX;->i()I / move-result v0 / :b / return-void / :h / move-exception v1 / "
-     "throw v1 / try :a :b / catch LX; :h / catch LY; :h"),
+    (
+        "(Ljava/lang/Object;)V 3 1 0",
+        "instance-of v0 v2 LB; / if-nez v0 :x / return-void / :x / iget v0 v2 LB;->b:I / " "return-void",
+    ),
+    (
+        "()V 1 0 0",
+        ":a / const/4 v0 1 / invoke-static { } LX;->m()V / :b / return-void / :h / neg-int v0 v0 / "
+        "return-void / try :a :b / catchall :h",
+    ),
+    (
+        "()V 2 0 0",
+        ":a / invoke-static { } LX;->i()I / move-result v0 / :b / return-void / :h / move-exception v1 / "
+        "throw v1 / try :a :b / catch LX; :h / catch LY; :h",
+    ),
     ("(ILB;LD;)LI; 4 3 0", "move-object v0 v2 / if-eqz v1 :x / move-object v0 v3 / :x / return-object v0"),
-    ("(ILB;LD;)V 4 3 0", "move-object v0 v2 / if-eqz v1 :x / move-object v0 v3 / :x / iget v0 v0 LC;->c:I / "
-     "return-void"),
-    ("(LD;LX;)V 2 2 2", "invoke-static { v0 v1 } LX;->m(LI;LB;)V / invoke-static { v0 v0 } LX;->m(LX;LY;)V / "
-     "return-void"),
+    (
+        "(ILB;LD;)V 4 3 0",
+        "move-object v0 v2 / if-eqz v1 :x / move-object v0 v3 / :x / iget v0 v0 LC;->c:I / " "return-void",
+    ),
+    (
+        "(LD;LX;)V 2 2 2",
+        "invoke-static { v0 v1 } LX;->m(LI;LB;)V / invoke-static { v0 v0 } LX;->m(LX;LY;)V / " "return-void",
+    ),
     ("([LD;)V 1 1 1", "invoke-static { v0 } LX;->m([LI;)V / invoke-static { v0 } LX;->m(LX;)V / return-void"),
     ("(IF)V 3 2 1", "move v0 v1 / if-eqz v1 :x / move v0 v2 / :x / move v1 v0 / return-void"),
     ("()F 2 0 1", "const v0 0x3f800000 / add-int v1 v0 v0 / add-float v0 v0 v0 / return v0"),
@@ -239,8 +402,11 @@ FINE = (
     ("([LB;LD;)V 3 2 0", "const/4 v0 0 / aput-object v2 v1 v0 / return-void"),
     ("()V 1 0 0", "goto :x / neg-int v0 v0 / :x / return-void"),
     ("()LB; 1 0 1", "new-instance v0 LT; / invoke-direct { v0 } LB;-><init>()V / return-object v0"),
-    ("()LX; 2 0 1", "new-instance v0 LX; / move-object v1 v0 / if-eq v0 v1 :x / :x / invoke-direct { v0 } "
-     "LX;-><init>()V / return-object v1"),
+    (
+        "()LX; 2 0 1",
+        "new-instance v0 LX; / move-object v1 v0 / if-eq v0 v1 :x / :x / invoke-direct { v0 } "
+        "LX;-><init>()V / return-object v1",
+    ),
 )
 WORLD = """class LI; 0x601
 super Ljava/lang/Object;
@@ -309,49 +475,7 @@ def lint(text: str, *words: str, at: str) -> tuple[int | str, list[dict[str, Any
     return status, [json.loads(line) for line in out.splitlines()], said
 
 
-def try_rows() -> None:
-    """Each rule: what breaks it is told, at its place and once, and what keeps it isn't."""
-    at, rows = room("lint code"), [*enumerate(ROWS)]
-    status, told, said = lint(listing(0, rows), at=at)
-    check("dexasm-lint --code, wrong codes", (status, said) == (1, ""), (status, said))
-    found: dict[str, list[tuple[str, int]]] = {}
-    for one in told:
-        found.setdefault(one["class"], []).append((one["rule"], one["instruction"]))
-    for number, row in rows:
-        seen = found.get(f"LT{number};")
-        check(f"dexasm-lint --code {row}", seen == [(row[0], place_of(row))], seen)
-    status, told, said = lint(listing(1, rows), at=at)
-    check("dexasm-lint --code, right codes", (status, said) == (0, "") and told[0]["status"] == "ok", told[:3])
-    tried = [row[0] for row in ROWS]
-    few = [rule for rule in lint_code.RULES if tried.count(rule) < 3]
-    check("dexasm-lint --code, three codes of each rule", not few, few)
-
-
 END = " / return-void"
-
-
-def try_loops() -> None:
-    """What is wrong is told in a loop too, to whose beginning the register comes back as one that was told of."""
-    rows = [
-        (number, (rule, head, f":again / {text[: -len(END)]} / goto/32 :again", *more))
-        for number, (rule, head, text, *more) in enumerate(ROWS)
-        if text.endswith(END) and text[0] != ":" and rule != "constructor-return"
-    ]
-    _, told, said = lint(listing(0, rows), at=room("lint loops"))
-    found: dict[str, set[int]] = {}
-    for one in told:
-        found.setdefault(one["class"], set()).add(one["instruction"])
-    check("dexasm-lint --code, loops", len(rows) > 60 and said == "", (len(rows), said))
-    for number, row in rows:
-        check(f"dexasm-lint --code, a loop of {row}", place_of(row) in found.get(f"LT{number};", ()), found)
-
-
-def try_fine() -> None:
-    """What a device takes isn't told of."""
-    rows = [(number, ("", head, text)) for number, (head, text) in enumerate(FINE)]
-    status, told, said = lint(listing(1, rows), at=room("lint fine"))
-    seen = [(one["class"], one["instruction"], one["why"]) for one in told if one["status"] != "ok"]
-    check("dexasm-lint --code, codes that a device takes", (status, seen, said) == (0, [], ""), (seen, said))
 
 
 # ---- what an instruction takes, by its name
@@ -387,17 +511,6 @@ def named_insns() -> Iterator[tuple[str, tuple[str, ...], str]]:
     yield from ((f"{name}-switch", ("int",), "") for name in ("packed", "sparse"))
 
 
-def try_named() -> None:
-    """Each such instruction takes the types that its name says, and no other ones, and answers that of its name."""
-    made, count = all_kinds()[0], 0
-    for mnemonic, takes, answers in named_insns():
-        count += 1
-        every = itertools.product(GIVEN, repeat=len(takes))
-        seen = [given for given in every if is_taken(made, mnemonic, given, answers)]
-        check(f"dexasm-lint --code, {mnemonic}", seen == [takes], seen)
-    check("dexasm-lint --code, instructions of arithmetic", count == 119, count)
-
-
 def is_taken(made: kinds.Kinds, mnemonic: str, given: tuple[str, ...], answers: str) -> bool:
     """Whether an instruction takes these types, and then answers that one."""
     told: list[Any]
@@ -414,9 +527,6 @@ def is_taken(made: kinds.Kinds, mnemonic: str, given: tuple[str, ...], answers: 
 
 
 def of_name(mnemonic: str, *registers: int, **more: Any) -> Insn:
-    sys.path.insert(0, os.path.join(TOP, "python/src"))
-    from dexasm.code import Insn
-
     return Insn(mnemonic, *registers, **more)
 
 
@@ -432,53 +542,8 @@ def all_kinds() -> tuple[kinds.Kinds, list[kinds.Kind]]:
     return made, [*kinds.BASE, *map(made.ref, PARENTS), *objects]
 
 
-def try_laws() -> None:
-    """The join is that of a lattice: no order of ways makes a difference, and a loop comes to an end."""
-    made, every = all_kinds()
-    join = made.join
-    pairs, triples = [*itertools.product(every, repeat=2)], itertools.product(every, repeat=3)
-    check("kinds, idempotent", all(join(one, one) is one for one in every))
-    check("kinds, commutative", all(join(one, two) is join(two, one) for one, two in pairs))
-    wrong = [some for some in triples if join(join(some[0], some[1]), some[2]) is not join(some[0], join(*some[1:]))]
-    check("kinds, associative", not wrong, wrong[:3])
-    ups = {one: [two for two in every if join(one, two) is two] for one in every}
-    check("kinds, no way is longer than ten", max(longest(one, ups) for one in every) <= 10)
-    for low, high, joined in (
-        ("zero", "reference", "reference"),
-        ("zero", "null", "null"),
-        ("constant", "float", "float"),
-        ("int", "float", "conflict"),
-        ("int", "reference", "conflict"),
-        ("wide low", "long low", "long low"),
-        ("long low", "double low", "conflict"),
-        ("unset", "zero", "conflict"),
-        ("conflict", "any", "any"),
-        ("new", "null", "conflict"),
-    ):
-        first, second = (next(kind for kind in every if kind.base == base) for base in (low, high))
-        check(f"kinds, {low} and {high}", join(first, second).base == joined, join(first, second))
-    types = [("LA;", "LD;", "LB;"), ("LA;", "LC;", "LC;"), ("LA;", "LE;", None), ("LA;", kinds.OBJECT, None)]
-    seen = [join(made.ref(one), made.ref(two)).type for one, two, _ in types]
-    check("kinds, classes", seen == [both for *_, both in types], seen)
-    ranges = {one: kinds.constant(one).range for one in (1, 2, -1, 128, -129, 32768, 65536, -32769)}
-    told = ["boolean", "0 to 127", "byte", "0 to 32767", "short", "char", "int", "int"]
-    check("kinds, ranges", [*ranges.values()] == told and kinds.constant(0) is kinds.ZERO, ranges)
-
-
 def longest(one: kinds.Kind, ups: dict[kinds.Kind, list[kinds.Kind]]) -> int:
     return 1 + max((longest(up, ups) for up in ups[one] if up is not one), default=0)
-
-
-def try_monotone() -> None:
-    """What an instruction leaves only rises where what it takes does, unless something was told of the lower."""
-    made, every = all_kinds()
-    below = [(one, two) for one in every for two in every if made.join(one, two) is two]
-    some = (kinds.ZERO, kinds.INT, kinds.LONG[1], kinds.WIDE[1], kinds.CONFLICT, kinds.ANY)
-    seconds = [pair for pair in below if pair[0] in some and pair[1] in some]
-    lines = [(low, high) for low, high in itertools.product(below, seconds)]
-    for insn in insns():
-        wrong = [line for line in lines if not rises(made, insn, *zip(*line))]
-        check(f"kinds, {insn} is monotone", not wrong, wrong[:3])
 
 
 def insns() -> Iterator[Insn]:
@@ -556,66 +621,6 @@ end class
 """
 
 
-def try_places() -> None:
-    """Line and column of a listing as somebody wrote it, in both forms; of a file the instruction and its address."""
-    at = room("lint places")
-    put(at, "a.txt", LISTED)
-    status, out, said = tool("dexasm-lint", "--code", "a.txt", at=at)
-    want = [
-        "a.txt:16:20: error: v0 holds a reference (java.lang.String, from line 11) on one way to here and a constant "
-        "(from line 14) on another, and add-int takes an int: set it alike on each way (ways-differ, B1, B7)",
-        "a.txt:17:16: error: v1 holds a reference (java.lang.String, a parameter), and neg-int takes an int "
-        "(register-kind, B1)",
-    ]
-    check("dexasm-lint --code, a listing", (status, out.splitlines(), said) == (1, want, ""), (status, out, said))
-    put(at, "a.dex", assembled(LISTED))
-    status, out, said = tool("dexasm-lint", "--code", "a.dex", at=at)
-    member = "a.dex: LA;->m(Ljava/lang/String;I)V:"
-    seen = [line.partition(" error: ")[0] for line in out.splitlines()]
-    check("dexasm-lint --code, a file", seen == [f"{member} 4 (0x05):", f"{member} 5 (0x07):"], out)
-    is_so = "from instruction 1) on one way" in out and "from instruction 3)" in out
-    check("dexasm-lint --code, a file's ways", is_so, out)
-    first = b"dex 035\nclass LA; 0x1\ndirect m ()V 0x9\ncode 1 0 0\n0: nop\n1:  neg-int v0 v0\n2: return-void\n"
-    got = tool("dexasm-lint", "--code", "-", at=at, given=first + b"end code\nend class\n")
-    check("dexasm-lint --code, the first form", got[0] == 1 and got[1].startswith("standard input:6:16: error: "), got)
-
-
-def try_forms() -> None:
-    """JSON, SARIF, workers: each tells the same."""
-    at = room("lint forms")
-    status, told, said = lint(listing(0, [*enumerate(ROWS)]), at=at)
-    plain = tool("dexasm-lint", "--code", "a.txt", at=at)[1].splitlines()
-    lines = [f"a.txt:{one['line']}:{one['column']}: error: {one['why']} ({one['rule']}, {one['page']})" for one in told]
-    check("dexasm-lint --code, JSON and lines", plain == lines, plain[:2])
-    seen: list[Any] = [one for one in told if one["page"] != lint_code.RULES[one["rule"]] or not one["sentence"]]
-    check("dexasm-lint --code, JSON's pages", told and not seen, seen[:2])
-    sarif = json.loads(tool("dexasm-lint", "--code", "--sarif", "a.txt", at=at)[1])["runs"][0]
-    rules = [one["id"] for one in sarif["tool"]["driver"]["rules"]]
-    regions = [one["locations"][0]["physicalLocation"]["region"] for one in sarif["results"]]
-    seen = [(rules[one["ruleIndex"]], region["startLine"], region["startColumn"], one["message"]["text"])
-            for one, region in zip(sarif["results"], regions)]
-    check("dexasm-lint --code, SARIF", seen == [(one["rule"], one["line"], one["column"], one["why"]) for one in told])
-    check("dexasm-lint --code, SARIF's name", sarif["tool"]["driver"]["name"] == "dexasm-lint", sarif["tool"])
-    for env in (dict[str, str](), {"DEXASM_LIBRARY": os.path.abspath(Tries.library)} if Tries.library else {}):
-        got = tool("dexasm-lint", "--code", "--jobs", "3", "a.txt", "a.txt", at=at, **env)
-        check(f"dexasm-lint --code --jobs 3 {env}", (got[0], got[1].splitlines()) == (1, plain * 2), got[2])
-    put(at, "a.dex", assembled(listing(0, [*enumerate(ROWS)]).encode()))
-    sarif = json.loads(tool("dexasm-lint", "--code", "--sarif", "a.dex", at=at)[1])["runs"][0]["results"]
-    names = [one["locations"][0]["logicalLocations"][0]["fullyQualifiedName"] for one in sarif]
-    seen = [(name, one["message"]["text"].partition(" (0x")[0]) for name, one in zip(names, sarif)]
-    want: list[tuple[str | None, ...]] = [("t(ILjava/lang/String;)V", "instruction 0"), ("t(F)V", "instruction 0")]
-    check("dexasm-lint --code, SARIF of a file", seen[:2] == want and len(seen) == len(ROWS), seen[:2])
-    put(at, "b.txt", HEAD + b"class LA; 0x10000\nend class\n")
-    put(at, "c.txt", HEAD + b"class LA; 0x1\nend class\n")
-    status, out, said = tool("dexasm-lint", "--code", "--json", "none", "b.txt", "c.txt", at=at)
-    seen = [(one["file"], one["status"], one["rule"]) for one in map(json.loads, out.splitlines())]
-    want = [("none", "failed", None), ("b.txt", "broken", "class-flags"), ("c.txt", "ok", None)]
-    check("dexasm-lint --code, files", (status, seen, said.count("\n")) == (3, want, 1), (status, out, said))
-    for words in (("--jobs", "0"), ("--jobs",), ("--json", "--sarif"), ("--cod",)):
-        got = tool("dexasm-lint", *words, "c.txt", at=at)
-        check(f"dexasm-lint {words}", got[:2] == (2, "") and "usage: " in got[2], got)
-
-
 # ---- hostile files
 
 
@@ -637,8 +642,11 @@ def hostile() -> Iterator[tuple[str, str, int | None, str]]:
     body = "".join(f":L{n}\nif-eqz v0 :L{n + 2 - n % 2}\nmove/16 v{n + 2} v1\n" for n in range(8000))
     body = f"const/4 v0 0\nconst/4 v1 0\n{body}:L8000\n:L8001\nreturn-void\n"
     yield "registers by blocks", of_class(code("()V", "65535 0 0", body)), 3, "error: it has too many"
-    ways = "".join(f":B{n}\nmove/from16 v{(n + 1) % 250} v{n % 250}\nint-to-short v{n * 3 % 16} v0\nif-eqz v0 :B"
-                   f"{n - 1 if n else 1}\n" for n in range(9000))
+    ways = "".join(
+        f":B{n}\nmove/from16 v{(n + 1) % 250} v{n % 250}\nint-to-short v{n * 3 % 16} v0\nif-eqz v0 :B"
+        f"{n - 1 if n else 1}\n"
+        for n in range(9000)
+    )
     body = "".join(f"const/16 v{n} 0\n" for n in range(250))
     yield "deep joins", of_class(code("()V", "250 0 0", f"{body}goto/32 :B8999\n{ways}return-void\n")), None, ""
     tries = "".join(f":S{n}\ninvoke-static {{ }} LX;->m()V\nconst/16 v{n % 250} {n}\n" for n in range(5000))
@@ -662,60 +670,221 @@ def hostile() -> Iterator[tuple[str, str, int | None, str]]:
     yield "marks", of_class(text, evil), 1, r"holds a reference (\u2066\u061c, a parameter)"
     long = f"L{'m' * 60000};"
     yield "a long name", of_class(code(f"({long})V", "1 1 0", "neg-int v0 v0\nreturn-void\n"), long), 1, "mmm..."
-    yield "names of commands", of_class(code("(La/$(touch;)V".replace("(touch", "touch"), "1 1 0", "neg-int v0 v0\n"
-          "return-void\n")), 1, "(a.$touch, a parameter)"
+    yield "names of commands", of_class(
+        code("(La/$(touch;)V".replace("(touch", "touch"), "1 1 0", "neg-int v0 v0\n" "return-void\n")
+    ), 1, "(a.$touch, a parameter)"
 
 
-def try_hostile() -> None:
-    """None takes long, and no line has what a terminal obeys."""
-    at = room("lint hostile code")
-    for what, text, wanted, begin in hostile():
-        put(at, "a.txt", text.encode())
-        spent = os.times()
+class LintCode(HelperTest):
+    def check_rows(self) -> None:
+        """Each rule: what breaks it is told, at its place and once, and what keeps it isn't."""
+        at, rows = room("lint code"), [*enumerate(ROWS)]
+        status, told, said = lint(listing(0, rows), at=at)
+        self.check_equal("dexasm-lint --code, wrong codes", (status, said), (1, ""))
+        found: dict[str, list[tuple[str, int]]] = {}
+        for one in told:
+            found.setdefault(one["class"], []).append((one["rule"], one["instruction"]))
+        for number, row in rows:
+            seen = found.get(f"LT{number};")
+            self.check_equal(f"dexasm-lint --code {row}", seen, [(row[0], place_of(row))])
+        status, told, said = lint(listing(1, rows), at=at)
+        self.check("dexasm-lint --code, right codes", (status, said) == (0, "") and told[0]["status"] == "ok", told[:3])
+        tried = [row[0] for row in ROWS]
+        few = [rule for rule in lint_code.RULES if tried.count(rule) < 3]
+        self.check("dexasm-lint --code, three codes of each rule", not few, few)
+
+    def check_loops(self) -> None:
+        """What is wrong is told in a loop too, to whose beginning the register comes back as one that was told of."""
+        rows = [
+            (number, (rule, head, f":again / {text[: -len(END)]} / goto/32 :again", *more))
+            for number, (rule, head, text, *more) in enumerate(ROWS)
+            if text.endswith(END) and text[0] != ":" and rule != "constructor-return"
+        ]
+        _, told, said = lint(listing(0, rows), at=room("lint loops"))
+        found: dict[str, set[int]] = {}
+        for one in told:
+            found.setdefault(one["class"], set()).add(one["instruction"])
+        self.check("dexasm-lint --code, loops", len(rows) > 60 and said == "", (len(rows), said))
+        for number, row in rows:
+            self.check(f"dexasm-lint --code, a loop of {row}", place_of(row) in found.get(f"LT{number};", ()), found)
+
+    def check_fine(self) -> None:
+        """What a device takes isn't told of."""
+        rows = [(number, ("", head, text)) for number, (head, text) in enumerate(FINE)]
+        status, told, said = lint(listing(1, rows), at=room("lint fine"))
+        seen = [(one["class"], one["instruction"], one["why"]) for one in told if one["status"] != "ok"]
+        self.check_equal("dexasm-lint --code, codes that a device takes", (status, seen, said), (0, [], ""))
+
+    def check_named(self) -> None:
+        """Each such instruction takes the types that its name says, and no other ones, and answers that of its name."""
+        made, count = all_kinds()[0], 0
+        for mnemonic, takes, answers in named_insns():
+            count += 1
+            every = itertools.product(GIVEN, repeat=len(takes))
+            seen = [given for given in every if is_taken(made, mnemonic, given, answers)]
+            self.check_equal(f"dexasm-lint --code, {mnemonic}", seen, [takes])
+        self.check_equal("dexasm-lint --code, instructions of arithmetic", count, 119)
+
+    def check_laws(self) -> None:
+        """The join is that of a lattice: no order of ways makes a difference, and a loop comes to an end."""
+        made, every = all_kinds()
+        join = made.join
+        pairs, triples = [*itertools.product(every, repeat=2)], itertools.product(every, repeat=3)
+        self.check("kinds, idempotent", all(join(one, one) is one for one in every))
+        self.check("kinds, commutative", all(join(one, two) is join(two, one) for one, two in pairs))
+        wrong = [
+            some for some in triples if join(join(some[0], some[1]), some[2]) is not join(some[0], join(*some[1:]))
+        ]
+        self.check("kinds, associative", not wrong, wrong[:3])
+        ups = {one: [two for two in every if join(one, two) is two] for one in every}
+        self.check("kinds, no way is longer than ten", max(longest(one, ups) for one in every) <= 10)
+        for low, high, joined in (
+            ("zero", "reference", "reference"),
+            ("zero", "null", "null"),
+            ("constant", "float", "float"),
+            ("int", "float", "conflict"),
+            ("int", "reference", "conflict"),
+            ("wide low", "long low", "long low"),
+            ("long low", "double low", "conflict"),
+            ("unset", "zero", "conflict"),
+            ("conflict", "any", "any"),
+            ("new", "null", "conflict"),
+        ):
+            first, second = (next(kind for kind in every if kind.base == base) for base in (low, high))
+            self.check(f"kinds, {low} and {high}", join(first, second).base == joined, join(first, second))
+        types = [("LA;", "LD;", "LB;"), ("LA;", "LC;", "LC;"), ("LA;", "LE;", None), ("LA;", kinds.OBJECT, None)]
+        seen = [join(made.ref(one), made.ref(two)).type for one, two, _ in types]
+        self.check_equal("kinds, classes", seen, [both for *_, both in types])
+        ranges = {one: kinds.constant(one).range for one in (1, 2, -1, 128, -129, 32768, 65536, -32769)}
+        told = ["boolean", "0 to 127", "byte", "0 to 32767", "short", "char", "int", "int"]
+        self.check("kinds, ranges", [*ranges.values()] == told and kinds.constant(0) is kinds.ZERO, ranges)
+
+    def check_monotone(self) -> None:
+        """What an instruction leaves only rises where what it takes does, unless something was told of the lower."""
+        made, every = all_kinds()
+        below = [(one, two) for one in every for two in every if made.join(one, two) is two]
+        some = (kinds.ZERO, kinds.INT, kinds.LONG[1], kinds.WIDE[1], kinds.CONFLICT, kinds.ANY)
+        seconds = [pair for pair in below if pair[0] in some and pair[1] in some]
+        lines = [(low, high) for low, high in itertools.product(below, seconds)]
+        for insn in insns():
+            wrong = [line for line in lines if not rises(made, insn, *zip(*line))]
+            self.check(f"kinds, {insn} is monotone", not wrong, wrong[:3])
+
+    def check_places(self) -> None:
+        """Line and column of a listing as somebody wrote it, in both forms; of a file the instruction and its address."""
+        at = room("lint places")
+        put(at, "a.txt", LISTED)
         status, out, said = tool("dexasm-lint", "--code", "a.txt", at=at)
-        taken = os.times().children_user - spent.children_user
-        is_so = status == wanted if wanted is not None else status in (0, 3)
-        check(f"dexasm-lint --code, {what}", is_so and begin in out and not said, (status, out[:300], said))
-        most = 10000 if "each method" in what else 5
-        check(f"dexasm-lint --code, {what}: lines", out.count("\n") <= most and out[:-1].replace("\n", "").isprintable()
-              and all(len(line) < 600 for line in out.splitlines()), out[:300])
-        check(f"dexasm-lint --code, {what}: seconds", taken < 20, taken)
-    put(at, "a.dex", assembled([text for what, text, *_ in hostile() if what == "marks"][0].encode()))
-    out = tool("dexasm-lint", "--code", "a.dex", at=at)[1]
-    check("dexasm-lint --code, marks of a file", out.startswith(r"a.dex: L\u2066\u061c;->\u2067(L\u2066"), out)
-    put(at, "bad.txt", HEAD + b"class LA; 0x1\nbad\n")
-    put(at, ESC, HEAD + b"class LA; 0x1\nend class\n")
-    status, out, said = tool("dexasm-lint", "--code", "bad.txt", ESC, at=at)
-    is_so = (status, out) == (1, "\\x1b: ok\n") and said == "dexasm-lint: bad.txt: dexasm: refused 100 Word at 3\n"
-    check("dexasm-lint --code, a file that is refused", is_so, (status, out, said))
+        want = [
+            "a.txt:16:20: error: v0 holds a reference (java.lang.String, from line 11) on one way to here and a constant "
+            "(from line 14) on another, and add-int takes an int: set it alike on each way (ways-differ, B1, B7)",
+            "a.txt:17:16: error: v1 holds a reference (java.lang.String, a parameter), and neg-int takes an int "
+            "(register-kind, B1)",
+        ]
+        self.check(
+            "dexasm-lint --code, a listing", (status, out.splitlines(), said) == (1, want, ""), (status, out, said)
+        )
+        put(at, "a.dex", assembled(LISTED))
+        status, out, said = tool("dexasm-lint", "--code", "a.dex", at=at)
+        member = "a.dex: LA;->m(Ljava/lang/String;I)V:"
+        seen = [line.partition(" error: ")[0] for line in out.splitlines()]
+        self.check("dexasm-lint --code, a file", seen == [f"{member} 4 (0x05):", f"{member} 5 (0x07):"], out)
+        is_so = "from instruction 1) on one way" in out and "from instruction 3)" in out
+        self.check("dexasm-lint --code, a file's ways", is_so, out)
+        first = b"dex 035\nclass LA; 0x1\ndirect m ()V 0x9\ncode 1 0 0\n0: nop\n1:  neg-int v0 v0\n2: return-void\n"
+        got = tool("dexasm-lint", "--code", "-", at=at, given=first + b"end code\nend class\n")
+        self.check(
+            "dexasm-lint --code, the first form", got[0] == 1 and got[1].startswith("standard input:6:16: error: "), got
+        )
 
+    def check_forms(self) -> None:
+        """JSON, SARIF, workers: each tells the same."""
+        at = room("lint forms")
+        status, told, said = lint(listing(0, [*enumerate(ROWS)]), at=at)
+        plain = tool("dexasm-lint", "--code", "a.txt", at=at)[1].splitlines()
+        lines = [
+            f"a.txt:{one['line']}:{one['column']}: error: {one['why']} ({one['rule']}, {one['page']})" for one in told
+        ]
+        self.check_equal("dexasm-lint --code, JSON and lines", plain, lines)
+        seen: list[Any] = [one for one in told if one["page"] != lint_code.RULES[one["rule"]] or not one["sentence"]]
+        self.check("dexasm-lint --code, JSON's pages", told and not seen, seen[:2])
+        sarif = json.loads(tool("dexasm-lint", "--code", "--sarif", "a.txt", at=at)[1])["runs"][0]
+        rules = [one["id"] for one in sarif["tool"]["driver"]["rules"]]
+        regions = [one["locations"][0]["physicalLocation"]["region"] for one in sarif["results"]]
+        seen = [
+            (rules[one["ruleIndex"]], region["startLine"], region["startColumn"], one["message"]["text"])
+            for one, region in zip(sarif["results"], regions)
+        ]
+        self.check_equal(
+            "dexasm-lint --code, SARIF", seen, [(one["rule"], one["line"], one["column"], one["why"]) for one in told]
+        )
+        self.check("dexasm-lint --code, SARIF's name", sarif["tool"]["driver"]["name"] == "dexasm-lint", sarif["tool"])
+        for env in (dict[str, str](), {"DEXASM_LIBRARY": tried.shared_library()} if tried.shared_library() else {}):
+            got = tool("dexasm-lint", "--code", "--jobs", "3", "a.txt", "a.txt", at=at, **env)
+            self.check(f"dexasm-lint --code --jobs 3 {env}", (got[0], got[1].splitlines()) == (1, plain * 2), got[2])
+        put(at, "a.dex", assembled(listing(0, [*enumerate(ROWS)]).encode()))
+        sarif = json.loads(tool("dexasm-lint", "--code", "--sarif", "a.dex", at=at)[1])["runs"][0]["results"]
+        names = [one["locations"][0]["logicalLocations"][0]["fullyQualifiedName"] for one in sarif]
+        seen = [(name, one["message"]["text"].partition(" (0x")[0]) for name, one in zip(names, sarif)]
+        want: list[tuple[str | None, ...]] = [("t(ILjava/lang/String;)V", "instruction 0"), ("t(F)V", "instruction 0")]
+        self.check("dexasm-lint --code, SARIF of a file", seen[:2] == want and len(seen) == len(ROWS), seen[:2])
+        put(at, "b.txt", HEAD + b"class LA; 0x10000\nend class\n")
+        put(at, "c.txt", HEAD + b"class LA; 0x1\nend class\n")
+        status, out, said = tool("dexasm-lint", "--code", "--json", "none", "b.txt", "c.txt", at=at)
+        seen = [(one["file"], one["status"], one["rule"]) for one in map(json.loads, out.splitlines())]
+        want = [("none", "failed", None), ("b.txt", "broken", "class-flags"), ("c.txt", "ok", None)]
+        self.check("dexasm-lint --code, files", (status, seen, said.count("\n")) == (3, want, 1), (status, out, said))
+        for words in (("--jobs", "0"), ("--jobs",), ("--json", "--sarif"), ("--cod",)):
+            got = tool("dexasm-lint", *words, "c.txt", at=at)
+            self.check(f"dexasm-lint {words}", got[:2] == (2, "") and "usage: " in got[2], got)
 
-def try_bounds() -> None:
-    """A method beyond what is looked at isn't called right."""
-    os.environ.setdefault("DEXASM_COMMAND", Tries.program)
-    program = programs.Program.of_listing(dexasm("list", given=assembled(LISTED)).decode("ascii"))
-    for bounds in (("MOST_WORK", "MOST_EACH"), ("MOST_CELLS",)):
-        kept = {name: getattr(verify, name) for name in bounds}
-        try:
-            vars(verify).update(dict.fromkeys(bounds, 1))
-            told = [one.rule for one in lint_code.look(program)]
-        finally:
-            vars(verify).update(kept)
-        check(f"dexasm-lint --code, bounds {bounds}", told == [lint_code.UNREAD], told)
+    def check_hostile(self) -> None:
+        """None takes long, and no line has what a terminal obeys."""
+        at = room("lint hostile code")
+        for what, text, wanted, begin in hostile():
+            put(at, "a.txt", text.encode())
+            spent = os.times()
+            status, out, said = tool("dexasm-lint", "--code", "a.txt", at=at)
+            taken = os.times().children_user - spent.children_user
+            is_so = status == wanted if wanted is not None else status in (0, 3)
+            self.check(f"dexasm-lint --code, {what}", is_so and begin in out and not said, (status, out[:300], said))
+            most = 10000 if "each method" in what else 5
+            self.check(
+                f"dexasm-lint --code, {what}: lines",
+                out.count("\n") <= most
+                and out[:-1].replace("\n", "").isprintable()
+                and all(len(line) < 600 for line in out.splitlines()),
+                out[:300],
+            )
+            self.check(f"dexasm-lint --code, {what}: seconds", taken < 20, taken)
+        put(at, "a.dex", assembled([text for what, text, *_ in hostile() if what == "marks"][0].encode()))
+        out = tool("dexasm-lint", "--code", "a.dex", at=at)[1]
+        self.check("dexasm-lint --code, marks of a file", out.startswith(r"a.dex: L\u2066\u061c;->\u2067(L\u2066"), out)
+        put(at, "bad.txt", HEAD + b"class LA; 0x1\nbad\n")
+        put(at, ESC, HEAD + b"class LA; 0x1\nend class\n")
+        status, out, said = tool("dexasm-lint", "--code", "bad.txt", ESC, at=at)
+        is_so = (status, out) == (1, "\\x1b: ok\n") and said == "dexasm-lint: bad.txt: dexasm: refused 100 Word at 3\n"
+        self.check("dexasm-lint --code, a file that is refused", is_so, (status, out, said))
 
+    def check_bounds(self) -> None:
+        """A method beyond what is looked at isn't called right."""
+        os.environ.setdefault("DEXASM_COMMAND", tried.program())
+        program = programs.Program.of_listing(dexasm("list", given=assembled(LISTED)).decode("ascii"))
+        for bounds in (("MOST_WORK", "MOST_EACH"), ("MOST_CELLS",)):
+            kept = {name: getattr(verify, name) for name in bounds}
+            try:
+                vars(verify).update(dict.fromkeys(bounds, 1))
+                told = [one.rule for one in lint_code.look(program)]
+            finally:
+                vars(verify).update(kept)
+            self.check_equal(f"dexasm-lint --code, bounds {bounds}", told, [lint_code.UNREAD])
 
-def try_page() -> None:
-    """docs/VERIFIERS.md and the help have each rule of code, the page with its numbers, and no other; each is tried."""
-    helped = re.findall(r"^  ([a-z][a-z-]+)  ", tool("dexasm-lint", "--help")[1].partition("With --code")[2], re.M)
-    rows = re.findall(r"^\| ([AB]\d.*?|code_item) \| `([a-z-]+)` \| ", get(TOP, "docs/VERIFIERS.md").decode(), re.M)
-    rules = lint_code.RULES
-    check("the help has each rule of code", helped == [*rules], set(helped) ^ {*rules})
-    check("VERIFIERS has each rule of code", {word: number for number, word in rows} == rules, rows)
-    tried = {row[0] for row in ROWS}
-    check("each rule of code is tried", tried == {*rules}, tried ^ {*rules})
-
-
-TRIES = (
-    try_page, try_bounds, try_rows, try_loops, try_fine, try_named, try_laws, try_monotone, try_places, try_forms,
-    try_hostile,
-)  # fmt: skip
+    def check_page(self) -> None:
+        """docs/VERIFIERS.md and the help have each rule of code, the page with its numbers, and no other; each is tried."""
+        helped = re.findall(r"^  ([a-z][a-z-]+)  ", tool("dexasm-lint", "--help")[1].partition("With --code")[2], re.M)
+        rows = re.findall(r"^\| ([AB]\d.*?|code_item) \| `([a-z-]+)` \| ", get(TOP, "docs/VERIFIERS.md").decode(), re.M)
+        rules = lint_code.RULES
+        self.check("the help has each rule of code", helped == [*rules], set(helped) ^ {*rules})
+        self.check("VERIFIERS has each rule of code", {word: number for number, word in rows} == rules, rows)
+        tried = {row[0] for row in ROWS}
+        self.check("each rule of code is tried", tried == {*rules}, tried ^ {*rules})

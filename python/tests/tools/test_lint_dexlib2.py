@@ -6,16 +6,15 @@ import collections
 import os
 import random
 import shutil
-import sys
 from collections.abc import Iterator
 
-from python.tests.tools.rooms import HEAD, TOP, Tries, assembled, check, dexasm, put, room, run
-
-sys.path.insert(0, os.path.join(TOP, "python/src"))
 from dexasm.program import Program
 from dexasm.tools.lint.classes import Classes
 from dexasm.tools.lint.kinds import Kind, Kinds
 from dexasm.tools.lint.verify import Method
+from tests import tried
+from .rooms import HEAD, TOP, HelperTest, assembled, dexasm, put, room, run
+
 
 JARS = [f"/usr/share/java/{name}.jar" for name in ("dexlib2", "guava", "jsr305", "smali-util")]
 METHODS, LENGTH, REGISTERS = 400, 14, 7
@@ -41,13 +40,44 @@ NUMBERS = {
 }
 # A, B, C are registers, W begins a pair, T is a target.
 INSNS = (
-    "const/4 A 0", "const/4 A 1", "const/16 A 300", "const-wide/16 W 7", "const-string A \"x\"", "new-instance A LX;",
-    "invoke-direct { A } LX;-><init>()V", "add-int A B C", "add-long W W W", "add-float A B C", "int-to-float A B",
-    "int-to-long W A", "long-to-int A W", "long-to-double W W", "move A B", "move-object A B", "move-wide W W",
-    "if-eqz A :T", "if-eqz A :T", "if-eq A B :T", "if-nez A :T", "goto/32 :T", "check-cast A [I", "aget A B C",
-    "array-length A B", "new-array A B [J", "iget A B LX;->f:I", "iput-object A B LX;->o:LX;", "sget-wide W LX;->j:J",
-    "sget-object A LX;->o:LX;", "sget A LX;->g:F", "instance-of A B LX;", "invoke-static { A } LX;->m(I)V", "nop",
-    "move-result A", "throw A", "cmp-long A W W", "and-int A B C",
+    "const/4 A 0",
+    "const/4 A 1",
+    "const/16 A 300",
+    "const-wide/16 W 7",
+    'const-string A "x"',
+    "new-instance A LX;",
+    "invoke-direct { A } LX;-><init>()V",
+    "add-int A B C",
+    "add-long W W W",
+    "add-float A B C",
+    "int-to-float A B",
+    "int-to-long W A",
+    "long-to-int A W",
+    "long-to-double W W",
+    "move A B",
+    "move-object A B",
+    "move-wide W W",
+    "if-eqz A :T",
+    "if-eqz A :T",
+    "if-eq A B :T",
+    "if-nez A :T",
+    "goto/32 :T",
+    "check-cast A [I",
+    "aget A B C",
+    "array-length A B",
+    "new-array A B [J",
+    "iget A B LX;->f:I",
+    "iput-object A B LX;->o:LX;",
+    "sget-wide W LX;->j:J",
+    "sget-object A LX;->o:LX;",
+    "sget A LX;->g:F",
+    "instance-of A B LX;",
+    "invoke-static { A } LX;->m(I)V",
+    "nop",
+    "move-result A",
+    "throw A",
+    "cmp-long A W W",
+    "and-int A B C",
 )
 
 
@@ -121,28 +151,27 @@ def differences(method: Method, rows: list[list[int]]) -> Iterator[tuple[str, in
             yield (kind.base, number) if number not in NUMBERS[kind.base] else None
 
 
-def try_beside() -> None:
-    if not all(map(os.path.exists, JARS)) or not shutil.which("javac") or not shutil.which("java"):
-        print("tools/try contrib: dexlib2 isn't tried here: no javac, or no libsmali-java", file=sys.stderr)
-        return
-    os.environ.setdefault("DEXASM_COMMAND", Tries.program)
-    file = assembled(listing(20))
-    found, refused = theirs(room("lint dexlib2"), file)
-    program = Program.of_listing(dexasm("list", given=file).decode("ascii"))
-    seen: collections.Counter[tuple[str, int] | None]
-    alone: list[str]
-    classes, seen, alone = Classes(program), collections.Counter(), []
-    kinds = Kinds(classes.parents)
-    for one in program["LT;"].directs:
-        method = Method(classes, kinds, program["LT;"], one, one.code)
-        is_told = bool(method.check())
-        if one.name in refused:
-            alone += [] if is_told else [one.name]
-        else:
-            seen.update(differences(method, found[one.name]))
-    check("dexlib2 and dexasm-lint, as many as are compared", len(found) == METHODS and seen[None] > 5000, seen)
-    check("dexlib2 and dexasm-lint, registers", set(seen) == {None}, seen)
-    check("dexlib2 and dexasm-lint, what one refuses alone", len(refused) > 20 and not alone, alone)
-
-
-TRIES = (try_beside,)
+class BesideDexlib2(HelperTest):
+    def test_beside(self) -> None:
+        if not all(map(os.path.exists, JARS)) or not shutil.which("javac") or not shutil.which("java"):
+            self.skipTest("dexlib2 isn't tried here: no javac, or no libsmali-java")
+        os.environ.setdefault("DEXASM_COMMAND", tried.program())
+        file = assembled(listing(20))
+        found, refused = theirs(room("lint dexlib2"), file)
+        program = Program.of_listing(dexasm("list", given=file).decode("ascii"))
+        seen: collections.Counter[tuple[str, int] | None]
+        alone: list[str]
+        classes, seen, alone = Classes(program), collections.Counter(), []
+        kinds = Kinds(classes.parents)
+        for one in program["LT;"].directs:
+            method = Method(classes, kinds, program["LT;"], one, one.code)
+            is_told = bool(method.check())
+            if one.name in refused:
+                alone += [] if is_told else [one.name]
+            else:
+                seen.update(differences(method, found[one.name]))
+        self.check(
+            "dexlib2 and dexasm-lint, as many as are compared", len(found) == METHODS and seen[None] > 5000, seen
+        )
+        self.check("dexlib2 and dexasm-lint, registers", set(seen) == {None}, seen)
+        self.check("dexlib2 and dexasm-lint, what one refuses alone", len(refused) > 20 and not alone, alone)

@@ -3,9 +3,10 @@ import json
 import os
 import re
 import shutil
-import sys
 
-from python.tests.tools.rooms import ESC, HEAD, LISTING, TOP, assembled, check, dexasm, get, is_one_line, put, room, run, shell, tool
+from dexasm.tools.uses import CLASS_FLAGS, FIELD_FLAGS, METHOD_FLAGS
+from .rooms import ESC, HEAD, LISTING, TOP, HelperTest, assembled, dexasm, get, is_one_line, put, room, run, shell, tool
+
 
 NAMED = rb"""class L\u00e9/\ud83d\ude00; 0x1
 super Lx\u00e9;
@@ -18,146 +19,6 @@ return-void
 end code
 end class
 """
-
-
-def try_answers() -> None:
-    at = room("query")
-    put(at, "a.dex", assembled(LISTING))
-    put(at, "a.txt", LISTING)
-    for file in ("a.dex", "a.txt"):
-        asked = {
-            what: json.loads(tool("dexasm-query", what, file, at=at)[1]) for what in ("classes", "strings", "calls")
-        }
-        a = {
-            "flags": 1,
-            "access": "public",
-            "superclass": "Ljava/lang/Object;",
-            "interfaces": [],
-            "fields": ["s:Ljava/lang/String;", "i:I"],
-            "methods": ["m()V"],
-        }
-        check(
-            f"dexasm-query, classes of {file}",
-            asked["classes"]["LA;"] == a and asked["classes"]["La;"]["interfaces"] == ["LI;"],
-            asked["classes"],
-        )
-        check(
-            f"dexasm-query, strings of {file}",
-            asked["strings"] == {"a\u00e9": ["LA;"], 'x "y" z': ["LA;->m()V"]},
-            asked["strings"],
-        )
-        check(
-            f"dexasm-query, calls of {file}",
-            asked["calls"] == {"LA;->m()V": ["LA;->m()V"], "La;->n(I)V": []},
-            asked["calls"],
-        )
-    one = tool("dexasm-query", "calls", given=assembled(LISTING), at=at)
-    check("dexasm-query, standard input", one == tool("dexasm-query", "calls", "a.dex", at=at) and one[0] == 0, one)
-
-
-def try_names() -> None:
-    """Names and strings that aren't ASCII."""
-    at = room("query names")
-    put(at, "names.dex", assembled(HEAD + NAMED))
-    found = tool("dexasm-query", "classes", "names.dex", at=at)[1]
-    one = {
-        "flags": 1,
-        "access": "public",
-        "superclass": "Lx\u00e9;",
-        "interfaces": [],
-        "fields": ["f\u00e9:L\u00e9;", "s:Ljava/lang/String;"],
-        "methods": ["m\u00e9(L\u00e9;)V"],
-    }
-    check(
-        "dexasm-query, names are decoded", json.loads(found) == {"L\u00e9/\U0001f600;": one} and found.isascii(), found
-    )
-    found = tool("dexasm-query", "calls", "names.dex", at=at)[1]
-    check(
-        "dexasm-query, names in calls",
-        json.loads(found) == {"L\u00e9/\U0001f600;->m\u00e9(L\u00e9;)V": ["L\u00e9;->m\u00e9(L\u00e9;)V"]},
-        found,
-    )
-    found = tool("dexasm-query", "strings", "names.dex", at=at)[1]
-    check(
-        "dexasm-query, strings",
-        json.loads(found) == {"\u00e9\U0001f600\ud800\0\u202e": ["L\u00e9/\U0001f600;"]} and found.isascii(),
-        found,
-    )
-
-
-def try_ends() -> None:
-    at, file = room("query ends"), assembled(LISTING)
-    put(at, "damaged.dex", file[:-1])
-    put(at, "a.dex", file)
-    put(at, "a.apk", b"PK\3\4" + bytes(300))
-    os.mkdir(os.path.join(at, "folder"))
-    for what, status, begins in (
-        ("damaged.dex", 1, "dexasm-query: damaged.dex: dexasm: refused 4 FileSize at 32"),
-        ("none", 3, "dexasm-query: none: No such file"),
-        ("a.apk", 3, "dexasm-query: a.apk: a zip archive"),
-        ("folder", 3, "dexasm-query: folder: Is a directory"),
-        ("", 3, "dexasm-query: : No such file"),
-        (f"{ESC}[31m\n", 3, "dexasm-query: \\x1b[31m\\x0a: No such"),
-        ("\udcff", 3, "dexasm-query: \\xff: No such"),
-    ):
-        seen = tool("dexasm-query", "calls", what, at=at)
-        check(f"dexasm-query, {what!r}", seen[:2] == (status, "") and is_one_line(seen[2], begins), seen)
-
-
-def try_commands() -> None:
-    """Where dexasm isn't there, is killed or fails; and pipes that nobody reads."""
-    at, file = room("query commands"), assembled(LISTING)
-    put(at, "a.dex", file)
-    seen = tool("dexasm-query", "calls", at=at)
-    check(
-        "dexasm-query, nothing",
-        seen[:2] == (1, "") and is_one_line(seen[2], "dexasm-query: standard input: dexasm: refused 1 TooShort at 0"),
-        seen,
-    )
-    seen = tool("dexasm-query", "calls", "a.dex", at=at, DEXASM_COMMAND="/none")
-    check(
-        "dexasm-query, no dexasm",
-        seen[:2] == (3, "") and is_one_line(seen[2], "dexasm-query: DEXASM_COMMAND names no command: /none"),
-        seen,
-    )
-    seen = tool("dexasm-query", "calls", "a.dex", at=at, DEXASM_LIBRARY="/none")
-    check("dexasm-query, no library, which it doesn't ask", seen == tool("dexasm-query", "calls", "a.dex", at=at), seen)
-    shutil.copytree(os.path.join(TOP, "python/bin"), os.path.join(at, "alone", "bin"))
-    seen = run([os.path.join(at, "alone/bin/dexasm-query"), "calls", "a.dex"], at=at)
-    check(
-        "dexasm-query, no module",
-        seen[:2] == (3, "") and is_one_line(seen[2], "dexasm-query: the package dexasm isn't there"),
-        seen,
-    )
-    for dies, status in (
-        ("kill -9 $$", 3),
-        ("exit 70", 3),
-        ("exit 1", 3),
-        ("true", 3),
-        ("echo x", 3),
-        ("echo dexasm: out of memory >&2; exit 4", 4),
-    ):
-        fake = put(at, "fake", f"#!/bin/sh\n{dies}\n".encode())
-        os.chmod(fake, 0o755)
-        seen = tool("dexasm-query", "calls", "a.dex", at=at, DEXASM_COMMAND="./fake")
-        check(
-            f"dexasm-query, dexasm that does {dies}",
-            seen[:2] == (status, "") and is_one_line(seen[2], "dexasm-query: a.dex: dexasm: "),
-            seen,
-        )
-    put(
-        at, "big.dex", assembled(HEAD + b"".join(b"class L%s%d; 1\nend class\n" % (b"x" * 200, n) for n in range(2000)))
-    )
-    seen = shell(
-        "dexasm-query classes big.dex | head -c 1; echo ' '${PIPESTATUS[0]}\n"
-        "dexasm-query calls a.dex >&-; echo $?; dexasm-query calls <&-; echo $?",
-        at,
-    )
-    check(
-        "dexasm-query, a closed pipe",
-        seen[1] == "{ 0\n3\n3\n" and seen[2].count("\n") == 2 and "Traceback" not in seen[2],
-        seen,
-    )
 
 
 ADDRESSED = rb"""dex 035 listing 2
@@ -199,94 +60,254 @@ end class
 """
 
 
-def try_addresses() -> None:
-    """Offsets and addresses as dexdump has them, where it is; those of a small method by hand."""
-    at = room("query addresses")
-    put(at, "b.dex", dexasm("assemble", "--align", given=ADDRESSED))
-    status, out, said = tool("dexasm-query", "show", "--addresses", "b.dex", "LB;", at=at)
-    ours = re.findall(r"^([0-9a-f]{8}) ([0-9a-f]{4}) ", out, re.M)
-    check("dexasm-query show --addresses", status == 0 and len(ours) == 16, (status, out, said))
-    check("dexasm-query show --addresses, by hand", "\n00000146 0003 return-void\n" in out, out)
-    rest = "".join(f"{line[14:]}\n" for line in out.splitlines())
-    check("dexasm-query show --addresses, its lines", rest == dexasm("list", given=get(at, "b.dex")).decode(), rest)
-    told = tool("dexasm-info", "--hex", "b.dex", at=at)[1]
-    hexed = re.findall(r"^([0-9a-f]{8})  [0-9a-f ]{23}  ([0-9a-f]{4}): ", told, re.M)
-    check("dexasm-info --hex has these addresses", hexed == ours, hexed)
-    if shutil.which("dexdump"):
-        told = run(["dexdump", "-d", "b.dex"], at=at)[1]
-        theirs = re.findall(r"^([0-9a-f]{6}): [0-9a-f. ]+\|([0-9a-f]{4}): ", told, re.M)
-        check("dexasm-query show --addresses, as dexdump", [(f"00{one}", unit) for one, unit in theirs] == ours, told)
+class Query(HelperTest):
+    def check_answers(self) -> None:
+        at = room("query")
+        put(at, "a.dex", assembled(LISTING))
+        put(at, "a.txt", LISTING)
+        for file in ("a.dex", "a.txt"):
+            asked = {
+                what: json.loads(tool("dexasm-query", what, file, at=at)[1]) for what in ("classes", "strings", "calls")
+            }
+            a = {
+                "flags": 1,
+                "access": "public",
+                "superclass": "Ljava/lang/Object;",
+                "interfaces": [],
+                "fields": ["s:Ljava/lang/String;", "i:I"],
+                "methods": ["m()V"],
+            }
+            self.check(
+                f"dexasm-query, classes of {file}",
+                asked["classes"]["LA;"] == a and asked["classes"]["La;"]["interfaces"] == ["LI;"],
+                asked["classes"],
+            )
+            self.check_equal(
+                f"dexasm-query, strings of {file}",
+                asked["strings"],
+                {"a\u00e9": ["LA;"], 'x "y" z': ["LA;->m()V"]},
+            )
+            self.check_equal(
+                f"dexasm-query, calls of {file}",
+                asked["calls"],
+                {"LA;->m()V": ["LA;->m()V"], "La;->n(I)V": []},
+            )
+        one = tool("dexasm-query", "calls", given=assembled(LISTING), at=at)
+        self.check(
+            "dexasm-query, standard input", one == tool("dexasm-query", "calls", "a.dex", at=at) and one[0] == 0, one
+        )
 
+    def check_names(self) -> None:
+        """Names and strings that aren't ASCII."""
+        at = room("query names")
+        put(at, "names.dex", assembled(HEAD + NAMED))
+        found = tool("dexasm-query", "classes", "names.dex", at=at)[1]
+        one = {
+            "flags": 1,
+            "access": "public",
+            "superclass": "Lx\u00e9;",
+            "interfaces": [],
+            "fields": ["f\u00e9:L\u00e9;", "s:Ljava/lang/String;"],
+            "methods": ["m\u00e9(L\u00e9;)V"],
+        }
+        self.check(
+            "dexasm-query, names are decoded",
+            json.loads(found) == {"L\u00e9/\U0001f600;": one} and found.isascii(),
+            found,
+        )
+        found = tool("dexasm-query", "calls", "names.dex", at=at)[1]
+        self.check(
+            "dexasm-query, names in calls",
+            json.loads(found) == {"L\u00e9/\U0001f600;->m\u00e9(L\u00e9;)V": ["L\u00e9;->m\u00e9(L\u00e9;)V"]},
+            found,
+        )
+        found = tool("dexasm-query", "strings", "names.dex", at=at)[1]
+        self.check(
+            "dexasm-query, strings",
+            json.loads(found) == {"\u00e9\U0001f600\ud800\0\u202e": ["L\u00e9/\U0001f600;"]} and found.isascii(),
+            found,
+        )
 
-def try_show() -> None:
-    """Each class, each member and all that a name can say is a listing that assembles, of just these."""
-    at, file = room("query show"), dexasm("assemble", "--align", given=ADDRESSED)
-    put(at, "b.dex", file)
-    put(at, "names.dex", assembled(HEAD + NAMED))
-    for words, has in (
-        (("b.dex", "LB;"), 3), (("b.dex", "LB;->t"), 1), (("b.dex", "LB;->t(I)I", "LB;->g"), 2),
-        (("b.dex", "LB;->f:J"), 0),
-        (("b.dex", "LB;->t", "LB;"), 3), (("names.dex", "L\\u00e9/\\ud83d\\ude00;->m\\u00e9"), 1),
-        (("names.dex", "L\u00e9/\U0001f600;"), 1),
-    ):  # fmt: skip
-        status, out, said = tool("dexasm-query", "show", *words, at=at)
-        again = dexasm("list", given=dexasm("assemble", given=out.encode("latin1"))).decode("latin1")
-        check(f"dexasm-query show {words}", (status, said, again) == (0, "", out) and out.count("end code") == has, out)
-    for words in (("b.dex", "LZ;"), ("b.dex", "LB;->z"), ("b.dex", f"{ESC}[31m\n"), ("b.dex", ""), ("b.dex", "\\u12")):
-        seen = tool("dexasm-query", "show", *words, at=at)
-        told = is_one_line(seen[2], "dexasm-query: ") and "names nothing of the file" in seen[2]
-        check(f"dexasm-query show {words}", seen[:2] == (2, "") and told, seen)
-    for words in (("show", "b.dex"), ("show",), ("tables", "b.dex", "none"), ("calls", "b.dex", "LB;"),
-                  ("calls", "--addresses", "b.dex"), ("calls", "--lines", "b.dex")):  # fmt: skip
-        seen = tool("dexasm-query", *words, at=at)
-        check(f"dexasm-query {words}, wrong words", seen[:2] == (2, "") and "usage: " in seen[2], seen)
+    def check_ends(self) -> None:
+        at, file = room("query ends"), assembled(LISTING)
+        put(at, "damaged.dex", file[:-1])
+        put(at, "a.dex", file)
+        put(at, "a.apk", b"PK\3\4" + bytes(300))
+        os.mkdir(os.path.join(at, "folder"))
+        for what, status, begins in (
+            ("damaged.dex", 1, "dexasm-query: damaged.dex: dexasm: refused 4 FileSize at 32"),
+            ("none", 3, "dexasm-query: none: No such file"),
+            ("a.apk", 3, "dexasm-query: a.apk: a zip archive"),
+            ("folder", 3, "dexasm-query: folder: Is a directory"),
+            ("", 3, "dexasm-query: : No such file"),
+            (f"{ESC}[31m\n", 3, "dexasm-query: \\x1b[31m\\x0a: No such"),
+            ("\udcff", 3, "dexasm-query: \\xff: No such"),
+        ):
+            seen = tool("dexasm-query", "calls", what, at=at)
+            self.check(f"dexasm-query, {what!r}", seen[:2] == (status, "") and is_one_line(seen[2], begins), seen)
 
+    def check_commands(self) -> None:
+        """Where dexasm isn't there, is killed or fails; and pipes that nobody reads."""
+        at, file = room("query commands"), assembled(LISTING)
+        put(at, "a.dex", file)
+        seen = tool("dexasm-query", "calls", at=at)
+        self.check(
+            "dexasm-query, nothing",
+            seen[:2] == (1, "")
+            and is_one_line(seen[2], "dexasm-query: standard input: dexasm: refused 1 TooShort at 0"),
+            seen,
+        )
+        seen = tool("dexasm-query", "calls", "a.dex", at=at, DEXASM_COMMAND="/none")
+        self.check(
+            "dexasm-query, no dexasm",
+            seen[:2] == (3, "") and is_one_line(seen[2], "dexasm-query: DEXASM_COMMAND names no command: /none"),
+            seen,
+        )
+        seen = tool("dexasm-query", "calls", "a.dex", at=at, DEXASM_LIBRARY="/none")
+        self.check_equal(
+            "dexasm-query, no library, which it doesn't ask", seen, tool("dexasm-query", "calls", "a.dex", at=at)
+        )
+        shutil.copytree(os.path.join(TOP, "python/bin"), os.path.join(at, "alone", "bin"))
+        seen = run([os.path.join(at, "alone/bin/dexasm-query"), "calls", "a.dex"], at=at)
+        self.check(
+            "dexasm-query, no module",
+            seen[:2] == (3, "") and is_one_line(seen[2], "dexasm-query: the package dexasm isn't there"),
+            seen,
+        )
+        for dies, status in (
+            ("kill -9 $$", 3),
+            ("exit 70", 3),
+            ("exit 1", 3),
+            ("true", 3),
+            ("echo x", 3),
+            ("echo dexasm: out of memory >&2; exit 4", 4),
+        ):
+            fake = put(at, "fake", f"#!/bin/sh\n{dies}\n".encode())
+            os.chmod(fake, 0o755)
+            seen = tool("dexasm-query", "calls", "a.dex", at=at, DEXASM_COMMAND="./fake")
+            self.check(
+                f"dexasm-query, dexasm that does {dies}",
+                seen[:2] == (status, "") and is_one_line(seen[2], "dexasm-query: a.dex: dexasm: "),
+                seen,
+            )
+        put(
+            at,
+            "big.dex",
+            assembled(HEAD + b"".join(b"class L%s%d; 1\nend class\n" % (b"x" * 200, n) for n in range(2000))),
+        )
+        seen = shell(
+            "dexasm-query classes big.dex | head -c 1; echo ' '${PIPESTATUS[0]}\n"
+            "dexasm-query calls a.dex >&-; echo $?; dexasm-query calls <&-; echo $?",
+            at,
+        )
+        self.check(
+            "dexasm-query, a closed pipe",
+            seen[1] == "{ 0\n3\n3\n" and seen[2].count("\n") == 2 and "Traceback" not in seen[2],
+            seen,
+        )
 
-def try_tables() -> None:
-    at, file = room("query tables"), dexasm("assemble", "--align", given=ADDRESSED)
-    put(at, "b.dex", file)
-    put(at, "bad.dex", file[:-1])
-    put(at, "names.dex", assembled(HEAD + NAMED))
-    found = json.loads(tool("dexasm-query", "tables", "b.dex", at=at)[1])
-    want = {
-        "types": ["I", "J", "LB;", "Ljava/lang/Object;", "V"],
-        "protos": ["(I)I", "()J", "()V"],
-        "fields": ["LB;->f:J", "LB;->n:I"],
-        "methods": ["LB;-><init>()V", "LB;->g()J", "LB;->t(I)I", "Ljava/lang/Object;-><init>()V"],
-        "classes": [{"class": "LB;", "flags": 17, "access": "public final", "superclass": "Ljava/lang/Object;",
-                     "interfaces": [], "source": None}],
-    }  # fmt: skip
-    check("dexasm-query tables", want.items() <= found.items() and found["strings"] == sorted(found["strings"]), found)
-    seen = json.loads(tool("dexasm-query", "tables", "b.dex", "fields", at=at)[1])
-    check("dexasm-query tables, one", seen == {"fields": want["fields"]}, seen)
-    strings = json.loads(tool("dexasm-query", "tables", "names.dex", "strings", at=at)[1])["strings"]
-    check("dexasm-query tables, a text of any characters", "\u00e9\U0001f600\ud800\0\u202e" in strings, strings)
-    seen = tool("dexasm-query", "tables", "--lines", "b.dex", "fields", "classes", at=at)
-    lines = "fields 0 LB;->f:J\nfields 1 LB;->n:I\nclasses 0 LB; 0x11 public final super Ljava/lang/Object;\n"
-    check("dexasm-query tables --lines", seen == (0, lines, ""), seen)
-    status, out, said = tool("dexasm-query", "tables", "--lines", "names.dex", at=at)
-    count = sum(len(one) for one in json.loads(tool("dexasm-query", "tables", "names.dex", at=at)[1]).values())
-    is_so = (status, said, out.count("\n")) == (0, "", count) and out.replace("\n", "").isprintable() and out.isascii()
-    check("dexasm-query tables --lines, hostile names", is_so, out)
-    seen = tool("dexasm-query", "tables", "bad.dex", at=at)
-    told = is_one_line(seen[2], "dexasm-query: bad.dex: dexasm: refused 4 FileSize")
-    check("dexasm-query tables, a refused file", seen[:2] == (1, "") and told, seen)
-    seen = json.loads(tool("dexasm-query", "fields", "b.dex", at=at)[1])
-    want = {"LB;->n:I": {"reads": ["LB;->t(I)I"], "writes": ["LB;->t(I)I"]},
-            "LB;->f:J": {"reads": ["LB;->g()J"], "writes": []}}  # fmt: skip
-    check("dexasm-query fields", seen == want, seen)
+    def check_addresses(self) -> None:
+        """Offsets and addresses as dexdump has them, where it is; those of a small method by hand."""
+        at = room("query addresses")
+        put(at, "b.dex", dexasm("assemble", "--align", given=ADDRESSED))
+        status, out, said = tool("dexasm-query", "show", "--addresses", "b.dex", "LB;", at=at)
+        ours = re.findall(r"^([0-9a-f]{8}) ([0-9a-f]{4}) ", out, re.M)
+        self.check("dexasm-query show --addresses", status == 0 and len(ours) == 16, (status, out, said))
+        self.check("dexasm-query show --addresses, by hand", "\n00000146 0003 return-void\n" in out, out)
+        rest = "".join(f"{line[14:]}\n" for line in out.splitlines())
+        self.check_equal(
+            "dexasm-query show --addresses, its lines", rest, dexasm("list", given=get(at, "b.dex")).decode()
+        )
+        told = tool("dexasm-info", "--hex", "b.dex", at=at)[1]
+        hexed = re.findall(r"^([0-9a-f]{8})  [0-9a-f ]{23}  ([0-9a-f]{4}): ", told, re.M)
+        self.check_equal("dexasm-info --hex has these addresses", hexed, ours)
+        if shutil.which("dexdump"):
+            told = run(["dexdump", "-d", "b.dex"], at=at)[1]
+            theirs = re.findall(r"^([0-9a-f]{6}): [0-9a-f. ]+\|([0-9a-f]{4}): ", told, re.M)
+            self.check(
+                "dexasm-query show --addresses, as dexdump", [(f"00{one}", unit) for one, unit in theirs] == ours, told
+            )
 
+    def check_show(self) -> None:
+        """Each class, each member and all that a name can say is a listing that assembles, of just these."""
+        at, file = room("query show"), dexasm("assemble", "--align", given=ADDRESSED)
+        put(at, "b.dex", file)
+        put(at, "names.dex", assembled(HEAD + NAMED))
+        for words, has in (
+            (("b.dex", "LB;"), 3), (("b.dex", "LB;->t"), 1), (("b.dex", "LB;->t(I)I", "LB;->g"), 2),
+            (("b.dex", "LB;->f:J"), 0),
+            (("b.dex", "LB;->t", "LB;"), 3), (("names.dex", "L\\u00e9/\\ud83d\\ude00;->m\\u00e9"), 1),
+            (("names.dex", "L\u00e9/\U0001f600;"), 1),
+        ):  # fmt: skip
+            status, out, said = tool("dexasm-query", "show", *words, at=at)
+            again = dexasm("list", given=dexasm("assemble", given=out.encode("latin1"))).decode("latin1")
+            self.check(
+                f"dexasm-query show {words}",
+                (status, said, again) == (0, "", out) and out.count("end code") == has,
+                out,
+            )
+        for words in (
+            ("b.dex", "LZ;"),
+            ("b.dex", "LB;->z"),
+            ("b.dex", f"{ESC}[31m\n"),
+            ("b.dex", ""),
+            ("b.dex", "\\u12"),
+        ):
+            seen = tool("dexasm-query", "show", *words, at=at)
+            told = is_one_line(seen[2], "dexasm-query: ") and "names nothing of the file" in seen[2]
+            self.check(f"dexasm-query show {words}", seen[:2] == (2, "") and told, seen)
+        for words in (("show", "b.dex"), ("show",), ("tables", "b.dex", "none"), ("calls", "b.dex", "LB;"),
+                      ("calls", "--addresses", "b.dex"), ("calls", "--lines", "b.dex")):  # fmt: skip
+            seen = tool("dexasm-query", *words, at=at)
+            self.check(f"dexasm-query {words}, wrong words", seen[:2] == (2, "") and "usage: " in seen[2], seen)
 
-def try_flags() -> None:
-    """The words for flags are those of the table in LISTING."""
-    sys.path.append(os.path.join(TOP, "python/src"))
-    from dexasm.tools.uses import CLASS_FLAGS, FIELD_FLAGS, METHOD_FLAGS
+    def check_tables(self) -> None:
+        at, file = room("query tables"), dexasm("assemble", "--align", given=ADDRESSED)
+        put(at, "b.dex", file)
+        put(at, "bad.dex", file[:-1])
+        put(at, "names.dex", assembled(HEAD + NAMED))
+        found = json.loads(tool("dexasm-query", "tables", "b.dex", at=at)[1])
+        want = {
+            "types": ["I", "J", "LB;", "Ljava/lang/Object;", "V"],
+            "protos": ["(I)I", "()J", "()V"],
+            "fields": ["LB;->f:J", "LB;->n:I"],
+            "methods": ["LB;-><init>()V", "LB;->g()J", "LB;->t(I)I", "Ljava/lang/Object;-><init>()V"],
+            "classes": [{"class": "LB;", "flags": 17, "access": "public final", "superclass": "Ljava/lang/Object;",
+                         "interfaces": [], "source": None}],
+        }  # fmt: skip
+        self.check(
+            "dexasm-query tables", want.items() <= found.items() and found["strings"] == sorted(found["strings"]), found
+        )
+        seen = json.loads(tool("dexasm-query", "tables", "b.dex", "fields", at=at)[1])
+        self.check_equal("dexasm-query tables, one", seen, {"fields": want["fields"]})
+        strings = json.loads(tool("dexasm-query", "tables", "names.dex", "strings", at=at)[1])["strings"]
+        self.check(
+            "dexasm-query tables, a text of any characters", "\u00e9\U0001f600\ud800\0\u202e" in strings, strings
+        )
+        seen = tool("dexasm-query", "tables", "--lines", "b.dex", "fields", "classes", at=at)
+        lines = "fields 0 LB;->f:J\nfields 1 LB;->n:I\nclasses 0 LB; 0x11 public final super Ljava/lang/Object;\n"
+        self.check_equal("dexasm-query tables --lines", seen, (0, lines, ""))
+        status, out, said = tool("dexasm-query", "tables", "--lines", "names.dex", at=at)
+        count = sum(len(one) for one in json.loads(tool("dexasm-query", "tables", "names.dex", at=at)[1]).values())
+        is_so = (
+            (status, said, out.count("\n")) == (0, "", count) and out.replace("\n", "").isprintable() and out.isascii()
+        )
+        self.check("dexasm-query tables --lines, hostile names", is_so, out)
+        seen = tool("dexasm-query", "tables", "bad.dex", at=at)
+        told = is_one_line(seen[2], "dexasm-query: bad.dex: dexasm: refused 4 FileSize")
+        self.check("dexasm-query tables, a refused file", seen[:2] == (1, "") and told, seen)
+        seen = json.loads(tool("dexasm-query", "fields", "b.dex", at=at)[1])
+        want = {"LB;->n:I": {"reads": ["LB;->t(I)I"], "writes": ["LB;->t(I)I"]},
+                "LB;->f:J": {"reads": ["LB;->g()J"], "writes": []}}  # fmt: skip
+        self.check_equal("dexasm-query fields", seen, want)
 
-    rows = re.findall(r"^\| `(0x\d+)` \|(.*)\|(.*)\|(.*)\|$", get(TOP, "docs/LISTING.md").decode(), re.M)
-    tables = [{int(bit, 16): cell.strip() for bit, *cells in rows if (cell := cells[at]).strip()} for at in range(3)]
-    check("the words for flags", tables == [CLASS_FLAGS, FIELD_FLAGS, METHOD_FLAGS] and len(rows) == 17, tables)
+    def check_flags(self) -> None:
+        """The words for flags are those of the table in LISTING."""
 
-
-TRIES = (
-    try_answers, try_names, try_ends, try_commands, try_addresses, try_show, try_tables, try_flags,
-)  # fmt: skip
+        rows = re.findall(r"^\| `(0x\d+)` \|(.*)\|(.*)\|(.*)\|$", get(TOP, "docs/LISTING.md").decode(), re.M)
+        tables = [
+            {int(bit, 16): cell.strip() for bit, *cells in rows if (cell := cells[at]).strip()} for at in range(3)
+        ]
+        self.check(
+            "the words for flags", tables == [CLASS_FLAGS, FIELD_FLAGS, METHOD_FLAGS] and len(rows) == 17, tables
+        )

@@ -5,47 +5,15 @@ import re
 import shlex
 import shutil
 import subprocess
-import sys
-from typing import Any
 
-from python.tests.tools.test_apk import archive
-from python.tests.tools.test_close import resigned
-from python.tests.tools.logins import Logins, are_there
-from python.tests.tools.rooms import ESC, HEAD, NAMES, TOP, Tries, assembled, check, dexasm, get, put, room, seen_in, shell
+from tests import tried
+from .archives import archive
+from .logins import Logins, are_there
+from .recipe import EVIL, IDENTITY, TEXT, blocks, many
+from .rooms import ESC, HEAD, TOP, HelperTest, assembled, dexasm, environment, get, put, room, seen_in, shell
+from .signed import resigned
 
-TEXT = (
-    HEAD
-    + b"""class LHello; 0x1
-static name Ljava/lang/String; 0x19 = string "the answer"
-direct get (Z)I 0x9
-code 2 1 0
-const/16 v0 41
-if-eqz v1 :done
-add-int/lit8 v0 v0 -1
-:done
-return v0
-end code
-direct ask ()V 0x9
-code 2 0 1
-const/16 v0 1
-invoke-static { v0 } LHello;->get(Z)I
-return-void
-end code
-end class
-"""
-)
-# All of these at once, for where a recipe has one file.
-EVIL = f"sp ace'q\"$(touch PWNED)`touch PWNED`&a|;e touch PWNED #\nnew{ESC}[31m*"
-TURNED = "a\u202exed."  # what follows such a mark is shown from right to left
 LOGGED = re.compile(r"^\d+\t\S+\t[\d.]+\t.*dexasm check .*\.dex", re.M)  # a row of parallel's log
-# Git's cache of texts wants a name too.
-IDENTITY: dict[str, Any] = {f"GIT_{who}_{what}": "a" for who in ("AUTHOR", "COMMITTER") for what in ("NAME", "EMAIL")}
-
-
-def blocks(page: str) -> dict[str, list[str]]:
-    """The recipes of a page by the headings that they stand under."""
-    parts = re.split(r"^## (.*)$", get(TOP, page).decode(), flags=re.M)
-    return {head: re.findall(r"```bash\n(.*?)```", text, re.S) for head, text in zip(parts[1::2], parts[2::2])}
 
 
 def with_names(block: str, name: str) -> str:
@@ -71,204 +39,6 @@ def prepared(what: str, name: str) -> str:
     return at
 
 
-def try_blocks() -> None:
-    """Each recipe of one file, by a plain name and by an evil one."""
-    found = blocks("docs/RECIPES.md")
-    wants = {
-        ("Looking at a file", 0): ('digraph "calls" {', 'n0 [label="LHello;->ask()V\\l"]'),
-        ("An .apk", 0): ("classes.dex: ok\n", "classes2.dex: dexasm: refused 1 TooShort at 7\n"),
-        ("What a refusal means", 0): ("ok\n",),
-        ("A file that D8 before 1.6.20 signed", 0): ("both sums hold\n",),
-        ("A file for a device", 0): ("ok\n", "a.dex: ok\n"),
-        ("A file for a device", 1): ("a.txt: ok\n",),
-        ("Two files", 0): ("@@ LHello;->get(Z)I in both @@\n", "\n-const/16 v0 41\n+const/16 v0 42\n"),
-        ("Two files", 1): ("differ",),
-        ("A class or a method", 0): ("class LHello; 0x1\n", "end class\n", "direct get (Z)I 0x9\n", "return-void"),
-        ("Queries", 0): ('"LHello;->get(Z)I": []', "\nLHello;->ask()V\n"),
-        ("What takes the space", 0): ("  LHello;\n", "  LHello;->get(Z)I\n", "  all\n"),
-        ("A build that grew", 0): ("  grew  LHello;->get(Z)I\n", "  all\n"),
-    }
-    for (head, which), words in wants.items():
-        text = found[head][which]
-        for name in ("", EVIL):
-            at = prepared(f"{head} {which} {bool(name)}", name)
-            _, out, said = shell(with_names(text, name), at)
-            is_so = (
-                all(word in out + said for word in words)
-                and not any("PWNED" == one for one in seen_in(at))
-                and "Traceback" not in said
-            )
-            check(f"RECIPES: {head}, {which}, {'an evil name' if name else 'as it stands'}", is_so, (out, said))
-    for line in blocks("README.md")["Recipes"][0].splitlines():
-        if line.startswith("#"):
-            continue
-        for name in ("", EVIL):
-            at = prepared(f"README {line[:20]} {bool(name)}".replace("/", ""), name)
-            status, out, said = shell(with_names(line, name), at)
-            is_so = status in (0, 1) and "PWNED" not in seen_in(at) and "Traceback" not in said and "cannot" not in said
-            if line == "dexasm-check a.txt":
-                is_so = is_so and ": error: 118 Register: v9 of 2 registers (in get(Z)I, instruction " in out
-            check(f"README: {line}, {'an evil name' if name else 'as it stands'}", is_so, (status, out, said))
-    method = found["A class or a method"][0].partition("\n")[2]
-    seen = shell(method, prepared("method", ""))
-    check(
-        "RECIPES: a method",
-        seen[1].startswith("direct get (Z)I 0x9\ncode 2 1 0\n") and seen[1].endswith("return v0\nend code\n"),
-        seen,
-    )
-
-
-def try_merged() -> None:
-    """Several files in one, by plain names and by evil ones: each command as it stands, on files that are for it."""
-    lines = blocks("docs/RECIPES.md")["Several files in one"][0]
-    first, second = assembled(TEXT), assembled(HEAD + b"class LOther; 0x1\nsuper LHello;\nend class\n")
-    for name in ("", EVIL):
-        at = room(f"merged {bool(name)}")
-        put(at, f"{name}a.dex", first)
-        put(at, f"{name}b.dex", second)
-        put(at, f"{name}app.apk", archive(("classes.dex", second), ("classes2.dex", first)))
-        seen = shell(f"set -e\n{with_names(lines, name)}", at)
-        listed = {one: dexasm("list", given=get(at, f"{name}{one}.dex")) for one in ("ab", "app", "a")}
-        other = b"class LOther; 0x1\nsuper LHello;\nend class\n"
-        is_so = seen == (0, "", "") and {listed["ab"], listed["app"]} == {listed["a"] + other}
-        check(f"RECIPES: several files in one, {name!r}", is_so and "PWNED" not in seen_in(at), seen)
-
-
-def try_words() -> None:
-    """Each command of the table of other tools' words ends well, and writes no more than it says."""
-    part = get(TOP, "docs/RECIPES.md").decode().partition("## Which word does it\n")[2].partition("\n## ")[0]
-    rows = [row.strip("|").replace("\\|", "\0").split("|") for row in re.findall(r"^\| .* \|$", part, re.M)[1:]]
-    commands = [one.replace("\0", "|") for row in rows for one in re.findall(r"`(dexasm[- ][^`]*)`", row[1])]
-    for command in commands:
-        at = prepared(f"word {command[:24]}".replace("/", ""), "")
-        put(at, "a.txt", TEXT)
-        status, out, said = shell(command, at)
-        wrote = [one for one in ("c.dex", "pages", "listings") if os.path.exists(os.path.join(at, one))]
-        # (one entry of the archive is refused, and the two files differ)
-        is_so = status == (1 if command.startswith(("dexasm-apk", "dexasm-diff")) else 0) and (out or wrote) and "Traceback" not in said
-        check(f"RECIPES: {command}", is_so and all(one in command for one in wrote), (status, out, said, wrote))
-    helpers = {command.split()[0] for command in commands}
-    check("RECIPES: words of other tools", len(commands) > 15 and len(rows) > 12 and len(helpers) > 9, commands)
-
-
-def try_signed() -> None:
-    """README's three commands on a file that D8 before 1.6.20 signed: it is explained, closed and stripped."""
-    lines = [line for line in blocks("README.md")["Recipes"][0].splitlines() if not line.startswith("#")]
-    explain, close, strip = (line for line in lines if re.search(r"explain|close|strip b\.dex", line))
-    file = assembled(TEXT)
-    for name in ("", EVIL):
-        at = room(f"signed {bool(name)}")
-        put(at, f"{name}a.dex", resigned(file, hashlib.sha1(file[32:-52]).digest()))
-        seen = [shell(with_names(line, name), at) for line in (explain, close, strip)]
-        is_so = "refused 9 Signature" in seen[0][1] and "signed as D8 before 1.6.20 wrote it" in seen[0][1]
-        check(f"README, {explain}", is_so, seen)
-        is_so = seen[1:] == [(0, "", "")] * 2 and get(at, f"{name}b.dex") == file
-        check(f"README, {close}; {strip}", is_so and get(at, f"{name}c.dex") == dexasm("strip", given=file), seen)
-
-
-def try_same() -> None:
-    """No recipe says that two files are the same that are both refused."""
-    recipes = [blocks("docs/RECIPES.md")["Two files"][0], blocks("docs/RECIPES.md")["Two files"][1]]
-    recipes += [
-        line for line in blocks("README.md")["Recipes"][0].splitlines() if re.match("dexasm-diff|.*&& cmp", line)
-    ]
-    check("recipes that compare", len(recipes) == 4, recipes)
-    for number, recipe in enumerate(recipes):
-        at = room(f"same {number}")
-        for name in ("a.dex", "b.dex", "build1.dex", "build2.dex"):
-            put(at, name, b"no file")
-        seen = shell(recipe, at)
-        check(f"{recipe!r} of two files that are refused", seen[0] != 0 and "refused 1 TooShort" in seen[2], seen)
-        for name in ("a.dex", "b.dex", "build1.dex", "build2.dex"):
-            put(at, name, assembled(TEXT))
-        seen = shell(recipe, at)
-        check(f"{recipe!r} of one file twice", seen == (0, "", ""), seen)
-
-
-def try_git() -> None:
-    """git diff: by what changed, of refused files, and where dexasm isn't found."""
-    block = blocks("docs/RECIPES.md")["Versions of a file in git"][0]
-    for name in ("a", EVIL, "--help", "-x", ":0:x", '"'):
-        at, file = room(f"git {name!r}".replace("/", "")), f"{name}.dex"
-        put(at, file, assembled(TEXT))
-        seen = shell(f"git init -q . && {block}\ngit add -A && git commit -qm a", at, **IDENTITY)
-        put(at, file, assembled(TEXT.replace(b"v0 -1\n", b"v0 -2\nnop\n")))
-        said = shell("git diff", at, **IDENTITY)
-        changed = [line for line in said[1].splitlines() if line[:1] in ("-", "+") and line[:3] not in ("---", "+++")]
-        check(
-            f"git diff of {file!r}",
-            seen[0] == 0 and changed == ["-add-int/lit8 v0 v0 -1", "+add-int/lit8 v0 v0 -2", "+nop"],
-            said,
-        )
-        check(
-            f"git diff of {file!r}: the method",
-            " @@ direct get (Z)I 0x9\n" in said[1] and "PWNED" not in os.listdir(at),
-            said,
-        )
-        put(at, file, b"no file")
-        check(
-            f"git diff of {file!r}, refused",
-            "\n+dexasm: refused 1 TooShort at 7\n" in shell("git diff", at, **IDENTITY)[1],
-            said,
-        )
-    put(at, file, assembled(TEXT.replace(b"v0 41", b"v0 43")))
-    shell("git add -A && git commit -qm b", at, **IDENTITY)
-    without = shell("git show", at, **IDENTITY, DEXASM_COMMAND="/none")
-    check("git show without dexasm", without[0] != 0 and "DEXASM_COMMAND names no command" in without[2], without)
-    seen = shell("git show", at, **IDENTITY)
-    check(
-        "git show keeps nothing of it",
-        seen[0] == 0 and "\n+const/16 v0 43\n" in seen[1] and "names no" not in seen[1],
-        seen,
-    )
-    without = shell("git config diff.dex.textconv no-such-command && git show", at, **IDENTITY)
-    check("git show without the helper", without[0] != 0, without)
-
-
-def try_split() -> None:
-    block = blocks("docs/RECIPES.md")["Versions of a file in git"][1]
-    for name in ("", EVIL):
-        at = prepared(f"split {bool(name)}", name)
-        seen = shell(with_names(block, name), at)
-        is_so = (
-            seen == (0, "", "") and get(at, f"{name}a.dex") == get(at, f"{name}b.dex") and "PWNED" not in seen_in(at)
-        )
-        check(f"RECIPES: split and joined, {name!r}", is_so, seen)
-
-
-def many(at: str) -> int:
-    """Files of evil names, every other one refused; answers how many are."""
-    for number, name in enumerate(
-        ("ok", *NAMES, "{}", "{= touch PWNED =}", "t\ta\t0\t0", EVIL, f"\n1\t:\t1\t1\t0\t0\t0\t0\t{ESC}x", "b", TURNED)
-    ):
-        put(at, f"{name}.dex", assembled(TEXT)[: -1 if number % 2 else None])
-    os.symlink("/dev/zero", os.path.join(at, "link.dex"))
-    return (number + 1) // 2
-
-
-def try_many() -> None:
-    """Each refused file has one line, which nothing on a terminal obeys."""
-    at = room("many")
-    refused = many(at)
-    put(at, os.fsdecode(b"n\xff.dex"), b"no file")
-    status, out, said = shell(blocks("docs/RECIPES.md")["Many files"][0], at)
-    lines = out.splitlines()
-    is_so = len(lines) == refused + 1 and all(
-        re.fullmatch(r".*\.dex'?: status 1: dexasm:\\ refused\\ .*", line) and line.isprintable() for line in lines
-    )
-    check(
-        "RECIPES: many files",
-        status in (0, 123) and said == "" and is_so and "PWNED" not in os.listdir(at),
-        (status, out, said),
-    )
-    fake = room("many killed")
-    put(fake, "bin/dexasm", b"#!/bin/sh\nkill -9 $$\n")
-    os.chmod(os.path.join(fake, "bin/dexasm"), 0o755)
-    put(fake, "a.dex", assembled(TEXT))
-    _, out, _ = shell(f"PATH={shlex.quote(fake)}/bin:$PATH\n" + blocks("docs/RECIPES.md")["Many files"][0], fake)
-    check("RECIPES: many files, a run that is killed", "./a.dex: status 137: " in out, out)
-
-
 def killing(at: str) -> str:
     """A folder with a dexasm that is killed by a signal the first time that it checks a file of a name with `ok`."""
     once = shlex.quote(os.path.join(at, "once"))
@@ -276,82 +46,277 @@ def killing(at: str) -> str:
         at,
         "kill/dexasm",
         f"#!/bin/sh\ncase $2 in *ok*) [ -e {once} ] || {{ : >{once}; kill -9 $$; }} ;; esac\n".encode()
-        + f'exec {shlex.quote(Tries.program)} "$@"\n'.encode(),
+        + f'exec {shlex.quote(tried.program())} "$@"\n'.encode(),
     )
     os.chmod(os.path.join(at, "kill/dexasm"), 0o755)
     return os.path.join(at, "kill")
 
 
-def resumed(what: str, at: str, refused: int, **env: str) -> None:
-    """The recipe, twice: the job that was killed is told and done again."""
-    block = blocks("docs/RECIPES.md")["Many files"][1]
-    _, first, said = shell(block, at, **env)
-    check(
-        f"RECIPES: {what}: a job that was killed is told",
-        len(LOGGED.findall(first)) == refused + 1 and "check ./ok.dex" in first,
-        (first, said),
-    )
-    check(f"RECIPES: {what}: nothing is obeyed", "PWNED" not in os.listdir(at) and ESC not in first, first)
-    _, second, said = shell(block, at, **env)
-    again = re.findall(r"^(\d+)\tok$", second, re.M)
-    check(
-        f"RECIPES: {what}: it is done again, alone",
-        len(again) == 1 and len(LOGGED.findall(second)) == refused,
-        (second, said),
-    )
+class Recipes(HelperTest):
+    def test_blocks(self) -> None:
+        """Each recipe of one file, by a plain name and by an evil one."""
+        found = blocks("docs/RECIPES.md")
+        wants = {
+            ("Looking at a file", 0): ('digraph "calls" {', 'n0 [label="LHello;->ask()V\\l"]'),
+            ("An .apk", 0): ("classes.dex: ok\n", "classes2.dex: dexasm: refused 1 TooShort at 7\n"),
+            ("What a refusal means", 0): ("ok\n",),
+            ("A file that D8 before 1.6.20 signed", 0): ("both sums hold\n",),
+            ("A file for a device", 0): ("ok\n", "a.dex: ok\n"),
+            ("A file for a device", 1): ("a.txt: ok\n",),
+            ("Two files", 0): ("@@ LHello;->get(Z)I in both @@\n", "\n-const/16 v0 41\n+const/16 v0 42\n"),
+            ("Two files", 1): ("differ",),
+            ("A class or a method", 0): ("class LHello; 0x1\n", "end class\n", "direct get (Z)I 0x9\n", "return-void"),
+            ("Queries", 0): ('"LHello;->get(Z)I": []', "\nLHello;->ask()V\n"),
+            ("What takes the space", 0): ("  LHello;\n", "  LHello;->get(Z)I\n", "  all\n"),
+            ("A build that grew", 0): ("  grew  LHello;->get(Z)I\n", "  all\n"),
+        }
+        for (head, which), words in wants.items():
+            text = found[head][which]
+            for name in ("", EVIL):
+                at = prepared(f"{head} {which} {bool(name)}", name)
+                _, out, said = shell(with_names(text, name), at)
+                is_so = (
+                    all(word in out + said for word in words)
+                    and not any("PWNED" == one for one in seen_in(at))
+                    and "Traceback" not in said
+                )
+                self.check(
+                    f"RECIPES: {head}, {which}, {'an evil name' if name else 'as it stands'}", is_so, (out, said)
+                )
+        for line in blocks("README.md")["Recipes"][0].splitlines():
+            if line.startswith("#"):
+                continue
+            for name in ("", EVIL):
+                at = prepared(f"README {line[:20]} {bool(name)}".replace("/", ""), name)
+                status, out, said = shell(with_names(line, name), at)
+                is_so = (
+                    status in (0, 1) and "PWNED" not in seen_in(at) and "Traceback" not in said and "cannot" not in said
+                )
+                if line == "dexasm-check a.txt":
+                    is_so = is_so and ": error: 118 Register: v9 of 2 registers (in get(Z)I, instruction " in out
+                self.check(f"README: {line}, {'an evil name' if name else 'as it stands'}", is_so, (status, out, said))
+        method = found["A class or a method"][0].partition("\n")[2]
+        seen = shell(method, prepared("method", ""))
+        self.check(
+            "RECIPES: a method",
+            seen[1].startswith("direct get (Z)I 0x9\ncode 2 1 0\n") and seen[1].endswith("return v0\nend code\n"),
+            seen,
+        )
 
+    def test_merged(self) -> None:
+        """Several files in one, by plain names and by evil ones: each command as it stands, on files that are for it."""
+        lines = blocks("docs/RECIPES.md")["Several files in one"][0]
+        first, second = assembled(TEXT), assembled(HEAD + b"class LOther; 0x1\nsuper LHello;\nend class\n")
+        for name in ("", EVIL):
+            at = room(f"merged {bool(name)}")
+            put(at, f"{name}a.dex", first)
+            put(at, f"{name}b.dex", second)
+            put(at, f"{name}app.apk", archive(("classes.dex", second), ("classes2.dex", first)))
+            seen = shell(f"set -e\n{with_names(lines, name)}", at)
+            listed = {one: dexasm("list", given=get(at, f"{name}{one}.dex")) for one in ("ab", "app", "a")}
+            other = b"class LOther; 0x1\nsuper LHello;\nend class\n"
+            is_so = seen == (0, "", "") and {listed["ab"], listed["app"]} == {listed["a"] + other}
+            self.check(f"RECIPES: several files in one, {name!r}", is_so and "PWNED" not in seen_in(at), seen)
 
-def try_parallel() -> None:
-    if not shutil.which("parallel"):
-        return
-    at = room("parallel")
-    refused = many(at)
-    put(at, "machines", b":\n")
-    env = {"PATH": os.pathsep.join([killing(at), Tries.env["PATH"]]), "PARALLEL_HOME": os.path.join(at, "home")}
-    os.mkdir(env["PARALLEL_HOME"])
-    put(at, "home/will-cite", b"")
-    resumed("parallel", at, refused, **env)
-    if are_there():
-        try_logins(env["PARALLEL_HOME"])
+    def test_words(self) -> None:
+        """Each command of the table of other tools' words ends well, and writes no more than it says."""
+        part = get(TOP, "docs/RECIPES.md").decode().partition("## Which word does it\n")[2].partition("\n## ")[0]
+        rows = [row.strip("|").replace("\\|", "\0").split("|") for row in re.findall(r"^\| .* \|$", part, re.M)[1:]]
+        commands = [one.replace("\0", "|") for row in rows for one in re.findall(r"`(dexasm[- ][^`]*)`", row[1])]
+        for command in commands:
+            at = prepared(f"word {command[:24]}".replace("/", ""), "")
+            put(at, "a.txt", TEXT)
+            status, out, said = shell(command, at)
+            wrote = [one for one in ("c.dex", "pages", "listings") if os.path.exists(os.path.join(at, one))]
+            # (one entry of the archive is refused, and the two files differ)
+            is_so = (
+                status == (1 if command.startswith(("dexasm-apk", "dexasm-diff")) else 0)
+                and (out or wrote)
+                and "Traceback" not in said
+            )
+            self.check(
+                f"RECIPES: {command}", is_so and all(one in command for one in wrote), (status, out, said, wrote)
+            )
+        helpers = {command.split()[0] for command in commands}
+        self.check(
+            "RECIPES: words of other tools", len(commands) > 15 and len(rows) > 12 and len(helpers) > 9, commands
+        )
 
+    def test_signed(self) -> None:
+        """README's three commands on a file that D8 before 1.6.20 signed: it is explained, closed and stripped."""
+        lines = [line for line in blocks("README.md")["Recipes"][0].splitlines() if not line.startswith("#")]
+        explain, close, strip = (line for line in lines if re.search(r"explain|close|strip b\.dex", line))
+        file = assembled(TEXT)
+        for name in ("", EVIL):
+            at = room(f"signed {bool(name)}")
+            put(at, f"{name}a.dex", resigned(file, hashlib.sha1(file[32:-52]).digest()))
+            seen = [shell(with_names(line, name), at) for line in (explain, close, strip)]
+            is_so = "refused 9 Signature" in seen[0][1] and "signed as D8 before 1.6.20 wrote it" in seen[0][1]
+            self.check(f"README, {explain}", is_so, seen)
+            is_so = seen[1:] == [(0, "", "")] * 2 and get(at, f"{name}b.dex") == file
+            self.check(
+                f"README, {close}; {strip}", is_so and get(at, f"{name}c.dex") == dexasm("strip", given=file), seen
+            )
 
-def try_logins(home: str) -> None:
-    """The same over two logins."""
-    at = room("logins")
-    for name, given in (("ok", assembled(TEXT)), (EVIL, assembled(TEXT)), ("sp ace", assembled(TEXT)[:-1])):
-        put(at, f"{name}.dex", given)
-    try:
-        with Logins(2, killing(at)) as logins:
-            put(at, "machines", "".join(f"{name}\n" for name in logins.names).encode())
-            resumed("parallel over two logins", at, 1, PARALLEL_SSH=" ".join(logins.ssh), PARALLEL_HOME=home)
-            hosts = {line.split("\t")[1] for line in get(at, "check.log").decode().splitlines()[1:]}
-            check("RECIPES: parallel: both logins were used", hosts == set(logins.names), hosts)
-    except (OSError, subprocess.SubprocessError) as error:
-        print(f"tools/try contrib: logins by sshd aren't tried here: {error}", file=sys.stderr)
+    def test_same(self) -> None:
+        """No recipe says that two files are the same that are both refused."""
+        recipes = [blocks("docs/RECIPES.md")["Two files"][0], blocks("docs/RECIPES.md")["Two files"][1]]
+        recipes += [
+            line for line in blocks("README.md")["Recipes"][0].splitlines() if re.match("dexasm-diff|.*&& cmp", line)
+        ]
+        self.check("recipes that compare", len(recipes) == 4, recipes)
+        for number, recipe in enumerate(recipes):
+            at = room(f"same {number}")
+            for name in ("a.dex", "b.dex", "build1.dex", "build2.dex"):
+                put(at, name, b"no file")
+            seen = shell(recipe, at)
+            self.check(
+                f"{recipe!r} of two files that are refused", seen[0] != 0 and "refused 1 TooShort" in seen[2], seen
+            )
+            for name in ("a.dex", "b.dex", "build1.dex", "build2.dex"):
+                put(at, name, assembled(TEXT))
+            seen = shell(recipe, at)
+            self.check_equal(f"{recipe!r} of one file twice", seen, (0, "", ""))
 
+    def test_git(self) -> None:
+        """git diff: by what changed, of refused files, and where dexasm isn't found."""
+        block = blocks("docs/RECIPES.md")["Versions of a file in git"][0]
+        for name in ("a", EVIL, "--help", "-x", ":0:x", '"'):
+            at, file = room(f"git {name!r}".replace("/", "")), f"{name}.dex"
+            put(at, file, assembled(TEXT))
+            seen = shell(f"git init -q . && {block}\ngit add -A && git commit -qm a", at, **IDENTITY)
+            put(at, file, assembled(TEXT.replace(b"v0 -1\n", b"v0 -2\nnop\n")))
+            said = shell("git diff", at, **IDENTITY)
+            changed = [
+                line for line in said[1].splitlines() if line[:1] in ("-", "+") and line[:3] not in ("---", "+++")
+            ]
+            self.check(
+                f"git diff of {file!r}",
+                seen[0] == 0 and changed == ["-add-int/lit8 v0 v0 -1", "+add-int/lit8 v0 v0 -2", "+nop"],
+                said,
+            )
+            self.check(
+                f"git diff of {file!r}: the method",
+                " @@ direct get (Z)I 0x9\n" in said[1] and "PWNED" not in os.listdir(at),
+                said,
+            )
+            put(at, file, b"no file")
+            self.check(
+                f"git diff of {file!r}, refused",
+                "\n+dexasm: refused 1 TooShort at 7\n" in shell("git diff", at, **IDENTITY)[1],
+                said,
+            )
+        put(at, file, assembled(TEXT.replace(b"v0 41", b"v0 43")))
+        shell("git add -A && git commit -qm b", at, **IDENTITY)
+        without = shell("git show", at, **IDENTITY, DEXASM_COMMAND="/none")
+        self.check(
+            "git show without dexasm", without[0] != 0 and "DEXASM_COMMAND names no command" in without[2], without
+        )
+        seen = shell("git show", at, **IDENTITY)
+        self.check(
+            "git show keeps nothing of it",
+            seen[0] == 0 and "\n+const/16 v0 43\n" in seen[1] and "names no" not in seen[1],
+            seen,
+        )
+        without = shell("git config diff.dex.textconv no-such-command && git show", at, **IDENTITY)
+        self.check("git show without the helper", without[0] != 0, without)
 
-def try_page() -> None:
-    """Each recipe is tried."""
-    known = {
-        "Looking at a file": 1,
-        "An .apk": 1,
-        "What a refusal means": 1,
-        "A file that D8 before 1.6.20 signed": 1,
-        "A file for a device": 2,
-        "Two files": 2,
-        "Versions of a file in git": 2,
-        "A class or a method": 1,
-        "Queries": 1,
-        "What takes the space": 1,
-        "A build that grew": 1,
-        "Several files in one": 1,
-        "Many files": 2,
-        "A corpus": 4,
-    }
-    found = {head: len(texts) for head, texts in blocks("docs/RECIPES.md").items() if texts}
-    check("RECIPES: as many recipes as are tried", found == known, found)
+    def test_split(self) -> None:
+        block = blocks("docs/RECIPES.md")["Versions of a file in git"][1]
+        for name in ("", EVIL):
+            at = prepared(f"split {bool(name)}", name)
+            seen = shell(with_names(block, name), at)
+            is_so = (
+                seen == (0, "", "")
+                and get(at, f"{name}a.dex") == get(at, f"{name}b.dex")
+                and "PWNED" not in seen_in(at)
+            )
+            self.check(f"RECIPES: split and joined, {name!r}", is_so, seen)
 
+    def test_many(self) -> None:
+        """Each refused file has one line, which nothing on a terminal obeys."""
+        at = room("many")
+        refused = many(at)
+        put(at, os.fsdecode(b"n\xff.dex"), b"no file")
+        status, out, said = shell(blocks("docs/RECIPES.md")["Many files"][0], at)
+        lines = out.splitlines()
+        is_so = len(lines) == refused + 1 and all(
+            re.fullmatch(r".*\.dex'?: status 1: dexasm:\\ refused\\ .*", line) and line.isprintable() for line in lines
+        )
+        self.check(
+            "RECIPES: many files",
+            status in (0, 123) and said == "" and is_so and "PWNED" not in os.listdir(at),
+            (status, out, said),
+        )
+        fake = room("many killed")
+        put(fake, "bin/dexasm", b"#!/bin/sh\nkill -9 $$\n")
+        os.chmod(os.path.join(fake, "bin/dexasm"), 0o755)
+        put(fake, "a.dex", assembled(TEXT))
+        _, out, _ = shell(f"PATH={shlex.quote(fake)}/bin:$PATH\n" + blocks("docs/RECIPES.md")["Many files"][0], fake)
+        self.check("RECIPES: many files, a run that is killed", "./a.dex: status 137: " in out, out)
 
-TRIES = (
-    try_page, try_blocks, try_words, try_merged, try_signed, try_same, try_git, try_split, try_many, try_parallel,
-)
+    def resumed(self, what: str, at: str, refused: int, **env: str) -> None:
+        """The recipe, twice: the job that was killed is told and done again."""
+        block = blocks("docs/RECIPES.md")["Many files"][1]
+        _, first, said = shell(block, at, **env)
+        self.check(
+            f"RECIPES: {what}: a job that was killed is told",
+            len(LOGGED.findall(first)) == refused + 1 and "check ./ok.dex" in first,
+            (first, said),
+        )
+        self.check(f"RECIPES: {what}: nothing is obeyed", "PWNED" not in os.listdir(at) and ESC not in first, first)
+        _, second, said = shell(block, at, **env)
+        again = re.findall(r"^(\d+)\tok$", second, re.M)
+        self.check(
+            f"RECIPES: {what}: it is done again, alone",
+            len(again) == 1 and len(LOGGED.findall(second)) == refused,
+            (second, said),
+        )
+
+    def test_parallel(self) -> None:
+        if not shutil.which("parallel"):
+            return
+        at = room("parallel")
+        refused = many(at)
+        put(at, "machines", b":\n")
+        env = {"PATH": os.pathsep.join([killing(at), environment()["PATH"]]), "PARALLEL_HOME": os.path.join(at, "home")}
+        os.mkdir(env["PARALLEL_HOME"])
+        put(at, "home/will-cite", b"")
+        self.resumed("parallel", at, refused, **env)
+        if are_there():
+            self.check_logins(env["PARALLEL_HOME"])
+
+    def check_logins(self, home: str) -> None:
+        """The same over two logins."""
+        at = room("logins")
+        for name, given in (("ok", assembled(TEXT)), (EVIL, assembled(TEXT)), ("sp ace", assembled(TEXT)[:-1])):
+            put(at, f"{name}.dex", given)
+        try:
+            with Logins(2, killing(at)) as logins:
+                put(at, "machines", "".join(f"{name}\n" for name in logins.names).encode())
+                self.resumed("parallel over two logins", at, 1, PARALLEL_SSH=" ".join(logins.ssh), PARALLEL_HOME=home)
+                hosts = {line.split("\t")[1] for line in get(at, "check.log").decode().splitlines()[1:]}
+                self.check_equal("RECIPES: parallel: both logins were used", hosts, set(logins.names))
+        except (OSError, subprocess.SubprocessError) as error:
+            self.skipTest(f"logins by sshd aren't tried here: {error}")
+
+    def test_page(self) -> None:
+        """Each recipe is tried."""
+        known = {
+            "Looking at a file": 1,
+            "An .apk": 1,
+            "What a refusal means": 1,
+            "A file that D8 before 1.6.20 signed": 1,
+            "A file for a device": 2,
+            "Two files": 2,
+            "Versions of a file in git": 2,
+            "A class or a method": 1,
+            "Queries": 1,
+            "What takes the space": 1,
+            "A build that grew": 1,
+            "Several files in one": 1,
+            "Many files": 2,
+            "A corpus": 4,
+        }
+        found = {head: len(texts) for head, texts in blocks("docs/RECIPES.md").items() if texts}
+        self.check_equal("RECIPES: as many recipes as are tried", found, known)

@@ -1,18 +1,17 @@
 """Each helper with streams that are closed, full or not read, by Pythons that are told to be otherwise, and over a
 command or a graphviz that answers what is no answer: a line and a status, and no traceback.
 """
-import concurrent.futures
 import os
-import random
 import re
 import shlex
 import shutil
 import sys
-from collections.abc import Collection, Iterator
 
-from python.tests.tools.test_apk import archive
-from python.tests.tools.test_browse import CODE
-from python.tests.tools.rooms import HEAD, LISTING, TOP, Ended, Tries, assembled, check, is_one_line, put, room, shell
+from .archives import archive
+from .browsed import CODE
+from .rooms import HEAD, LISTING, TOP, HelperTest, assembled, environment, is_one_line, put, room, shell
+from .streaming import answers, each, fake, is_line
+
 
 # Of each helper words that it ends well with.
 WORDS = {
@@ -48,223 +47,165 @@ def prepared(name: str) -> str:
     return at
 
 
-def each(texts: Collection[str], at: str, **env: str) -> Iterator[tuple[str, Ended]]:
-    """What bash makes of each of the texts, several at a time."""
-    with concurrent.futures.ThreadPoolExecutor(4) as pool:
-        yield from zip(texts, pool.map(lambda text: shell(text, at, **env), texts))
+class Streams(HelperTest):
+    def test_streams(self) -> None:
+        """Closed, full, and not read."""
+        at = prepared("streams")
+        good = {f"dexasm-{name} {words}": name for name, words in WORDS.items()}
+        for text, seen in each([f"{one} >{to}" for one in good for to in ("/dev/full", "&-")], at):
+            name = good[text.partition(" >")[0]]
+            if name in SILENT and text.endswith("full"):
+                self.check_equal(text, seen, (0, "", ""))
+            else:
+                self.check(
+                    text, seen[:2] == (FAILS.get(name, 3), "") and is_one_line(seen[2], f"dexasm-{name}: "), seen
+                )
+        for text, seen in each([UNREAD.format(one) for one in good], at):
+            name = good[text[13:].partition(" )")[0]]
+            self.check_equal(f"dexasm-{name}, nobody reads", seen, (ENDS.get(name, 0), "", ""))
+        silent = [f"{one} >/dev/full 2>/dev/full" for one in good] + [f"{one} >&- 2>&- <&-" for one in good]
+        for text, seen in each(silent + [f"dexasm-{name} none --none 2>/dev/full" for name in WORDS], at):
+            is_silent = any(f"-{name} {WORDS[name]}" in text for name in SILENT)
+            want = (0,) if is_silent and "full" in text else (2,) if "none" in text else (2, 3)
+            self.check(text, seen[0] in want and seen[1:] == ("", ""), seen)
 
+    def test_help(self) -> None:
+        at = room("streams help")
+        for text, seen in each([UNREAD.format(f"dexasm-{name} --help") for name in WORDS], at):
+            self.check_equal(text, seen, (0, "", ""))
+        for text, seen in each([f"dexasm-{name} --help >/dev/full" for name in WORDS], at):
+            self.check(text, seen[:2] == (2 if "diff" in text else 3, "") and is_one_line(seen[2], "dexasm-"), seen)
 
-def is_line(said: str) -> bool:
-    """One line, be it of a failure that nobody thought of."""
-    return said.count("\n") == 1 and said[:-1].isprintable() and not re.search("Traceback|Exception", said)
-
-
-# ---- streams
-
-
-def try_streams() -> None:
-    """Closed, full, and not read."""
-    at = prepared("streams")
-    good = {f"dexasm-{name} {words}": name for name, words in WORDS.items()}
-    for text, seen in each([f"{one} >{to}" for one in good for to in ("/dev/full", "&-")], at):
-        name = good[text.partition(" >")[0]]
-        if name in SILENT and text.endswith("full"):
-            check(text, seen == (0, "", ""), seen)
-        else:
-            check(text, seen[:2] == (FAILS.get(name, 3), "") and is_one_line(seen[2], f"dexasm-{name}: "), seen)
-    for text, seen in each([UNREAD.format(one) for one in good], at):
-        name = good[text[13:].partition(" )")[0]]
-        check(f"dexasm-{name}, nobody reads", seen == (ENDS.get(name, 0), "", ""), seen)
-    silent = [f"{one} >/dev/full 2>/dev/full" for one in good] + [f"{one} >&- 2>&- <&-" for one in good]
-    for text, seen in each(silent + [f"dexasm-{name} none --none 2>/dev/full" for name in WORDS], at):
-        is_silent = any(f"-{name} {WORDS[name]}" in text for name in SILENT)
-        want = (0,) if is_silent and "full" in text else (2,) if "none" in text else (2, 3)
-        check(text, seen[0] in want and seen[1:] == ("", ""), seen)
-
-
-def try_help() -> None:
-    at = room("streams help")
-    for text, seen in each([UNREAD.format(f"dexasm-{name} --help") for name in WORDS], at):
-        check(text, seen == (0, "", ""), seen)
-    for text, seen in each([f"dexasm-{name} --help >/dev/full" for name in WORDS], at):
-        check(text, seen[:2] == (2 if "diff" in text else 3, "") and is_one_line(seen[2], "dexasm-"), seen)
-
-
-def try_unread() -> None:
-    """More than a pipe holds, of which one byte is read: what answers by its status doesn't say that all is well."""
-    at, many = room("streams unread"), b"".join(b"class L%s%d; 0x1\nend class\n" % (b"x" * 99, n) for n in range(3000))
-    put(at, "a.dex", assembled(HEAD + many))
-    put(at, "b.dex", assembled(HEAD))
-    put(at, "told", b"dexasm: refused 1 TooShort at 7\n" * 9000)
-    put(at, "a.apk", archive(("classes.dex", assembled(HEAD + many))))
-    shell("dexasm-split a.dex classes", at)
-    wants = {
-        "diff --names a.dex b.dex": 2,
-        "apk list a.apk": 3,
-        "explain <told": 0,
-        "graph --calls --from none a.dex": 2,
-        "query classes a.dex": 0,
-        "size --by class a.dex --html page.html": 0,
-        "split --join classes": 0,
-    }
-    texts = {f"dexasm-{words} | head -c 1; exit ${{PIPESTATUS[0]}}": want for words, want in wants.items()}
-    for text, seen in each(texts, at):
-        is_said = seen[2] == "" or "none" in text
-        check(text, (seen[0], len(seen[1])) == (texts[text], "none" not in text) and is_said, (seen[0], seen[2]))
-    check("dexasm-size, its page was written nevertheless", os.path.exists(os.path.join(at, "page.html")))
-
-
-def try_limit() -> None:
-    """A file that may not grow that much is one that can't be written, for whatever is printed."""
-    at = room("streams limit")
-    put(at, "a.dex", assembled(HEAD + b"".join(b"class L%s%d; 0x1\nend class\n" % (b"x" * 99, n) for n in range(300))))
-    put(at, "told", b"x" * 9000 + b"\n")
-    way, python = (shlex.quote(one) for one in (os.path.join(TOP, "python/src"), sys.executable))
-    for name, command in {
-        "dexasm-query": "dexasm-query classes a.dex",
-        "dexasm-explain": "dexasm-explain <told",
-        "dexasm-close": "dexasm-close a.dex --output -",
-        "dexasm": f"PYTHONPATH={way} {python} -B -m dexasm list a.dex",
-    }.items():
-        for text, seen in each([f"ulimit -f 4; {command} >out; echo $?; stat -c %s out"], at):
-            is_so = seen[:2] == (0, "3\n4096\n") and is_one_line(seen[2], f"{name}: ")
-            check(f"{text}, a limit on files", is_so, seen)
-
-
-# ---- Pythons
-
-
-def try_pythons() -> None:
-    """A Python without docstrings that looks for no module beside the program; one that tells what isn't closed."""
-    at = prepared("streams pythons")
-    env = {"PYTHONOPTIMIZE": "2", "PYTHONSAFEPATH": "1"}
-    good = {**WORDS, "corpus": "add --processes 1 new.db a.dex"}
-    for text, seen in each([f"dexasm-{name} {words}" for name, words in good.items()], at, **env):
-        check(f"{text}, {env}", (seen[0], seen[2]) == ("diff" in text, ""), seen)
-    texts = [f"dexasm-{name} --help" for name in WORDS] + ["dexasm-lint --none; dexasm-lint a.dex"]
-    for (text, plain), (_, seen) in zip(each(texts, at), each(texts, at, **env)):
-        check(f"{text}, {env}", seen == plain and "usage: dexasm-" in "".join(plain[1:]), seen)
-    strict = {"PYTHONWARNINGS": "error::ResourceWarning"}
-    shell("rm -rf new.db* pages", at)
-    for text, seen in each([f"dexasm-{name} {words}" for name, words in good.items()], at, **strict):
-        check(f"{text}, {strict}", (seen[0], seen[2]) == ("diff" in text, ""), seen)
-
-
-# ---- commands
-
-
-def answers(at: str) -> Iterator[tuple[str, str]]:
-    """Commands that answer what is no answer, by what that is."""
-    random_, listing = random.Random(5), HEAD + b"class LA; 0x1\nend class\n"
-    for name, given in {
-        "nothing": b"",
-        "bytes": random_.randbytes(3000),
-        "a listing of bytes": HEAD + random_.randbytes(3000) + b"\n",
-        "a listing of no class": HEAD + b"class\nend class\n",
-        "a listing of escapes": HEAD + b"\x1b[31m\nend class\n",
-        "a listing of another form": listing.replace(b" listing 2", b""),
-        "a listing that is cut": listing[:-5] + b"\n",
-        "a class of words": HEAD + b"class \" ' \\\n\n\nend class\n",
-        "a member of words": HEAD + b"class LA; 0x1\nvirtual m\nend class\n",
-        "a code of words": HEAD + b"class LA; 0x1\nvirtual m ()V 0x1\ncode x\nfoo\nend code\nend class\n",
-        "a header": b"dex\n035\0" + random_.randbytes(24) + (3000).to_bytes(4, "little") + random_.randbytes(2964),
-    }.items():
-        put(at, f"given/{name}", given)
-        yield name, fake(at, f"fake/{name}", f"cat {shlex.quote(os.path.join(at, 'given', name))}")
-    for name, line in {
-        "refuses by a number without end": "dexasm: refused " + "9" * 5000 + " X at 1",
-        "refuses at a place without end": "dexasm: refused 9 X at " + "9" * 5000,
-        "refuses in escapes": "dexasm: \x1b]0;refused 9 X\a at 1",
-    }.items():
-        yield name, fake(at, f"fake/{name}", f"echo {shlex.quote(line)} >&2\nexit 1")
-
-
-def fake(at: str, name: str, does: str) -> str:
-    path = put(at, name, f"#!/bin/sh\n{does}\n".encode())
-    os.chmod(path, 0o755)
-    return path
-
-
-def try_commands() -> None:
-    """Over such a command: one line, and the status of what failed. (Of a class by its name alone a line is made.)"""
-    at = prepared("streams commands")
-    jobs = ["browse a.dex --output pages", "diff a.dex b.dex", "graph --calls a.dex", "lint a.dex"]
-    sizes = ["size a.dex", "size --by string a.dex b.dex"]
-    for number, (command, path) in enumerate(answers(at)):
-        words = "query calls a.dex", sizes[number % 2], jobs[number % 4], "merge a.dex --output merged"
-        texts = [f"dexasm-{one}" for one in words]
-        for text, seen in each(texts, at, DEXASM_COMMAND=path):
-            said = re.sub(r"^.*: it can't be stripped, so .*\n", "", seen[2])  # (what dexasm-browse says before)
-            # (two classes of one text are the same without being read)
-            is_same = "diff" in text and command.startswith(("a member", "a code")) and seen == (0, "", "")
-            is_so = seen[0] == (2 if "diff" in text else 3) and is_line(said) or is_same
-            check(f"{text} by a command that answers {command}", is_so and "\x1b" not in seen[1], seen)
-
-
-def try_graphviz() -> None:
-    """Over a graphviz that answers what is no picture."""
-    at, svg = room("streams graphviz"), "http://www.w3.org/2000/svg"
-    put(at, "a.dex", assembled(CODE))
-    for number, given in enumerate(
-        (
-            b"",
-            b"<svg",
-            b"<svg>\xff</svg>",
-            b"\x1b]0;x\a",
-            b"<html/>",
-            b"<svg/>",
-            f'<!DOCTYPE svg [<!ENTITY a "x">]><svg xmlns="{svg}"><g>&b;</g></svg>'.encode(),
-            f'<svg xmlns="{svg}">'.encode() + b"<g>" * 20000 + b"</g>" * 20000 + b"</svg>",
+    def test_unread(self) -> None:
+        """More than a pipe holds, of which one byte is read: what answers by its status doesn't say that all is well."""
+        at, many = room("streams unread"), b"".join(
+            b"class L%s%d; 0x1\nend class\n" % (b"x" * 99, n) for n in range(3000)
         )
-    ):
-        put(at, f"{number}/given", given)
-        fake(at, f"{number}/dot", f"cat >/dev/null; cat {number}/given")
-        ways = os.pathsep.join([os.path.join(at, str(number)), Tries.env["PATH"]])
-        for text, seen in each(["dexasm-graph --format svg a.dex 'Lp/q/Hello;->get(Z)I'"], at, PATH=ways):
-            is_so = number == 7 or seen[:2] == (3, "") and is_line(seen[2])
-            check(f"{text}, by a graphviz that answers {given[:60]!r}", is_so, seen)
-        words = f"dexasm-browse a.dex --output {number}/pages --graphs all; grep -rl 'No picture of' {number}/pages"
-        for text, seen in each([words], at, PATH=ways):
-            is_so = seen == (0, f"{number}/pages/class/1.html\n", "")
-            check(f"{text}, by a graphviz that answers {given[:60]!r}", is_so, seen)
+        put(at, "a.dex", assembled(HEAD + many))
+        put(at, "b.dex", assembled(HEAD))
+        put(at, "told", b"dexasm: refused 1 TooShort at 7\n" * 9000)
+        put(at, "a.apk", archive(("classes.dex", assembled(HEAD + many))))
+        shell("dexasm-split a.dex classes", at)
+        wants = {
+            "diff --names a.dex b.dex": 2,
+            "apk list a.apk": 3,
+            "explain <told": 0,
+            "graph --calls --from none a.dex": 2,
+            "query classes a.dex": 0,
+            "size --by class a.dex --html page.html": 0,
+            "split --join classes": 0,
+        }
+        texts = {f"dexasm-{words} | head -c 1; exit ${{PIPESTATUS[0]}}": want for words, want in wants.items()}
+        for text, seen in each(texts, at):
+            is_said = seen[2] == "" or "none" in text
+            self.check(
+                text, (seen[0], len(seen[1])) == (texts[text], "none" not in text) and is_said, (seen[0], seen[2])
+            )
+        self.check("dexasm-size, its page was written nevertheless", os.path.exists(os.path.join(at, "page.html")))
 
+    def test_limit(self) -> None:
+        """A file that may not grow that much is one that can't be written, for whatever is printed."""
+        at = room("streams limit")
+        put(
+            at,
+            "a.dex",
+            assembled(HEAD + b"".join(b"class L%s%d; 0x1\nend class\n" % (b"x" * 99, n) for n in range(300))),
+        )
+        put(at, "told", b"x" * 9000 + b"\n")
+        way, python = (shlex.quote(one) for one in (os.path.join(TOP, "python/src"), sys.executable))
+        for name, command in {
+            "dexasm-query": "dexasm-query classes a.dex",
+            "dexasm-explain": "dexasm-explain <told",
+            "dexasm-close": "dexasm-close a.dex --output -",
+            "dexasm": f"PYTHONPATH={way} {python} -B -m dexasm list a.dex",
+        }.items():
+            for text, seen in each([f"ulimit -f 4; {command} >out; echo $?; stat -c %s out"], at):
+                is_so = seen[:2] == (0, "3\n4096\n") and is_one_line(seen[2], f"{name}: ")
+                self.check(f"{text}, a limit on files", is_so, seen)
 
-def try_module() -> None:
-    """The module for Python over such a command: a line and 3, where that isn't a listing or a file of that length."""
-    at = prepared("streams module")
-    shutil.copytree(os.path.join(TOP, "python/src/dexasm"), os.path.join(at, "modules", "dexasm"))
-    python = f"{shlex.quote(sys.executable)} -B -m dexasm"
-    for number, (command, path) in enumerate(answers(at)):
-        other = ("check a.dex", "strip a.dex", "--version")[number % 3]
-        texts = [f"{python} {words}" for words in ("list a.dex", other)]
-        for text, seen in each(texts, at, DEXASM_COMMAND=path, PYTHONPATH=os.path.join(at, "modules")):
-            is_one = "list" in text and command.startswith(("a class", "a member", "a code", "a listing"))
-            is_one = is_one or "strip" in text and command == "a header"
-            is_so = seen[:2] == (3, "") and is_line(seen[2])
-            check(f"{text[-12:]}, by a command that answers {command}", is_so or is_one and seen[0] == 0, seen)
+    def test_pythons(self) -> None:
+        """A Python without docstrings that looks for no module beside the program; one that tells what isn't closed."""
+        at = prepared("streams pythons")
+        env = {"PYTHONOPTIMIZE": "2", "PYTHONSAFEPATH": "1"}
+        good = {**WORDS, "corpus": "add --processes 1 new.db a.dex"}
+        for text, seen in each([f"dexasm-{name} {words}" for name, words in good.items()], at, **env):
+            self.check(f"{text}, {env}", (seen[0], seen[2]) == ("diff" in text, ""), seen)
+        texts = [f"dexasm-{name} --help" for name in WORDS] + ["dexasm-lint --none; dexasm-lint a.dex"]
+        for (text, plain), (_, seen) in zip(each(texts, at), each(texts, at, **env)):
+            self.check(f"{text}, {env}", seen == plain and "usage: dexasm-" in "".join(plain[1:]), seen)
+        strict = {"PYTHONWARNINGS": "error::ResourceWarning"}
+        shell("rm -rf new.db* pages", at)
+        for text, seen in each([f"dexasm-{name} {words}" for name, words in good.items()], at, **strict):
+            self.check(f"{text}, {strict}", (seen[0], seen[2]) == ("diff" in text, ""), seen)
 
+    def test_commands(self) -> None:
+        """Over such a command: one line, and the status of what failed. (Of a class by its name alone a line is made.)"""
+        at = prepared("streams commands")
+        jobs = ["browse a.dex --output pages", "diff a.dex b.dex", "graph --calls a.dex", "lint a.dex"]
+        sizes = ["size a.dex", "size --by string a.dex b.dex"]
+        for number, (command, path) in enumerate(answers(at)):
+            words = "query calls a.dex", sizes[number % 2], jobs[number % 4], "merge a.dex --output merged"
+            texts = [f"dexasm-{one}" for one in words]
+            for text, seen in each(texts, at, DEXASM_COMMAND=path):
+                said = re.sub(r"^.*: it can't be stripped, so .*\n", "", seen[2])  # (what dexasm-browse says before)
+                # (two classes of one text are the same without being read)
+                is_same = "diff" in text and command.startswith(("a member", "a code")) and seen == (0, "", "")
+                is_so = seen[0] == (2 if "diff" in text else 3) and is_line(said) or is_same
+                self.check(f"{text} by a command that answers {command}", is_so and "\x1b" not in seen[1], seen)
 
-# ---- one long line
+    def test_graphviz(self) -> None:
+        """Over a graphviz that answers what is no picture."""
+        at, svg = room("streams graphviz"), "http://www.w3.org/2000/svg"
+        put(at, "a.dex", assembled(CODE))
+        for number, given in enumerate(
+            (
+                b"",
+                b"<svg",
+                b"<svg>\xff</svg>",
+                b"\x1b]0;x\a",
+                b"<html/>",
+                b"<svg/>",
+                f'<!DOCTYPE svg [<!ENTITY a "x">]><svg xmlns="{svg}"><g>&b;</g></svg>'.encode(),
+                f'<svg xmlns="{svg}">'.encode() + b"<g>" * 20000 + b"</g>" * 20000 + b"</svg>",
+            )
+        ):
+            put(at, f"{number}/given", given)
+            fake(at, f"{number}/dot", f"cat >/dev/null; cat {number}/given")
+            ways = os.pathsep.join([os.path.join(at, str(number)), environment()["PATH"]])
+            for text, seen in each(["dexasm-graph --format svg a.dex 'Lp/q/Hello;->get(Z)I'"], at, PATH=ways):
+                is_so = number == 7 or seen[:2] == (3, "") and is_line(seen[2])
+                self.check(f"{text}, by a graphviz that answers {given[:60]!r}", is_so, seen)
+            words = f"dexasm-browse a.dex --output {number}/pages --graphs all; grep -rl 'No picture of' {number}/pages"
+            for text, seen in each([words], at, PATH=ways):
+                is_so = seen == (0, f"{number}/pages/class/1.html\n", "")
+                self.check(f"{text}, by a graphviz that answers {given[:60]!r}", is_so, seen)
 
+    def test_module(self) -> None:
+        """The module for Python over such a command: a line and 3, where that isn't a listing or a file of that length."""
+        at = prepared("streams module")
+        shutil.copytree(os.path.join(TOP, "python/src/dexasm"), os.path.join(at, "modules", "dexasm"))
+        python = f"{shlex.quote(sys.executable)} -B -m dexasm"
+        for number, (command, path) in enumerate(answers(at)):
+            other = ("check a.dex", "strip a.dex", "--version")[number % 3]
+            texts = [f"{python} {words}" for words in ("list a.dex", other)]
+            for text, seen in each(texts, at, DEXASM_COMMAND=path, PYTHONPATH=os.path.join(at, "modules")):
+                is_one = "list" in text and command.startswith(("a class", "a member", "a code", "a listing"))
+                is_one = is_one or "strip" in text and command == "a header"
+                is_so = seen[:2] == (3, "") and is_line(seen[2])
+                self.check(f"{text[-12:]}, by a command that answers {command}", is_so or is_one and seen[0] == 0, seen)
 
-def try_long_lines() -> None:
-    """Lines without end, of which whatever grows with the square would take minutes."""
-    at = prepared("streams long lines")
-    for line in ("a", "refused 1 ", "refused 1 X at 1: ", "refused 1 X at 1", " ", "dexasm: refused 8 Checksum at "):
-        put(at, "long", (line * (1000000 // len(line)) + "\n").encode())
-        status, out, said = shell("ulimit -t 8; dexasm-explain b.dex <long", at)
-        is_so = (status, said) == (0, "") and len(out) > 990000
-        check(f"dexasm-explain, {line!r} again and again", is_so, (status, len(out), said))
-
-
-TRIES = (
-    try_streams,
-    try_help,
-    try_unread,
-    try_limit,
-    try_pythons,
-    try_commands,
-    try_graphviz,
-    try_module,
-    try_long_lines,
-)
+    def test_long_lines(self) -> None:
+        """Lines without end, of which whatever grows with the square would take minutes."""
+        at = prepared("streams long lines")
+        for line in (
+            "a",
+            "refused 1 ",
+            "refused 1 X at 1: ",
+            "refused 1 X at 1",
+            " ",
+            "dexasm: refused 8 Checksum at ",
+        ):
+            put(at, "long", (line * (1000000 // len(line)) + "\n").encode())
+            status, out, said = shell("ulimit -t 8; dexasm-explain b.dex <long", at)
+            is_so = (status, said) == (0, "") and len(out) > 990000
+            self.check(f"dexasm-explain, {line!r} again and again", is_so, (status, len(out), said))
