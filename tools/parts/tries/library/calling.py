@@ -29,6 +29,8 @@ LIMIT = 600  # seconds for a command
 LISTINGS = {"one class": ONE_CLASS, "a class with branches": BRANCHES, "a payload at an odd address": ODD}
 program = built = work = ""  # what is tried, and where; main says so
 dexasm: Any = None  # the module for Python, once main has said which library it takes
+calls: Any = None  # its part that calls the library, and the library
+by_library: Any = None
 
 
 def run(*words: str, **options: Any) -> Ended:
