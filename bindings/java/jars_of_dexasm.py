@@ -8,19 +8,20 @@ repository. tools/package makes the same jars.
 """
 from __future__ import annotations
 
+import io
 import os
 import re
 import shutil
 import subprocess
 import sys
 import tempfile
+import time
+import zipfile
+from collections.abc import Iterable
 
 HERE = os.path.dirname(os.path.abspath(__file__))
-sys.path.insert(0, os.path.join(HERE, "..", "python"))
-sys.dont_write_bytecode = True  # the repository has no files of its own making
-
-from wheel_of_dexasm import BUILT, EARLIEST, get, zipped
-
+BUILT = os.path.join(HERE, "..", "..", "crates", "dexasm_c", "out", "built", "libdexasm.so")
+EARLIEST = 315532800  # the first second that a zip archive can hold
 SOURCES = os.path.join(HERE, "src", "dexasm")
 RELEASE = "11"  # the oldest Java that the classes run on
 # JNA is looked for beside the jar, then where Debian has it. Java 24 and later ask which jar may call native code.
@@ -37,6 +38,22 @@ Main-Class: dexasm.Main
 
 class Failed(Exception):
     """Why there is no jar."""
+
+
+def get(*path: str) -> bytes:
+    with open(os.path.join(*path), "rb") as file:
+        return file.read()
+
+
+def zipped(files: Iterable[tuple[str, bytes]], when: int) -> bytes:
+    """The bytes of a zip archive of these files, in this order, each with this time and of nobody in particular."""
+    packed = io.BytesIO()
+    with zipfile.ZipFile(packed, "w", zipfile.ZIP_DEFLATED) as archive:
+        for place, given in files:
+            entry = zipfile.ZipInfo(place, time.gmtime(max(when, EARLIEST))[:6])
+            entry.external_attr, entry.compress_type = 0o100644 << 16, zipfile.ZIP_DEFLATED
+            archive.writestr(entry, given)
+    return packed.getvalue()
 
 
 def version() -> str:

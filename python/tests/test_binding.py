@@ -7,6 +7,7 @@ import resource
 import shutil
 import sys
 import threading
+from collections.abc import Callable
 from typing import Any
 
 import dexasm
@@ -102,16 +103,17 @@ class Binding(LibraryTest):
             out = ctypes.create_string_buffer(len(number) + 3)
             needed = ctypes.c_size_t()
             status = self.by_library.dexasm_version(out, capacity, ctypes.byref(needed))
-            want = (ANSWERED, number) if capacity >= len(number) else (TOO_SMALL, b"")
-            is_so = (status, out.value, needed.value) == (*want, len(number))
-            self.check(f"the version into {capacity} bytes", is_so, f"{status} {needed.value} {out.value!r}")
+            answer = (ANSWERED, number) if capacity >= len(number) else (TOO_SMALL, b"")
+            got = (status, out.value, needed.value)
+            self.check_equal(f"the version into {capacity} bytes", got, (*answer, len(number)))
 
     def once(self) -> None:
         """Each job on each file, by the Python binding."""
+        jobs: tuple[Callable[[bytes], object], ...] = (dexasm.check, dexasm.list, dexasm.assemble, dexasm.strip)
         for path in self.paths:
             with open(path, "rb") as file:
                 given = file.read()
-            for job in (dexasm.check, dexasm.list, dexasm.assemble, dexasm.strip):
+            for job in jobs:
                 try:
                     job(given)
                 except dexasm.Refused:

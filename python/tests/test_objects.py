@@ -571,17 +571,9 @@ class Changes(ObjectsTest):
 
     def test_kinds(self) -> None:
         """What names tell."""
-        one = Type("[[Ljava/lang/String;")
-        self.check_equal(
-            "a type",
-            (
-                one.element,
-                one.pretty,
-                Type("V").pretty,
-                Type("[I").element.element,
-            ),  # type: ignore[union-attr]  # (it is I)
-            ("[Ljava/lang/String;", "java.lang.String[][]", "void", None),
-        )
+        one, inner = Type("[[Ljava/lang/String;"), Type("[I").element
+        seen = one.element, one.pretty, Type("V").pretty, inner and inner.element
+        self.check_equal("a type", seen, ("[Ljava/lang/String;", "java.lang.String[][]", "void", None))
         self.check_equal(
             "a package",
             (Type("La/b/C;").package, Type("LC;").package, Type("I").package, one.package),

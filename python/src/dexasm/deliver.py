@@ -17,7 +17,7 @@ At each moment OUT holds what it held or the whole answer, or the whole answer s
   grows beyond the limit of its size (SIGXFSZ) is a write that fails.
 - Nothing is written through a name that another user could have put beside OUT: what is made is new, or the call fails.
 
-Other processes that write OUT at the same time aren't covered. (The helpers in contrib use what is below for folders too, by `held`,
+Other processes that write OUT at the same time aren't covered. (The helpers use what is below for folders too, by `held`,
 `new_file`, `fill`, `dress` and `new_mode`.)
 """
 from __future__ import annotations

@@ -164,6 +164,7 @@ class BesideDexlib2(HelperTest):
         classes, seen, alone = Classes(program), collections.Counter(), []
         kinds = Kinds(classes.parents)
         for one in program["LT;"].directs:
+            assert one.code is not None
             method = Method(classes, kinds, program["LT;"], one, one.code)
             is_told = bool(method.check())
             if one.name in refused:

@@ -1,22 +1,21 @@
 """The manual pages and the completions of shells: docs/man/dexasm.1 from the words of the help,
 crates/dexasm_plan/src/texts.rt, and the tables of faults of docs/FORMAT.md and docs/LISTING.md; docs/man/dexasm-listing.5
-from docs/LISTING.md; a page of each helper below contrib/bin from its docstring, which is its help; contrib/completion/
-from the help too. And whether the tables name each fault as the code does.
+from docs/LISTING.md; a page of each helper of python/ from its docstring, which is its help; contrib/completion/
+from the help too; the links of python/bin. And whether the tables name each fault as the code does.
 """
 import ast
-import glob
-import os
 import re
 from collections.abc import Container
 
-from .. import sought
-from .making import Made, Missing
+from .. import helpers as programs, sought
+from .making import Link, Made, Missing
 
 TEXTS = "crates/dexasm_plan/src/texts.rt"
 NUMBERS, NAMES = "crates/dex_base/src/fault.rt", "crates/dex_base/src/fault_names.rt"
 FORMAT, LISTING = "docs/FORMAT.md", "docs/LISTING.md"
 # Names of faults that no call answers yet.
 TO_COME = {"200"}
+LAUNCHER = "dexasm-check"  # the one file below python/bin
 JOBS = ("check", "list", "assemble", "strip")
 
 # What the texts don't say.
@@ -194,9 +193,9 @@ def table_row(line: str, is_head: bool) -> list[str]:
 def helpers() -> dict[str, str]:
     """The docstrings of the helpers by their names."""
     found = {}
-    for path in sorted(glob.glob("contrib/bin/*")):
+    for name, path in programs().items():
         with open(path, encoding="ascii") as file:
-            found[os.path.basename(path)] = ast.get_docstring(ast.parse(file.read())) or ""
+            found[name] = ast.get_docstring(ast.parse(file.read())) or ""
     return found
 
 
@@ -373,6 +372,7 @@ def made() -> Made:
     pages = {"docs/man/dexasm.1": page(said), "docs/man/dexasm-listing.5": listing_page(said)}
     pages |= {f"docs/man/{name}.1": helper_page(name, doc, said) for name, doc in helpers().items()}
     pages |= {f"contrib/completion/{name}": words(said) for name, words in (("dexasm.bash", bash), ("_dexasm", zsh), ("dexasm.fish", fish))}
+    pages |= {f"python/bin/{name}": Link(LAUNCHER) for name in helpers() if name != LAUNCHER}
     if misnamed():
         raise Missing(f"{FORMAT} and {LISTING} don't name these faults as {NAMES} does: {', '.join(misnamed())}")
     look_at_version(said)

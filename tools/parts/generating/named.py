@@ -47,7 +47,7 @@ def named_in_vain() -> list[str]:
         for file in re.findall(r"`(?:specs/|src/)?(\w+\.(?:antt|rt))`", text):
             if file not in names_of_files():
                 vain.append(f"{page} names {file}, which isn't there")
-        for path in re.findall(r"`((?:tools|docs|bench|contrib)/[\w./-]+)[ `]", text):
+        for path in re.findall(r"`((?:tools|docs|bench|contrib|python)/[\w./-]+)[ `]", text):
             if not os.path.exists(path):
                 vain.append(f"{page} names {path}, which isn't there")
         for tool, part in re.findall(r"`(tools/(?:try|lint|generate)) ([a-z]+)[ `]", text):

@@ -16,7 +16,7 @@ CODE = re.compile(r"^ *```.*?^ *```", re.S | re.M)
 
 
 def pages() -> list[str]:
-    folders = ("docs", "bindings", "contrib", "bench")
+    folders = ("docs", "bindings", "python", "bench")
     found = [path for folder in folders for path in glob.glob(f"{folder}/**/*.md", recursive=True)]
     return sorted(glob.glob("*.md") + found)
 

@@ -1,5 +1,5 @@
 """What is written in Python: names that nothing uses or has, by pyflakes; and types, by mypy with the settings of
-pyproject.toml. Where neither is installed, nothing is looked at."""
+both pyproject.toml. Where neither is installed, nothing is looked at."""
 import glob
 import os
 import shutil
@@ -7,7 +7,9 @@ import subprocess
 
 from . import Seen
 
-FOLDERS = ("tools", "tests", "contrib", "bindings", "bench")
+FOLDERS = ("tools", "tests", "python", "bindings", "bench")
+# The settings of mypy, each with the folder in which it runs: of the package, of the tests, of the tools.
+PROJECTS = (("python", "pyproject.toml"), (".", "tests/mypy.ini"), (".", "pyproject.toml"))
 FLAKES = ("pyflakes3", "pyflakes")
 KNOWN = "tools/parts/out/mypy"  # what mypy has found before, which takes it a minute
 
@@ -24,7 +26,7 @@ def is_python(path: str) -> bool:
 
 def sources() -> list[str]:
     found = [path for folder in FOLDERS for path in glob.glob(f"{folder}/**/*", recursive=True)]
-    return sorted(path for path in found if os.path.isfile(path) and is_python(path))
+    return sorted(path for path in found if os.path.isfile(path) and is_python(path) and not os.path.islink(path))
 
 
 def by_flakes(command: str, paths: list[str]) -> list[str]:
@@ -44,12 +46,13 @@ def is_excused(line: str) -> bool:
     return int(number) <= len(lines) and "# noqa" in lines[int(number) - 1]
 
 
-def by_mypy() -> list[str]:
-    """What mypy finds; pyproject.toml says where it looks."""
-    words = ["mypy", "--no-error-summary", "--cache-dir", KNOWN]
-    said = subprocess.run(words, capture_output=True, text=True)
+def by_mypy(folder: str, settings: str) -> list[str]:
+    """What mypy finds in a folder by these settings, which say where it looks."""
+    known = os.path.join(os.path.abspath(KNOWN), folder, os.path.dirname(settings))
+    words = ["mypy", "--no-error-summary", "--config-file", settings, "--cache-dir", known]
+    said = subprocess.run(words, capture_output=True, text=True, cwd=folder)
     lines = (said.stdout + said.stderr).splitlines()
-    return lines if said.returncode else []
+    return [os.path.normpath(os.path.join(folder, line)) for line in lines] if said.returncode else []
 
 
 def look() -> Seen:
@@ -59,7 +62,7 @@ def look() -> Seen:
         wrong += by_flakes(command, paths)
     if shutil.which("mypy"):
         by.append("mypy")
-        wrong += by_mypy()
+        wrong += [line for project in PROJECTS for line in by_mypy(*project)]
     if not by:
         return Seen([], missing="neither pyflakes nor mypy is installed (Debian: pyflakes3, mypy)", is_needed=False)
     lacking = [name for name in ("pyflakes", "mypy") if name not in by]

@@ -18,7 +18,7 @@ NEITHER = f"neither aspell with {DICTIONARY} nor codespell is installed (Debian:
 
 def pages() -> list[str]:
     deep = [path for folder in ("bindings", "bench") for path in glob.glob(f"{folder}/**/*.md", recursive=True)]
-    return sorted(glob.glob("*.md") + glob.glob("docs/*.md") + glob.glob("contrib/*.md") + deep) + [TEXTS]
+    return sorted(glob.glob("*.md") + glob.glob("docs/*.md") + glob.glob("python/*.md") + deep) + [TEXTS]
 
 
 def plain(text: str) -> str:

@@ -1,5 +1,5 @@
-"""The packages: a .tar.gz, a .deb where dpkg-deb is, a wheel, jars where javac and JNA are, and SHA256SUMS, which has the
-sums of the packages, and of the program and the library in them, so that whoever builds these compares. Each is made,
+"""The packages: a .tar.gz, a .deb where dpkg-deb is, a wheel where hatchling is, jars where javac and JNA are, and
+SHA256SUMS, which has the sums of the packages, and of the program and the library in them, so that whoever builds these compares. Each is made,
 and then unpacked elsewhere and tried there."""
 import argparse
 import hashlib
@@ -13,7 +13,7 @@ from .. import TOP
 from ..tries.trying import Counted, check, get, last_line
 from .packing import Failed, bytes_of, contents, for_dpkg, java_of, output, pack_deb, pack_tar, version
 from .unpacked import try_jar, try_package, try_wheels
-import wheel_of_dexasm  # (packing finds it)
+from .wheel import MISSING, backend, wheel_of
 
 LISTING = b"dex 035 listing 2\nclass LHello; 0x1\nend class\n"
 
@@ -36,7 +36,11 @@ def pack(program: str, library: str, is_given: bool, folder: str) -> tuple[list[
     if shutil.which("dpkg-deb"):
         made.append(f"{folder}/dexasm_{for_dpkg(number)}_amd64.deb")
         pack_deb(held, made[1], for_dpkg(number), time)
-    alone = {wheel_of_dexasm.name_of_wheel(): wheel_of_dexasm.wheel(bytes_of(held, "lib/libdexasm.so.0"), time), **jars}
+    if backend() is None:
+        print(f"tools/package: {MISSING}: no wheel is made", file=sys.stderr)
+        alone = jars
+    else:
+        alone = dict([wheel_of(bytes_of(held, "lib/libdexasm.so.0"), time)]) | jars
     for name, given in alone.items():
         made.append(f"{folder}/{name}")
         with open(made[-1], "wb") as file:

@@ -11,15 +11,15 @@ import tarfile
 import tempfile
 from collections.abc import Callable, Iterator
 
-from .. import TOP, sought
+from .. import TOP, helpers, sought
 from ..tries.trying import get
 
-sys.path[:0] = [os.path.join(TOP, "bindings/python"), os.path.join(TOP, "bindings/java")]
+sys.path[:0] = [os.path.join(TOP, "python"), os.path.join(TOP, "bindings/java")]
 
 import jars_of_dexasm
-from wheel_of_dexasm import CHECKOUT, LINK
+from described import CHECKOUT, LINK
 
-HELPERS = sorted(os.listdir(f"{TOP}/contrib/bin"))
+HELPERS = [*helpers()]
 # Where each file goes below the package's top, or below /usr.
 FILES = {
     "docs/man/dexasm.1": "share/man/man1/dexasm.1",
@@ -28,7 +28,6 @@ FILES = {
     "contrib/completion/dexasm.bash": "share/bash-completion/completions/dexasm",
     "contrib/completion/_dexasm": "share/zsh/site-functions/_dexasm",
     "contrib/completion/dexasm.fish": "share/fish/vendor_completions.d/dexasm.fish",
-    "contrib/README.md": "share/doc/dexasm/contrib/README.md",
     "README.md": "share/doc/dexasm/README.md",
     "CHANGELOG.md": "share/doc/dexasm/CHANGELOG.md",
     "SECURITY.md": "share/doc/dexasm/SECURITY.md",
@@ -36,18 +35,18 @@ FILES = {
     "bindings/c/README.md": "share/doc/dexasm/c/README.md",
     "bindings/c/example.c": "share/doc/dexasm/examples/example.c",
     "bindings/java/README.md": "share/doc/dexasm/java/README.md",
-    "bindings/python/README.md": "share/doc/dexasm/python/README.md",
+    "python/README.md": "share/doc/dexasm/python/README.md",
+    "python/HELPERS.md": "share/doc/dexasm/python/HELPERS.md",
     "LICENSE": "share/doc/dexasm/copyright",
 }
 # What goes there with all that lies below it.
 FOLDERS = {
-    "bindings/python/dexasm": "lib/python3/dist-packages/dexasm",
     "bindings/rust": "share/doc/dexasm/rust",
-    "contrib/bin": "bin",
-    "contrib/share/dexasm": "share/dexasm",
     "contrib/vim": "share/vim/vimfiles",
     "crates/example/src": "share/doc/dexasm/examples/rattle",
     "docs": "share/doc/dexasm/docs",
+    "python/bin": "bin",
+    "python/src/dexasm": "lib/python3/dist-packages/dexasm",
 }
 # Where a shell looks for the words of each command: one file has those of all.
 COMPLETIONS = {"share/bash-completion/completions/%s": "dexasm", "share/fish/vendor_completions.d/%s.fish": "dexasm.fish"}

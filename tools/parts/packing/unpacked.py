@@ -12,7 +12,8 @@ from typing import Any
 
 from .. import TOP, sought
 from ..tries.trying import check, ended, get
-from .packing import GLIBC
+from .packing import GLIBC, HELPERS
+from .wheel import backend
 
 LIMIT = 300  # seconds for a command
 # Pages that speak of how dexasm is made, and so of its toolchain; no other page of a package does.
@@ -33,6 +34,15 @@ HELPED = (
     ("dexasm-merge --same good.dex good.dex --output both.dex && cmp good.dex both.dex", ""),
     ("dexasm-size good.dex both.dex | tail -n 1 | grep -o all$", "all\n"),
     ("dexasm-browse good.dex --output pages && ls pages/class", "0.html\n"),
+)
+
+# Helpers of an environment: over the command, the library, a page, and both modules.
+INSTALLED = (
+    ("dexasm list hello.dex | dexasm-query classes | head -n 2", '[\n {\n'),
+    ("dexasm-check --json hello.dex | grep -o '\"ok\"'", '"ok"\n'),
+    ("echo 'dexasm: refused 8 Checksum at 8' | dexasm-explain | sed -n 2p", "  8: the Adler-32 differs: the file was damaged or changed.\n"),
+    ("dexasm-lint --code hello.dex", "hello.dex: ok\n"),
+    ("dexasm-corpus add a.db hello.dex | cut -d, -f1,2 && rm a.db", "1 files, 1 new\n"),
 )
 
 # The module's answer of a file with one class.
@@ -200,7 +210,7 @@ def try_package(path: str, top: str, sample: bytes) -> None:
 
 
 def try_wheels(wheel: str, library: str, sample: bytes) -> None:
-    """The wheel, and the one that pip makes of the folder, each in an environment of its own."""
+    """The wheel, and the one that pip makes of the folder, each in an environment of its own; nothing of the network."""
     with tempfile.TemporaryDirectory() as room:
         with open(f"{room}/hello.dex", "wb") as file:
             file.write(sample)
@@ -210,18 +220,33 @@ def try_wheels(wheel: str, library: str, sample: bytes) -> None:
         links = re.findall(r"\]\((?!https?:|#)[^)]*\)", told)
         is_so = "## Programs as objects" in told and not links and not TOOLCHAIN.search(told)
         check("what the wheel says of itself", is_so, (links, TOOLCHAIN.findall(told)))
-        for what, given, options in (
-            (os.path.basename(wheel), wheel, env),
-            ("bindings/python", f"{TOP}/bindings/python", {**env, "DEXASM_LIBRARY": f"{library}/libdexasm.so"}),
+        by_backend = ["-m", "venv", "--system-site-packages"]
+        from_folder = ["--no-build-isolation", "--no-deps", "--ignore-installed", f"{TOP}/python"]
+        for what, made, given, options in (
+            (os.path.basename(wheel), [sys.executable, "-m", "venv"], [wheel], env),
+            ("python", [backend() or "", *by_backend], from_folder, {**env, "DEXASM_LIBRARY": f"{library}/libdexasm.so"}),
         ):
-            python = f"{room}/{len(options)}/bin/python"
-            runs(f"{what}: an environment", sys.executable, "-m", "venv", f"{room}/{len(options)}", env=env)
-            install = ["-m", "pip", "install", "--quiet", "--no-index", "--disable-pip-version-check", given]
-            runs(f"{what}: by pip", python, *install, env=options, cwd=room)
-            runs(f"{what}: check", python, "-m", "dexasm", "check", "hello.dex", want="ok\n", env=env, cwd=room)
-            command = f"{room}/{len(options)}/bin/dexasm"
-            runs(f"{what}: its command", command, "check", "hello.dex", want="ok\n", env=env, cwd=room)
-            typed = "import dexasm, pathlib; print(pathlib.Path(dexasm.__file__).with_name('py.typed').exists())"
-            runs(f"{what}: its types", python, "-c", typed, want="True\n", env=env, cwd=room)
-            runs(f"{what}: programs", python, "-c", PROGRAM, want="LHello; True\n", env=env, cwd=room)
-            runs(f"{what}: programs", python, "-c", PROGRAM, want="LHello; True\n", env=env, cwd=room)
+            place = f"{room}/{len(options)}"
+            runs(f"{what}: an environment", *made, place, env=env)
+            install = ["-m", "pip", "install", "--quiet", "--no-index", "--disable-pip-version-check", *given]
+            runs(f"{what}: by pip", f"{place}/bin/python", *install, env=options, cwd=room)
+            try_installed(what, place, room, env)
+
+
+def try_installed(what: str, place: str, room: str, env: dict[str, str]) -> None:
+    """What pip put into an environment: the module, the commands, their pages."""
+    python = f"{place}/bin/python"
+    runs(f"{what}: check", python, "-m", "dexasm", "check", "hello.dex", want="ok\n", env=env, cwd=room)
+    runs(f"{what}: its command", f"{place}/bin/dexasm", "check", "hello.dex", want="ok\n", env=env, cwd=room)
+    typed = "import dexasm, pathlib; print(pathlib.Path(dexasm.__file__).with_name('py.typed').exists())"
+    runs(f"{what}: its types", python, "-c", typed, want="True\n", env=env, cwd=room)
+    runs(f"{what}: programs", python, "-c", PROGRAM, want="LHello; True\n", env=env, cwd=room)
+    runs(f"{what}: a helper as a module", python, "-m", "dexasm.tools.check", "hello.dex", want="hello.dex: ok\n", env=env, cwd=room)
+    pages = {os.path.basename(path) for path in glob.glob(f"{glob.escape(place)}/share/man/man1/*.1")}
+    check(f"{what}: manual pages", pages == {f"{name}.1" for name in ("dexasm", *HELPERS)}, pages)
+    number = sought(r'^version = "(.*)"$', get(f"{TOP}/python/pyproject.toml").decode(), re.M)[1].replace(".dev0", "-dev")
+    for name in HELPERS:
+        runs(f"{what}: {name}", f"{place}/bin/{name}", "--version", want=f"{name} {number}\n", env=env, cwd=room)
+    alone = {**env, "PATH": f"{place}/bin:/usr/bin:/bin"}
+    for command, want in INSTALLED:
+        runs(f"{what}: {command}", "bash", "-c", command, want=want, cwd=room, env=alone)

@@ -4,7 +4,6 @@ from __future__ import annotations
 import os
 import re
 
-from dexasm.answers import is_answer
 from dexasm.tools.basis import DEX, FAILED, MEMORY, REFUSED, ZIP, Failed, reason
 from dexasm.tools.escapes import escaped
 from dexasm.tools.files import get, name_of
@@ -41,6 +40,8 @@ class Ended:
     """
 
     def __init__(self, job: str, done: CompletedProcess[bytes]) -> None:
+        from dexasm.answers import is_answer
+
         self.status, self.answer = done.returncode, done.stdout or b""
         self.told = done.stderr.decode("utf8", "replace").splitlines()
         if self.status < 0:

@@ -105,7 +105,10 @@ def helper(trouble: int | None = None, unread: int = 0) -> Callable[[Callable[[W
     """
 
     def made(does: Callable[[Words], int]) -> Callable[[], NoReturn]:
-        return lambda: run(does, trouble, unread)
+        def main() -> NoReturn:
+            run(does, trouble, unread)
+
+        return main
 
     return made
 

@@ -15,10 +15,10 @@ from dexasm.tools.browse.pages import Packages, overview, reading, shards, strin
 from dexasm.tools.browse.texts import Frame, counted
 from dexasm.tools.flow import MOST_DRAWN, as_dot, drawn, flow, for_page, graphviz
 from dexasm.tools.helper import say
-from dexasm.tools.layout import Dex, Tables, addresses, code_sizes
+from dexasm.tools.layout import KINDS, Dex, Tables, addresses, code_sizes
 from dexasm.tools.pages.markup import plain, text
 from dexasm.tools.pages.page import SCRIPT, read
-from dexasm.tools.sizes import KINDS, rows_of
+from dexasm.tools.sizes import rows_of
 from dexasm.tools.uses import Uses, method_of
 
 TYPE_CHECKING = False  # (as in typing)

@@ -11,8 +11,6 @@ from collections.abc import Iterator
 from itertools import accumulate
 from typing import TYPE_CHECKING, Any, NamedTuple
 
-from dexasm import listed, names
-from dexasm.formats import format_of
 from dexasm.tools.basis import Failed
 from dexasm.tools.check.checkers import Verdict, lead
 from dexasm.tools.escapes import LONGEST
@@ -27,7 +25,7 @@ from dexasm.tools.workers.looker import Looker
 if TYPE_CHECKING:
     from collections.abc import Callable
 
-    from dexasm import members
+    from dexasm import listed, members
     from dexasm.code import Code, Insn
     from dexasm.program import Program
 
@@ -285,6 +283,8 @@ class Places:
     """Names the places of what is told: lines of the listing that was given, or else instructions."""
 
     def __init__(self, path: bytes, kind: str, program: Program, listing: bytes | None) -> None:
+        from dexasm import listed
+
         self.path, self.kind, self.program = path, kind, program
         self.read = listed.Listing(listing) if listing is not None else None
         self.row = -1  # of the class that was looked at last, its methods, and their codes as the listing has them
@@ -292,16 +292,20 @@ class Places:
         self.codes: dict[tuple[str, str, str], listed.Code] = {}
 
     def open(self, row: int) -> None:
-        one, said = self.program.classes[row], listed.said
+        from dexasm.listed import said
+
+        one = self.program.classes[row]
         self.row, self.methods = row, one.methods
-        members = self.read.one(row).members if self.read else ()
-        self.codes = {
-            (member.line.key, said(member.line.words[1]), said(member.line.words[2])): member.code
-            for member in members
-            if member.code is not None
-        }
+        read = self.read.one(row) if self.read else None
+        self.codes = {}
+        for member in read.members if read else ():
+            line, code = member.line, member.code
+            if code is not None:
+                self.codes[line.key, said(line.words[1]), said(line.words[2])] = code
 
     def verdict(self, told: Told) -> Verdict:
+        from dexasm import names
+
         if self.row != told.row:
             self.open(told.row)
         one, method = self.program.classes[told.row], self.methods[told.method]
@@ -335,17 +339,24 @@ class Places:
         if found[2].isdecimal():
             at = int(found[2])
             return f"instruction {at}" if lines is None else f"line {lines.insns[at].number}"
-        type_ = names.type_of(found[2])
-        return listed.brief(type_ if found[1] else type_.pretty)
+        from dexasm.listed import brief
+        from dexasm.names import type_of
+
+        type_ = type_of(found[2])
+        return brief(type_ if found[1] else type_.pretty)
 
     def column(self, line: listed.Line, register: int) -> int:
         """That of the register, as what is read and not what is written; of the second of a pair that of the first."""
+        from dexasm import listed
+
         words: dict[int, listed.Word] = {listed.register_of(word): word for word in listed.registers(line)}
         return (words.get(register) or words.get(register - 1) or line.words[0]).column
 
 
 def units(insn: Insn) -> int:
     """How many units of 16 bits an instruction takes."""
+    from dexasm.formats import format_of
+
     form = format_of(insn.mnemonic)
     if form is not None:
         return form.units

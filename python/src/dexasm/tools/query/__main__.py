@@ -16,7 +16,7 @@ usage: dexasm-query classes|strings|calls|fields [FILE]
 With --addresses each line of `show` stands behind blanks, and an instruction behind its offset in the file and its
 address in units of 16 bits, both in hexadecimal, as dexdump has them.
 
-All but `tables` walk the objects of the module for Python (bindings/python), so each query is a few lines. FILE may be
+All but `tables` walk the objects of the module for Python (dexasm.Program), so each query is a few lines. FILE may be
 a listing too; `tables` and addresses are then those of the file that dexasm makes of it. Names and strings are decoded
 alike: what a listing writes as an escape is the character here, and JSON writes it as its own escape. `access` has the
 words for flags.
