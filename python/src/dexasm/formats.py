@@ -2,8 +2,9 @@
 from __future__ import annotations
 
 import functools
-import re
 from typing import NamedTuple
+
+from dexasm.opcodes import ROWS
 
 
 class Format(NamedTuple):
@@ -21,7 +22,7 @@ class Format(NamedTuple):
     is_range: bool = False
 
 
-# "Dalvik Executable instruction formats", and which mnemonics have each ("Dalvik bytecode").
+# "Dalvik Executable instruction formats".
 _FORMATS = {
     "10x": Format(1),
     "12x": Format(1, (4, 4)),
@@ -32,6 +33,7 @@ _FORMATS = {
     "22x": Format(2, (8, 16)),
     "21t": Format(2, (8,), target=16),
     "21s": Format(2, (8,), literal=16),
+    "21h": Format(2, (8,), literal=16),
     "21c": Format(2, (8,)),
     "23x": Format(2, (8, 8, 8)),
     "22b": Format(2, (8, 8), literal=8),
@@ -47,40 +49,16 @@ _FORMATS = {
     "3rc": Format(3, (16,), is_range=True),
     "51l": Format(5, (8,), literal=64),
 }
-_MNEMONICS = (
-    (r"nop|return-void", "10x", ""),
-    (r"move(-wide|-object)?|array-length|(neg|not)-\w+|\w+-to-\w+|\w+-\w+/2addr", "12x", ""),
-    (r"const/4", "11n", ""),
-    (r"move-(result(-wide|-object)?|exception)|return(-wide|-object)?|monitor-(enter|exit)|throw", "11x", ""),
-    (r"goto", "10t", ""),
-    (r"goto/16", "20t", ""),
-    (r"goto/32", "30t", ""),
-    (r"move(-wide|-object)?/from16", "22x", ""),
-    (r"move(-wide|-object)?/16", "32x", ""),
-    (r"const(-wide)?/(16|high16)", "21s", ""),
-    (r"const-string", "21c", "text"),
-    (r"const-string/jumbo", "31c", "text"),
-    (r"const-class|check-cast|new-instance", "21c", "type"),
-    (r"s(get|put)(-\w+)?", "21c", "field"),
-    (r"instance-of|new-array", "22c", "type"),
-    (r"i(get|put)(-\w+)?", "22c", "field"),
-    (r"if-(eq|ne|lt|ge|gt|le)z", "21t", ""),
-    (r"if-(eq|ne|lt|ge|gt|le)", "22t", ""),
-    (r"\w+-int/lit16|rsub-int", "22s", ""),
-    (r"\w+-int/lit8", "22b", ""),
-    (r"const|const-wide/32", "31i", ""),
-    (r"const-wide", "51l", ""),
-    (r"fill-array-data|(packed|sparse)-switch", "31t", ""),
-    (r"filled-new-array", "35c", "type"),
-    (r"filled-new-array/range", "3rc", "type"),
-    (r"invoke-(virtual|super|direct|static|interface)", "35c", "method"),
-    (r"invoke-(virtual|super|direct|static|interface)/range", "3rc", "method"),
-    (r"a(get|put)(-\w+)?|cmp[lg]?-\w+|(add|sub|mul|div|rem|and|or|xor|u?sh[lr])-(int|long|float|double)", "23x", ""),
-)
-_ANY = [(re.compile(mnemonics), _FORMATS[form]._replace(name=name)) for mnemonics, form, name in _MNEMONICS]
+# Each mnemonic's row: itself, the name of its format, and where that has one the table of its index.
+_ROWS = {row.partition(" ")[0]: row.split() for row in ROWS if row}
 
 
-@functools.lru_cache(maxsize=512)
+@functools.cache
+def _format(form: str, table: str = "") -> Format:
+    return _FORMATS[form]._replace(name="text" if table == "string" else table)
+
+
 def format_of(mnemonic: str) -> Format | None:
     """The format of a mnemonic; None of a word that is none."""
-    return next((form for mnemonics, form in _ANY if mnemonics.fullmatch(mnemonic)), None)
+    row = _ROWS.get(mnemonic)
+    return None if row is None else _format(*row[1:])

@@ -38,7 +38,7 @@ HELPED = (
 
 # Helpers of an environment: over the command, the library, a page, and both modules.
 INSTALLED = (
-    ("dexasm list hello.dex | dexasm-query classes | head -n 2", '[\n {\n'),
+    ("dexasm list hello.dex | dexasm-query classes | head -n 2", '{\n "LHello;": {\n'),
     ("dexasm-check --json hello.dex | grep -o '\"ok\"'", '"ok"\n'),
     ("echo 'dexasm: refused 8 Checksum at 8' | dexasm-explain | sed -n 2p", "  8: the Adler-32 differs: the file was damaged or changed.\n"),
     ("dexasm-lint --code hello.dex", "hello.dex: ok\n"),

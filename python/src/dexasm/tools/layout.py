@@ -7,6 +7,8 @@ from __future__ import annotations
 
 import struct
 
+from dexasm.opcodes import ROWS
+
 TYPE_CHECKING = False  # (as in typing)
 if TYPE_CHECKING:
     from collections.abc import Callable, Iterable, Iterator, Sequence
@@ -31,46 +33,8 @@ CODE, STRINGS, TABLE, VALUES, DEBUG, UNUSED = range(len(KINDS))
 
 JUMBO = 0x1B
 # The units of each opcode ("Dalvik bytecode"), and which table its index, its second unit, is of.
-UNITS = bytearray([1] * 256)
-for first, last, units in (
-    (0x02, 0x02, 2),
-    (0x03, 0x03, 3),
-    (0x05, 0x05, 2),
-    (0x06, 0x06, 3),
-    (0x08, 0x08, 2),
-    (0x09, 0x09, 3),
-    (0x13, 0x13, 2),
-    (0x14, 0x14, 3),
-    (0x15, 0x16, 2),
-    (0x17, 0x17, 3),
-    (0x18, 0x18, 5),
-    (0x19, 0x1A, 2),
-    (0x1B, 0x1B, 3),
-    (0x1C, 0x1C, 2),
-    (0x1F, 0x20, 2),
-    (0x22, 0x23, 2),
-    (0x24, 0x26, 3),
-    (0x29, 0x29, 2),
-    (0x2A, 0x2C, 3),
-    (0x2D, 0x3D, 2),
-    (0x44, 0x6D, 2),
-    (0x6E, 0x72, 3),
-    (0x74, 0x78, 3),
-    (0x90, 0xAF, 2),
-    (0xD0, 0xE2, 2),
-):
-    UNITS[first : last + 1] = bytes([units] * (last + 1 - first))
-INDEX: list[str | None] = [None] * 256
-for first, last, table in (
-    (0x1A, 0x1B, "string"),
-    (0x1C, 0x1C, "type"),
-    (0x1F, 0x20, "type"),
-    (0x22, 0x25, "type"),
-    (0x52, 0x6D, "field"),
-    (0x6E, 0x72, "method"),
-    (0x74, 0x78, "method"),
-):
-    INDEX[first : last + 1] = [table] * (last + 1 - first)
+UNITS = bytes(int(row.split()[1][0]) if row else 1 for row in ROWS)
+INDEX: list[str | None] = [row.split()[2] if row.count(" ") == 2 else None for row in ROWS]
 # Encoded values: those that are an index, and those without bytes of a number.
 VALUE_INDEX = {0x17: "string", 0x18: "type", 0x19: "field", 0x1A: "method", 0x1B: "field"}
 ARRAY, ANNOTATION, NULL, BOOLEAN = 0x1C, 0x1D, 0x1E, 0x1F
