@@ -12,7 +12,7 @@ import tempfile
 from .. import TOP
 from ..tries.trying import Counted, check, get, last_line
 from .packing import Failed, bytes_of, contents, for_dpkg, java_of, output, pack_deb, pack_tar, version
-from .unpacked import try_jar, try_package, try_wheels
+from tests.package.test_package import try_jar, try_package, try_wheels
 from .wheel import MISSING, backend, wheel_of
 
 LISTING = b"dex 035 listing 2\nclass LHello; 0x1\nend class\n"

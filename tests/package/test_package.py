@@ -10,10 +10,10 @@ import zipfile
 from collections.abc import Iterator
 from typing import Any
 
-from .. import TOP, sought
-from ..tries.trying import check, ended, get
-from .packing import GLIBC, HELPERS
-from .wheel import backend
+from parts import TOP, sought
+from parts.tries.trying import check, ended, get
+from parts.packing.packing import GLIBC, HELPERS
+from parts.packing.wheel import backend
 
 LIMIT = 300  # seconds for a command
 # Pages that speak of how dexasm is made, and so of its toolchain; no other page of a package does.

@@ -1,0 +1,1 @@
+"""Packages of the program and the library, each unpacked elsewhere."""
