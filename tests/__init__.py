@@ -6,7 +6,7 @@ import sys
 
 TOP = os.path.dirname(os.path.dirname(os.path.abspath(__file__)))
 # What is tried stands before what is installed.
-sys.path[:0] = [os.path.join(TOP, place) for place in ("python/src", "bindings/java", "bench/hostile")]
+sys.path[:0] = [os.path.join(TOP, place) for place in ("python/src", "tools", "bindings/java", "bench/hostile")]
 
 
 def sought(pattern: str, text: str, flags: int = 0) -> re.Match[str]:

@@ -4,6 +4,7 @@
   FILES                     a folder: the .dex files below it are tried too
   SEED, COUNT, EDITS        of cases made at random: the same seed gives the same, so many are made
   LARGE                     also those that take minutes
+  PACKAGES                  a folder of packages, which are made where none is named
 
 Where no program is named, it is what tools/build has made, or else tools/quick, and so with the library; where there is
 none, what asks for it is skipped. (Beside a program that is named there is no library but the one that is named.)
@@ -77,3 +78,8 @@ def edits(usual: int) -> int:
 
 def is_large() -> bool:
     return named("LARGE") != ""
+
+
+def packages() -> str:
+    """A folder, or nothing."""
+    return named("PACKAGES")

@@ -698,11 +698,11 @@ class Pages(ObjectsTest):
             for name, text in (("user", USER), ("wrong", USER.replace("number: int", "number: str"))):
                 with open(f"{at}/{name}.py", "w", encoding="ascii") as file:
                     file.write(text)
-            folder = os.path.join(TOP, "python", "src", "dexasm")
+            module = glob.glob(os.path.join(glob.escape(TOP), "python/src/dexasm/*.py"))
             words = ["mypy", "--strict", "--python-version", "3.10", "--cache-dir", f"{at}/cache"]
-            seen = run([*words, folder, "user.py"], at)
+            seen = run([*words, *module, "user.py"], at)
             self.check("mypy of the module", seen.startswith("Success: "), seen)
-            seen = run([*words, folder, "wrong.py"], at)
+            seen = run([*words, *module, "wrong.py"], at)
             self.check("mypy of a wrong use", seen.startswith("wrong.py:8: error: ") and "Found 1 error" in seen, seen)
 
     def test_cookbook(self) -> None:

@@ -18,3 +18,8 @@ def sought(pattern: str, text: str, flags: int = 0) -> re.Match[str]:
     if found is None:
         raise ValueError(f"nothing there has the form {pattern}: {text[:80]!r}")
     return found
+
+
+def get(path: str) -> bytes:
+    with open(path, "rb") as file:
+        return file.read()

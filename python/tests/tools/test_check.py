@@ -27,6 +27,7 @@ from .checked import alone, properties
 from .rooms import (
     ESC,
     HEAD,
+    LIMIT,
     LISTING,
     NAMES,
     TOOLS,
@@ -297,7 +298,7 @@ def on_terminal(at: str, *words: str, **env: str) -> str:
             if not more:
                 break
             shown += more
-        running.wait(60)
+        running.wait(LIMIT)
     os.close(ours)
     return shown.decode("utf8")
 

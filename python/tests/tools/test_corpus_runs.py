@@ -26,6 +26,7 @@ from .corpora import APP, LIBRARY, CorpusTest, asked, programs, rows, slow, stra
 from .rooms import (
     ESC,
     HEAD,
+    LIMIT,
     LISTING,
     TOOLS,
     TOP,
@@ -42,7 +43,7 @@ from .rooms import (
 
 
 CORPUS = os.path.join(TOOLS, "dexasm-corpus")
-PATIENCE = 60  # seconds for what a run does meanwhile
+PATIENCE = LIMIT  # for what a run does meanwhile
 BAR = re.compile(r"\d+ files, \d+\.\d MB/s, \d+ refused(, \d+ s left)?")
 GONE = "dexasm-corpus: the scheduler is gone: "
 Seen = TypeVar("Seen")

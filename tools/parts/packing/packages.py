@@ -1,32 +1,29 @@
 """The packages: a .tar.gz, a .deb where dpkg-deb is, a wheel where hatchling is, jars where javac and JNA are, and
-SHA256SUMS, which has the sums of the packages, and of the program and the library in them, so that whoever builds these compares. Each is made,
-and then unpacked elsewhere and tried there."""
-import argparse
+SHA256SUMS, which has the sums of the packages, and of the program and the library in them, so that whoever builds these
+compares. tests/package unpacks each elsewhere, and tries it there."""
 import hashlib
 import os
 import shutil
 import subprocess
 import sys
-import tempfile
 
-from .. import TOP
-from ..tries.trying import Counted, check, get, last_line
+from .. import TOP, get
 from .packing import Failed, bytes_of, contents, for_dpkg, java_of, output, pack_deb, pack_tar, version
-from tests.package.test_package import try_jar, try_package, try_wheels
 from .wheel import MISSING, backend, wheel_of
 
-LISTING = b"dex 035 listing 2\nclass LHello; 0x1\nend class\n"
+PROGRAM, LIBRARY = f"{TOP}/crates/dexasm/out/built/dexasm", f"{TOP}/crates/dexasm_c/out/built"  # by tools/build
 
 
 def built() -> tuple[str, str]:
     """Program and library of this commit."""
     if subprocess.run(["tools/build", "library"], cwd=TOP).returncode:
         raise Failed("not built")
-    return f"{TOP}/crates/dexasm/out/built/dexasm", f"{TOP}/crates/dexasm_c/out/built"
+    return PROGRAM, LIBRARY
 
 
-def pack(program: str, library: str, is_given: bool, folder: str) -> tuple[list[str], str, str]:
-    """Makes the packages in this folder; answers their paths, the sums, and the package's top."""
+def pack(program: str, library: str, folder: str) -> str:
+    """Makes the packages in this folder; answers the sums."""
+    is_given = (program, library) != (PROGRAM, LIBRARY)
     number, time = version(), int(output("git", "log", "-1", "--format=%ct") or 0)
     top = f"dexasm-{number}-linux-x86_64"
     held, made = contents(program, library, is_given), [f"{folder}/{top}.tar.gz"]
@@ -50,49 +47,18 @@ def pack(program: str, library: str, is_given: bool, folder: str) -> tuple[list[
     sums += "".join(f"# {hashlib.sha256(bytes_of(held, place)).hexdigest()}  {place}\n" for place in ("bin/dexasm", "lib/libdexasm.a", "lib/libdexasm.so.0"))
     with open(f"{folder}/SHA256SUMS", "w", encoding="ascii") as file:
         file.write(sums)
-    return made, sums, top
-
-
-def try_all(program: str, library: str, made: list[str], top: str) -> None:
-    """Unpacks and tries each package."""
-    sample = subprocess.run([program, "assemble"], input=LISTING, stdout=subprocess.PIPE, check=True).stdout
-    for path in made:
-        if path.endswith(".whl"):
-            try_wheels(path, library, sample)
-        elif path.endswith(".jar"):
-            try_jar(path, sample)
-        else:
-            try_package(path, top, sample)
+    return sums
 
 
 def packed(given: tuple[str, str] | None, folder: str) -> int:
-    """Packs into a folder, and tries what was packed; prints the sums."""
+    """Packs into a folder, and has what was packed tried; prints the sums."""
     program, library = given or built()
     folder = os.path.abspath(folder)
     os.makedirs(folder, exist_ok=True)
-    made, sums, top = pack(program, library, given is not None, folder)
-    try_all(program, library, made, top)
-    if Counted.failed:
+    sums = pack(program, library, folder)
+    words = [sys.executable, f"{TOP}/tools/try", "package", f"--program={program}", f"--library={library}"]
+    env = {**os.environ, "DEXASM_TESTS_PACKAGES": folder}
+    if subprocess.run(words, env=env, stdout=subprocess.DEVNULL).returncode:
         return 1
     print(sums, end="")
     return 0
-
-
-def try_packages(given: argparse.Namespace) -> None:
-    """Packs twice, and tries what was packed."""
-    are_given = given.program and given.library
-    program, library = (given.program, given.library) if are_given else built()
-    with tempfile.TemporaryDirectory() as folder, tempfile.TemporaryDirectory() as again:
-        made, sums, top = pack(program, library, bool(are_given), folder)
-        try_all(program, library, made, top)
-        check("packed again", pack(program, library, bool(are_given), again)[1] == sums)
-
-
-def main(given: argparse.Namespace) -> int:
-    """The part package of tools/try."""
-    try:
-        try_packages(given)
-    except Failed as why:
-        print(f"{Counted.by}: {why}", file=sys.stderr)
-        return 1
-    return last_line()

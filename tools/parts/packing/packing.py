@@ -11,8 +11,7 @@ import tarfile
 import tempfile
 from collections.abc import Callable, Iterator
 
-from .. import TOP, helpers, sought
-from ..tries.trying import get
+from .. import TOP, get, helpers, sought
 
 sys.path[:0] = [os.path.join(TOP, "python"), os.path.join(TOP, "bindings/java")]
 

@@ -5,8 +5,7 @@ import subprocess
 import sys
 import tempfile
 
-from .. import TOP, sought
-from ..tries.trying import get
+from .. import TOP, get, sought
 from .packing import Failed
 
 MISSING = "no Python here has hatchling (Debian: python3-hatchling)"
