@@ -10,7 +10,7 @@ new and stands beside OUT, nobody else may open it until it has OUT's mode, it i
 OUT's place, and nothing is written in place before that. It needs strace; where that is missing, or may not trace,
 nothing is tried.
 
-(The part contrib does so with dexasm-split, dexasm-browse and deliver.py itself, in more settings, and the part library
+(The part helpers does so with dexasm-split, dexasm-browse and deliver.py itself, in more settings, and the part library
 with the jar.)
 
 A folder that takes no new file is tried too, as root alone: one that is somebody else's, and one with the attribute i.
