@@ -14,7 +14,6 @@ from dexasm.tools.info.tables import Readable, rows_read, sections, tables
 from tests.oracle import examples, making, mutating
 from .rooms import ESC, HEAD, LISTING, NAMES, Ended, HelperTest, assembled, dexasm, is_one_line, put, room, shell, tool
 
-
 ROW = re.compile(r"([0-9a-f]{8})  ((?:[0-9a-f]{2} )*[0-9a-f]{2})(?:  |$)")
 LARGE = 4000  # bytes of an example that takes no time
 
@@ -49,7 +48,7 @@ def strings(count: int, at: int | None = None) -> bytes:
 
 
 class Info(HelperTest):
-    def check_page(self) -> None:
+    def test_page(self) -> None:
         """The fields of a small file, as the page "Dalvik Executable format" names them, and what stands in it."""
         at = room("info")
         put(at, "one.dex", examples.ONE_METHOD)
@@ -95,7 +94,7 @@ class Info(HelperTest):
             told,
         )
 
-    def check_program(self) -> None:
+    def test_program(self) -> None:
         """Two files of one program have one hash, that of what strip writes."""
         at, one = room("info program"), examples.ONE_METHOD
         other = making.closed(one + bytes(8))
@@ -113,8 +112,9 @@ class Info(HelperTest):
         out = tool("dexasm-info", "other", at=at)[1]
         self.check("dexasm-info, what strip takes", "  strip    takes 8 bytes away (2.1 %), leaves 376\n" in out, out)
 
-    def check_limits(self) -> None:
-        """What can still be named, with as many rows as there may be: the counts of the header are all that is asked."""
+    def test_limits(self) -> None:
+        """What can still be named, with as many rows as there may be: the counts of the header are all that is
+        asked."""
         data = bytearray(examples.NO_CLASSES)
         for place, count in ((56, 65537), (64, 65535), (72, 0), (80, 65536), (88, 65000)):
             struct.pack_into("<I", data, place, count)
@@ -129,7 +129,7 @@ class Info(HelperTest):
         }
         self.check_equal("dexasm-info, what can still be named", left, want)
 
-    def check_each_byte(self) -> None:
+    def test_each_byte(self) -> None:
         """Of each example and of random programs every byte once, whatever is shared, cut or left over."""
         given = [(said, data) for said, data, fault in of_examples() if fault is None and len(data) < LARGE]
         rng = random.Random(5)
@@ -156,7 +156,7 @@ class Info(HelperTest):
                 seen[2],
             )
 
-    def check_faults(self) -> None:
+    def test_faults(self) -> None:
         """A refused file of every fault: its bytes once, the fault marked at its place, and no word of a program."""
         at, asked = room("info faults"), set()
         for said, data, fault in of_examples():
@@ -180,7 +180,7 @@ class Info(HelperTest):
             line = is_one_line(plain[2], f"dexasm-info: {name}.dex: dexasm: refused ") and f" {name} at " in plain[2]
             self.check(f"dexasm-info, {name}", is_so and line and json.loads(told[1])["refused"]["name"] == name, plain)
 
-    def check_rows(self) -> None:
+    def test_rows(self) -> None:
         """Which rows of a refused file can be read: those that lie in it and lead to what they name."""
         one = examples.ONE_METHOD
         for said, data, table, want in (
@@ -200,7 +200,7 @@ class Info(HelperTest):
                 "source": None}  # fmt: skip
         self.check_equal("dexasm-info, the class list", row, [want])
 
-    def check_cut(self) -> None:
+    def test_cut(self) -> None:
         """Cut at each length, and each number of a small file as large as it can be: nothing but what can be read."""
         wrong: list[int | tuple[int, str]]
         file, wrong = examples.ONE_METHOD, []
@@ -215,7 +215,7 @@ class Info(HelperTest):
                 wrong.append((len(data), repr(error)))
         self.check("dexasm-info, cut and changed anywhere", not wrong, wrong[:5])
 
-    def check_overlap(self) -> None:
+    def test_overlap(self) -> None:
         """Tables that lie on each other, on the header and on the map: each byte is said once."""
         file = assembled(LISTING)
         for place in (60, 68, 76, 84, 92, 100, 52, 108):
@@ -224,7 +224,7 @@ class Info(HelperTest):
                 found = bytes_in(dump(data, "a.dex", (10, "SectionRange", 56), 0, len(data)))[0]
                 self.check_equal(f"dexasm-info --hex, the offset at {place} is {to}", found, data)
 
-    def check_linear(self) -> None:
+    def test_linear(self) -> None:
         """60,000 strings, also all of them one text without an end: the time grows with the file."""
         for said, at, want in (("strings", None, 60000), ("one text", 112 + 4 * 60000, 0)):
             data, begin = strings(60000, at), time.process_time()
@@ -239,7 +239,7 @@ class Info(HelperTest):
         read = sum(many.name_or_none("string", row) is not None for row in range(20000))
         self.check("dexasm-info, a long text 20,000 times is let be", 0 < read < 1000, read)
 
-    def check_names(self) -> None:
+    def test_names(self) -> None:
         """What a terminal obeys, in names of files and in what is read."""
         at, value = room("info names"), b'string "\\u001b[31m\\u202e\\u000a"'
         seen: Ended | str
@@ -269,7 +269,7 @@ class Info(HelperTest):
         told = is_one_line(seen[2], "dexasm-info: \\x1b[2J\\x0a: dexasm: refused 1 TooShort at 0")
         self.check("dexasm-info, a refused file of such a name", seen[0] == 1 and told, seen)
 
-    def check_ends(self) -> None:
+    def test_ends(self) -> None:
         at, file = room("info ends"), assembled(LISTING)
         put(at, "a.dex", file)
         put(at, "a.apk", b"PK\3\4" + bytes(300))
@@ -311,7 +311,7 @@ class Info(HelperTest):
             told = is_one_line(seen[2], "dexasm-info: a.dex: dexasm: ")
             self.check(f"dexasm-info, dexasm that does {dies}", seen[:2] == (status, "") and told, seen)
 
-    def check_streams(self) -> None:
+    def test_streams(self) -> None:
         """Standard input, with and without -, a FIFO, and a pipe that nobody reads."""
         at, file = room("info streams"), assembled(LISTING)
         put(at, "a.dex", file)
@@ -329,7 +329,7 @@ class Info(HelperTest):
         seen = shell(unread + "dexasm-info a.dex >/dev/full; echo $?", at)
         self.check("dexasm-info, nobody reads, a full disk", seen[1] == "0\n3\n" and seen[2].count("\n") == 1, seen)
 
-    def check_range(self) -> None:
+    def test_range(self) -> None:
         """A range has exactly its bytes."""
         at, file = room("info range"), assembled(LISTING)
         put(at, "a.dex", file)

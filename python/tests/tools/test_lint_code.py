@@ -23,7 +23,6 @@ from dexasm.tools.lint.steps import step_of
 from tests import tried
 from .rooms import ESC, HEAD, TOP, HelperTest, assembled, dexasm, get, put, room, tool
 
-
 Row = tuple[Any, ...]  # rule, method, code, and of some the number of the instruction that is told of
 PUBLIC, STATIC, CONSTRUCTOR = 0x1, 0x8, 0x10001
 ROWS: tuple[Row, ...] = (
@@ -676,7 +675,7 @@ def hostile() -> Iterator[tuple[str, str, int | None, str]]:
 
 
 class LintCode(HelperTest):
-    def check_rows(self) -> None:
+    def test_rows(self) -> None:
         """Each rule: what breaks it is told, at its place and once, and what keeps it isn't."""
         at, rows = room("lint code"), [*enumerate(ROWS)]
         status, told, said = lint(listing(0, rows), at=at)
@@ -693,7 +692,7 @@ class LintCode(HelperTest):
         few = [rule for rule in lint_code.RULES if tried.count(rule) < 3]
         self.check("dexasm-lint --code, three codes of each rule", not few, few)
 
-    def check_loops(self) -> None:
+    def test_loops(self) -> None:
         """What is wrong is told in a loop too, to whose beginning the register comes back as one that was told of."""
         rows = [
             (number, (rule, head, f":again / {text[: -len(END)]} / goto/32 :again", *more))
@@ -708,14 +707,14 @@ class LintCode(HelperTest):
         for number, row in rows:
             self.check(f"dexasm-lint --code, a loop of {row}", place_of(row) in found.get(f"LT{number};", ()), found)
 
-    def check_fine(self) -> None:
+    def test_fine(self) -> None:
         """What a device takes isn't told of."""
         rows = [(number, ("", head, text)) for number, (head, text) in enumerate(FINE)]
         status, told, said = lint(listing(1, rows), at=room("lint fine"))
         seen = [(one["class"], one["instruction"], one["why"]) for one in told if one["status"] != "ok"]
         self.check_equal("dexasm-lint --code, codes that a device takes", (status, seen, said), (0, [], ""))
 
-    def check_named(self) -> None:
+    def test_named(self) -> None:
         """Each such instruction takes the types that its name says, and no other ones, and answers that of its name."""
         made, count = all_kinds()[0], 0
         for mnemonic, takes, answers in named_insns():
@@ -725,7 +724,7 @@ class LintCode(HelperTest):
             self.check_equal(f"dexasm-lint --code, {mnemonic}", seen, [takes])
         self.check_equal("dexasm-lint --code, instructions of arithmetic", count, 119)
 
-    def check_laws(self) -> None:
+    def test_laws(self) -> None:
         """The join is that of a lattice: no order of ways makes a difference, and a loop comes to an end."""
         made, every = all_kinds()
         join = made.join
@@ -759,7 +758,7 @@ class LintCode(HelperTest):
         told = ["boolean", "0 to 127", "byte", "0 to 32767", "short", "char", "int", "int"]
         self.check("kinds, ranges", [*ranges.values()] == told and kinds.constant(0) is kinds.ZERO, ranges)
 
-    def check_monotone(self) -> None:
+    def test_monotone(self) -> None:
         """What an instruction leaves only rises where what it takes does, unless something was told of the lower."""
         made, every = all_kinds()
         below = [(one, two) for one in every for two in every if made.join(one, two) is two]
@@ -770,8 +769,9 @@ class LintCode(HelperTest):
             wrong = [line for line in lines if not rises(made, insn, *zip(*line))]
             self.check(f"kinds, {insn} is monotone", not wrong, wrong[:3])
 
-    def check_places(self) -> None:
-        """Line and column of a listing as somebody wrote it, in both forms; of a file the instruction and its address."""
+    def test_places(self) -> None:
+        """Line and column of a listing as somebody wrote it, in both forms; of a file the instruction and its
+        address."""
         at = room("lint places")
         put(at, "a.txt", LISTED)
         status, out, said = tool("dexasm-lint", "--code", "a.txt", at=at)
@@ -797,7 +797,7 @@ class LintCode(HelperTest):
             "dexasm-lint --code, the first form", got[0] == 1 and got[1].startswith("standard input:6:16: error: "), got
         )
 
-    def check_forms(self) -> None:
+    def test_forms(self) -> None:
         """JSON, SARIF, workers: each tells the same."""
         at = room("lint forms")
         status, told, said = lint(listing(0, [*enumerate(ROWS)]), at=at)
@@ -838,7 +838,7 @@ class LintCode(HelperTest):
             got = tool("dexasm-lint", *words, "c.txt", at=at)
             self.check(f"dexasm-lint {words}", got[:2] == (2, "") and "usage: " in got[2], got)
 
-    def check_hostile(self) -> None:
+    def test_hostile(self) -> None:
         """None takes long, and no line has what a terminal obeys."""
         at = room("lint hostile code")
         for what, text, wanted, begin in hostile():
@@ -866,7 +866,7 @@ class LintCode(HelperTest):
         is_so = (status, out) == (1, "\\x1b: ok\n") and said == "dexasm-lint: bad.txt: dexasm: refused 100 Word at 3\n"
         self.check("dexasm-lint --code, a file that is refused", is_so, (status, out, said))
 
-    def check_bounds(self) -> None:
+    def test_bounds(self) -> None:
         """A method beyond what is looked at isn't called right."""
         os.environ.setdefault("DEXASM_COMMAND", tried.program())
         program = programs.Program.of_listing(dexasm("list", given=assembled(LISTED)).decode("ascii"))
@@ -879,8 +879,9 @@ class LintCode(HelperTest):
                 vars(verify).update(kept)
             self.check_equal(f"dexasm-lint --code, bounds {bounds}", told, [lint_code.UNREAD])
 
-    def check_page(self) -> None:
-        """docs/VERIFIERS.md and the help have each rule of code, the page with its numbers, and no other; each is tried."""
+    def test_page(self) -> None:
+        """docs/VERIFIERS.md and the help have each rule of code, the page with its numbers, and no other; each is
+        tried."""
         helped = re.findall(r"^  ([a-z][a-z-]+)  ", tool("dexasm-lint", "--help")[1].partition("With --code")[2], re.M)
         rows = re.findall(r"^\| ([AB]\d.*?|code_item) \| `([a-z-]+)` \| ", get(TOP, "docs/VERIFIERS.md").decode(), re.M)
         rules = lint_code.RULES

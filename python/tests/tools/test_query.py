@@ -7,7 +7,6 @@ import shutil
 from dexasm.tools.uses import CLASS_FLAGS, FIELD_FLAGS, METHOD_FLAGS
 from .rooms import ESC, HEAD, LISTING, TOP, HelperTest, assembled, dexasm, get, is_one_line, put, room, run, shell, tool
 
-
 NAMED = rb"""class L\u00e9/\ud83d\ude00; 0x1
 super Lx\u00e9;
 static f\u00e9 L\u00e9; 0x9
@@ -61,7 +60,7 @@ end class
 
 
 class Query(HelperTest):
-    def check_answers(self) -> None:
+    def test_answers(self) -> None:
         at = room("query")
         put(at, "a.dex", assembled(LISTING))
         put(at, "a.txt", LISTING)
@@ -97,7 +96,7 @@ class Query(HelperTest):
             "dexasm-query, standard input", one == tool("dexasm-query", "calls", "a.dex", at=at) and one[0] == 0, one
         )
 
-    def check_names(self) -> None:
+    def test_names(self) -> None:
         """Names and strings that aren't ASCII."""
         at = room("query names")
         put(at, "names.dex", assembled(HEAD + NAMED))
@@ -128,7 +127,7 @@ class Query(HelperTest):
             found,
         )
 
-    def check_ends(self) -> None:
+    def test_ends(self) -> None:
         at, file = room("query ends"), assembled(LISTING)
         put(at, "damaged.dex", file[:-1])
         put(at, "a.dex", file)
@@ -146,7 +145,7 @@ class Query(HelperTest):
             seen = tool("dexasm-query", "calls", what, at=at)
             self.check(f"dexasm-query, {what!r}", seen[:2] == (status, "") and is_one_line(seen[2], begins), seen)
 
-    def check_commands(self) -> None:
+    def test_commands(self) -> None:
         """Where dexasm isn't there, is killed or fails; and pipes that nobody reads."""
         at, file = room("query commands"), assembled(LISTING)
         put(at, "a.dex", file)
@@ -206,7 +205,7 @@ class Query(HelperTest):
             seen,
         )
 
-    def check_addresses(self) -> None:
+    def test_addresses(self) -> None:
         """Offsets and addresses as dexdump has them, where it is; those of a small method by hand."""
         at = room("query addresses")
         put(at, "b.dex", dexasm("assemble", "--align", given=ADDRESSED))
@@ -228,7 +227,7 @@ class Query(HelperTest):
                 "dexasm-query show --addresses, as dexdump", [(f"00{one}", unit) for one, unit in theirs] == ours, told
             )
 
-    def check_show(self) -> None:
+    def test_show(self) -> None:
         """Each class, each member and all that a name can say is a listing that assembles, of just these."""
         at, file = room("query show"), dexasm("assemble", "--align", given=ADDRESSED)
         put(at, "b.dex", file)
@@ -261,7 +260,7 @@ class Query(HelperTest):
             seen = tool("dexasm-query", *words, at=at)
             self.check(f"dexasm-query {words}, wrong words", seen[:2] == (2, "") and "usage: " in seen[2], seen)
 
-    def check_tables(self) -> None:
+    def test_tables(self) -> None:
         at, file = room("query tables"), dexasm("assemble", "--align", given=ADDRESSED)
         put(at, "b.dex", file)
         put(at, "bad.dex", file[:-1])
@@ -301,7 +300,7 @@ class Query(HelperTest):
                 "LB;->f:J": {"reads": ["LB;->g()J"], "writes": []}}  # fmt: skip
         self.check_equal("dexasm-query fields", seen, want)
 
-    def check_flags(self) -> None:
+    def test_flags(self) -> None:
         """The words for flags are those of the table in LISTING."""
 
         rows = re.findall(r"^\| `(0x\d+)` \|(.*)\|(.*)\|(.*)\|$", get(TOP, "docs/LISTING.md").decode(), re.M)
