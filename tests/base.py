@@ -8,7 +8,6 @@ import unittest
 from collections.abc import Callable
 from typing import Any
 
-
 MEGABYTE = 1 << 20
 LIMIT = 120  # seconds for a command
 LONGEST = 1500  # characters of what is told to have been seen
@@ -17,7 +16,8 @@ Ended = tuple[int | str, bytes, str]  # status, or "late"; standard output; stan
 
 
 class TestCase(unittest.TestCase):
-    """A test shows many things, each a sub-test with a name: one that fails doesn't keep the others from being tried."""
+    """A test shows many things, each a sub-test with a name: one that fails doesn't keep the others from being
+    tried."""
 
     more = 0  # what was tried beside the sub-tests: cases of a loop that is too long for one each
 

@@ -174,7 +174,8 @@ class LawsTest(TestCase):
     """A test that programs keep these laws, and edits too."""
 
     def check_laws(self, what: str, data: bytes) -> None:
-        """A file that is read and written is its stripped one, and each class read and written anew has the same lines."""
+        """A file that is read and written is its stripped one, and each class read and written anew has the same
+        lines."""
         text, program = dexasm.list(data), Program.read(data)
         self.check(f"{what}: its text", str(program) == text == str(Program.parse(text)))
         self.check_equal(f"{what}: as it came", program.write(), dexasm.strip(data))

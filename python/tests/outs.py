@@ -16,7 +16,6 @@ from typing import Any
 
 from .tools.rooms import ESC, TOP, HelperTest, get, put, room
 
-
 OLD, NEW = b"old " * 5000, b"new!" * 6000
 NOBODY, SOMEBODY = 65534, 12345
 ACL, DEFAULT = "system.posix_acl_access", "system.posix_acl_default"

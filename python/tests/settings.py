@@ -11,7 +11,6 @@ from typing import NamedTuple
 from .outs import ACL, MODULE, NEW, NOBODY, OLD, acl_of, listed, shut
 from .tools.rooms import LIMIT, get, put, scratch
 
-
 CALLS = (
     "access,openat,open,creat,newfstatat,fstat,read,write,pwrite64,lseek,fsync,fchmod,chmod,fchown,chown,fsetxattr,"
     "setxattr,fgetxattr,flistxattr,fremovexattr,ftruncate,close,rename,renameat,renameat2,unlink,unlinkat"

@@ -1,6 +1,5 @@
-"""The module for Python over libdexasm: the buffers that the library is given, too small, of no bytes, with room after the
-answer; names, streams and OUT of the module as a command; 1,000 calls in a limited memory, and several threads.
-"""
+"""The module for Python over libdexasm: the buffers that the library is given, too small, of no bytes, with room after
+the answer; names, streams and OUT of the module as a command; 1,000 calls in a limited memory, and several threads."""
 import ctypes
 import os
 import resource
@@ -190,7 +189,8 @@ class Binding(LibraryTest):
             self.check_equal(f"Python: {words}", got, want)
 
     def test_memory(self) -> None:
-        """1,000 calls and more in a limited memory, where no call keeps any; and a call that can't have what it needs."""
+        """1,000 calls and more in a limited memory, where no call keeps any; and a call that can't have what it
+        needs."""
         many = b"dex 035\n" + b"".join(b"class LA%06d; 0x1\nend class\n" % at for at in range(100000))
         for _ in range(3):
             self.once()

@@ -25,7 +25,6 @@ from .tools.rooms import (
     shell,
 )
 
-
 CALLS = """
 import dexasm
 file = open("a.dex", "rb").read()

@@ -1,7 +1,7 @@
 """dexasm/deliver.py, by which all Python around the command writes a file: whatever stands at OUT, in whatever folder,
 OUT is as it was or has the whole answer, nobody may do more with it than before, and nothing else is touched.
 
-deliver_calls.py fails its calls one by one.
+test_deliver_calls.py fails its calls one by one.
 """
 import contextlib
 import os

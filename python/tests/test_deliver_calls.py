@@ -1,7 +1,6 @@
-"""dexasm/deliver.py with each of its calls of the system failed, or ended by a signal, in turn (the part faults does
-so with the command): OUT is what it was or the answer, whole, or the whole answer stands beside it; after a failure, and
-after a signal that can be held back, nothing else is left. It needs strace.
-"""
+"""dexasm/deliver.py with each of its calls of the system failed, or ended by a signal, in turn (the part faults does so
+with the command): OUT is what it was or the answer, whole, or the whole answer stands beside it; after a failure, and
+after a signal that can be held back, nothing else is left. It needs strace."""
 import collections
 import concurrent.futures
 import os

@@ -57,7 +57,8 @@ class FaultLines(ModuleTest):
             )
 
     def test_random(self) -> None:
-        """What is found of texts at random is the number that the library answers, and no other; nothing is a traceback."""
+        """What is found of texts at random is the number that the library answers, and no other; nothing is a
+        traceback."""
         found = dict[int, int]()
         count, seed = 10000, tried.seed()
         for at, (text, align) in enumerate(itertools.islice(random_texts(random.Random(seed)), count)):

@@ -691,7 +691,8 @@ class Pages(ObjectsTest):
         self.check_equal("README: packages", answers[3], "2 ''\n1 'a'\n")
 
     def test_types(self) -> None:
-        """mypy finds nothing to say of the module, nor of one that uses it, and something of one that uses it wrongly."""
+        """mypy finds nothing to say of the module, nor of one that uses it, and something of one that uses it
+        wrongly."""
         if not shutil.which("mypy"):
             self.skipTest("no mypy here: the types of the module aren't tried")
         with tempfile.TemporaryDirectory() as at:

@@ -3,12 +3,12 @@ Python as a command and dexasm-close too, from the call that first names OUT on.
 of its own.)
 
 Every call after FILE is opened is made to fail once with each of some errors, and once the program is killed, and once
-interrupted, at that call, in each setting of OUT: absent, present, with two names, behind a link, a mount point (as root
-alone). Each time OUT is what it was, or the answer, or the whole answer stands beside it; nothing else is touched, and
-after a failure nothing is left. And in a run that is left alone the calls come in the order that keeps OUT: the part is
-new and stands beside OUT, nobody else may open it until it has OUT's mode, it is whole and on the disk before it takes
-OUT's place, and nothing is written in place before that. It needs strace; where that is missing, or may not trace,
-nothing is tried.
+interrupted, at that call, in each setting of OUT: absent, present, with two names, behind a link, a mount point (as
+root alone). Each time OUT is what it was, or the answer, or the whole answer stands beside it; nothing else is touched,
+and after a failure nothing is left. And in a run that is left alone the calls come in the order that keeps OUT: the
+part is new and stands beside OUT, nobody else may open it until it has OUT's mode, it is whole and on the disk before
+it takes OUT's place, and nothing is written in place before that. It needs strace; where that is missing, or may not
+trace, nothing is tried.
 
 (The part helpers does so with dexasm-split, dexasm-browse and deliver.py itself, in more settings, and the part library
 with the jar.)

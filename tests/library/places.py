@@ -18,7 +18,8 @@ LABEL = ":" + "n" * 32
 CAUGHT = ":a", "nop", ":b", "  try   :a   :b", "catchall :a", "«»try :a :b", "catchall :a"
 LONG_LABELS = f'const-string v0 ":a {LABEL}"', f"if-eqz v0 {LABEL}", "nop", LABEL
 BEFORE = "class LB; 0", "end class", "class LA; 0", "super LB;", "end class"
-# Texts that could lead astray: lines in which a class or a code seems to begin or to end, lines of a megabyte, bytes that
+# Texts that could lead astray: lines in which a class or a code seems to begin or to end, lines of a megabyte, bytes
+# that
 # are no text, no line feed at the end; escapes in names, numbers spelled in odd ways, labels of 32 characters.
 HOSTILE = (
     [f"# class LB; 0 \x80\xff{'x' * MEGABYTE}", HEAD, "# end class", CLASS, *CODE, "# end code", "move v0 «v4»", *END],

@@ -1,9 +1,8 @@
 """libdexasm from C, Python and Rust: each job on files right, damaged and empty, beside the command.
 
 What a caller answers has to be what the command answers: status, answer and line, byte by byte. Rust is tried where
-cargo is, valgrind is asked about the caller in C where it is. Java is tried by test_java.py, the buffers by the tests of
-the module for Python.
-"""
+cargo is, valgrind is asked about the caller in C where it is. Java is tried by test_java.py, the buffers by the tests
+of the module for Python."""
 import os
 import shutil
 import sys

@@ -223,7 +223,7 @@ class JavaBinding(JavaTest):
         self.check_equal("Java: the system's library", got, (0, b"ok\n", ""))
 
     def test_outs(self) -> None:
-        """What is left, by what OUT is: the table of out_cases.py of the part program, with an answer of half a megabyte."""
+        """What is left, by what OUT is: the table of program/out_cases.py, with an answer of half a megabyte."""
         listing = "dex 035 listing 2\n" + "".join(f"class LA{number}; 0x1\nend class\n" for number in range(10000))
         answer = run(self.java.program, "assemble", put(f"{self.java.folder}/many.txt", listing.encode()))[1]
         # (strip drops what is added)

@@ -90,7 +90,8 @@ INJECTED = (
 
 
 class Process:
-    """Outs of bindings/java/test: one process that brings answers to files, as outs.py of the tests of the module for Python asks."""
+    """Outs of bindings/java/test: one process that brings answers to files, as outs.py of the tests of the module for
+    Python asks."""
 
     def __init__(self, words: list[str], env: dict[str, str]) -> None:
         self.process = subprocess.Popen(words, stdin=subprocess.PIPE, stdout=subprocess.PIPE, env=env)

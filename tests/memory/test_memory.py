@@ -4,9 +4,8 @@ refusal. (Not the launcher, a script with requests of its own.)
 A run with a refused request ends with status 4 and its line, with nothing written, or with the right answer; a run
 without one gives the right answer. By the program of crates/bench single calls are tried too: `parse`, `print_1`,
 `Tables::read`, `read_code`, and `Needed` with its `freeze`; each gives the right sum, or is told as 255. And
-`put_uleb`, `put_sleb`, `put_mutf8`, `put_insn`, `put_array` and `put_code`, each on a Vec that has no room left, which is
-as it was after a refusal. What is counted is the requests that were refused.
-"""
+`put_uleb`, `put_sleb`, `put_mutf8`, `put_insn`, `put_array` and `put_code`, each on a Vec that has no room left, which
+is as it was after a refusal. What is counted is the requests that were refused."""
 import itertools
 import os
 import subprocess
@@ -37,8 +36,8 @@ class MemoryTest(TestCase):
     def ran(
         self, words: list[str], given: bytes, out: str | None, refused_at: int = 0, of: str | None = None
     ) -> tuple[Got, bool]:
-        """Status, standard output, OUT's bytes, standard error, and whether a request was refused; of the program, or of
-        another one."""
+        """Status, standard output, OUT's bytes, standard error, and whether a request was refused; of the program, or
+        of another one."""
         reads, writes = os.pipe()
         # (by a path without a space, where the loader would cut it)
         env = {**os.environ}
@@ -113,8 +112,8 @@ class Calls(MemoryTest):
     """Single calls, by the program of crates/bench."""
 
     def setUp(self) -> None:
-        super().setUp()
         self.bench = tried.bench()
+        super().setUp()
         self.file = get(os.path.join(TOP, "crates/bench/stdin"))
 
     def sweep(self, words: list[str], given: bytes = b"") -> None:

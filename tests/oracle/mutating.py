@@ -46,8 +46,8 @@ AWKWARD_IN = {"string count": "text", "string byte": "text", "string end": "text
 
 
 class Spots:
-    """The fields of an accepted file: under each label the place and width of each. And of each row, each two entries of
-    class data that are neighbours, and each instruction, its fields: (label, place, width)."""
+    """The fields of an accepted file: under each label the place and width of each. And of each row, each two entries
+    of class data that are neighbours, and each instruction, its fields: (label, place, width)."""
 
     of: dict[str, list[Spot]]
     together: dict[str, list[list[tuple[str, int, int]]]]

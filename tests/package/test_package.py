@@ -276,7 +276,8 @@ class PackageTest(TestCase):
                 self.runs(f"{what}: by lintian", "lintian", "--allow-root", "--fail-on", "error", path, cwd=room)
 
     def check_wheels(self, wheel: str) -> None:
-        """The wheel, and the one that pip makes of the folder, each in an environment of its own; nothing of the network."""
+        """The wheel, and the one that pip makes of the folder, each in an environment of its own; nothing of the
+        network."""
         with tempfile.TemporaryDirectory() as room:
             with open(f"{room}/hello.dex", "wb") as file:
                 file.write(self.sample)

@@ -1,9 +1,8 @@
 """What a command leaves, by what OUT is: a table of cases, each in a folder of its own.
 
 A case is its name, what makes it, the exit status and the line on standard error that are wanted, what of the folder is
-looked at, and what stands there, in words: `answer` is the whole one, `old` what the file held, `front` a beginning of the
-answer. Cases of another user, and those on a disk of their own, are left out where they can't be set up.
-"""
+looked at, and what stands there, in words: `answer` is the whole one, `old` what the file held, `front` a beginning of
+the answer. Cases of another user, and those on a disk of their own, are left out where they can't be set up."""
 # (what makes a case may do several things: a tuple of what they answer, which is nothing)
 # mypy: disable-error-code="func-returns-value"
 import os

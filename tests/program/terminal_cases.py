@@ -62,7 +62,8 @@ def seen(
 
 
 def cases_of(program: str, folder: str, empty: bytes, refused: bytes) -> Iterator[Case]:
-    """Each case as its name, whether it is so, and what was seen. `empty` is a file of no classes, `refused` one that breaks rule 8."""
+    """Each case as its name, whether it is so, and what was seen. `empty` is a file of no classes, `refused` one that
+    breaks rule 8."""
     listing, line = b"dex 035 listing 2\n", "dexasm: refused 8 Checksum at 8\n"
     path = os.path.join(folder, "terminal")
     os.mkdir(path)

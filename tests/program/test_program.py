@@ -74,7 +74,8 @@ def changed(at: int, given: bytes, size: int | None = None) -> bytes:
 
 
 def of_handlers(order: Sequence[int]) -> File:
-    """A file with three tries and a handler for each: of 1 catch, of 30,000 and of 5,000, which begin in the list at 1, 4 and 60007."""
+    """A file with three tries and a handler for each: of 1 catch, of 30,000 and of 5,000, which begin in the list at 1,
+    4 and 60007."""
 
     def body(file: File) -> bytes:
         caught = uleb(file.type_at["LE;"]) + uleb(0)
@@ -101,7 +102,8 @@ def code_off_of(file: bytes) -> int | None:
     return None
 
 
-# Two faults of one row, entry or instruction: the bytes of the file that are changed, and the fault that is told of the two.
+# Two faults of one row, entry or instruction: the bytes of the file that are changed, and the fault that is told of the
+# two.
 PAIRS = (
     ("d5=3a 80=01 84=00", "24 TypeText at 132"),
     ("8c=09 94=01", "26 ProtoIndex at 140"),
@@ -739,7 +741,8 @@ class Faults(ProgramTest):
         self.tells("strip of them", 1, "dexasm: refused 90 TooBig at 0\n", "strip", path)
 
     def test_pairs(self) -> None:
-        """Of two faults of one row, entry or instruction the first in FORMAT's order is told, by check, list and strip alike."""
+        """Of two faults of one row, entry or instruction the first in FORMAT's order is told, by check, list and strip
+        alike."""
         for bytes_there, line in PAIRS:
             file = bytearray(ONE_CLASS)
             for at, byte in (each.split("=") for each in bytes_there.split()):
@@ -750,7 +753,8 @@ class Faults(ProgramTest):
                 )
 
     def test_each_byte(self) -> None:
-        """Each byte of the file from 0x20 on, made 0, 7f, 80 and ff: a program, or a fault at a place of the file or where a code is said to be."""
+        """Each byte of the file from 0x20 on, made 0, 7f, 80 and ff: a program, or a fault at a place of the file or
+        where a code is said to be."""
         for at in range(0x20, len(ONE_CLASS)):
             for byte in (0, 0x7F, 0x80, 0xFF):
                 file = changed(at, bytes([byte]))

@@ -1,13 +1,13 @@
 """The four commands on every .dex file below a folder, which tools/try --files names, as a table.
 
-Of each file: check; list; assemble of the listing; check of that; strip. Wrong is: a listing of an accepted file that isn't
-assembled though the file is stripped, an assembled file that isn't accepted or has another listing, a stripped file that isn't
-the assembled one or that a second strip changes. Where dexdump is installed, 'dexdump -d' shows the same classes, fields, methods
-and instructions of the stripped file as of the file; debug information, annotations, offsets and indices aside.
+Of each file: check; list; assemble of the listing; check of that; strip. Wrong is: a listing of an accepted file that
+isn't assembled though the file is stripped, an assembled file that isn't accepted or has another listing, a stripped
+file that isn't the assembled one or that a second strip changes. Where dexdump is installed, 'dexdump -d' shows the
+same classes, fields, methods and instructions of the stripped file as of the file; debug information, annotations,
+offsets and indices aside.
 
-The table has sizes in bytes and the seconds of all commands together; the line after it counts the files, those that are
-accepted, and those that dexdump shows alike. It is wrong too that no file is accepted.
-"""
+The table has sizes in bytes and the seconds of all commands together; the line after it counts the files, those that
+are accepted, and those that dexdump shows alike. It is wrong too that no file is accepted."""
 import os
 import re
 import shutil

@@ -216,7 +216,8 @@ class BrowseTest(HelperTest):
     """A test of pages."""
 
     def pages(self, at: str) -> dict[str, Page]:
-        """The pages below a folder by their paths; checks that each is only what it may be, and leads to what is there."""
+        """The pages below a folder by their paths; checks that each is only what it may be, and leads to what is
+        there."""
         files: dict[str, Any] = {name: given for name, given in seen_in(at).items() if given != "folder"}
         wrong: list[str | tuple[str, str]] = [name for name in files if not FILES.fullmatch(name)]
         found = {name: Page(given.decode("utf8")) for name, given in files.items() if name.endswith(".html")}

@@ -8,7 +8,6 @@ from typing import Any
 from .archives import archive
 from .rooms import HEAD, LISTING, NAMES, HelperTest, assembled, dexasm, get, is_one_line, put, room, scratch, tool
 
-
 LIBRARY = b"""class Ll/A; 0x1
 super Ljava/lang/Object;
 direct m ()V 0x9

@@ -6,7 +6,6 @@ from collections.abc import Callable, Iterator
 from .rooms import HEAD, HelperTest, assembled
 from .signed import resigned
 
-
 TEXT = (
     HEAD
     + b"""class LA; 0x601

@@ -5,7 +5,6 @@ from typing import Any
 
 from .rooms import ESC, HEAD, NAMES, TOP, assembled, get, put
 
-
 TEXT = (
     HEAD
     + b"""class LHello; 0x1

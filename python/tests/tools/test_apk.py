@@ -14,7 +14,6 @@ from .fakes import fakes
 from .rooms import ESC, LISTING, Ended, HelperTest, assembled, dexasm, get, is_one_line, put, room, seen_in, shell, tool
 from .signed import resigned
 
-
 SECRET = b"secret"
 
 
@@ -66,7 +65,8 @@ class Apk(HelperTest):
         self.says("a name too long for a file", (3, ""), "strip", "long.apk", "out", at=at, begins="classes999")
 
     def test_close(self) -> None:
-        """--close: what D8 signed and what has a wrong checksum is closed, with a line; the others stand as they are."""
+        """--close: what D8 signed and what has a wrong checksum is closed, with a line; the others stand as they
+        are."""
         seen: Ended | dict[str, str | bytes]
         at, file = room("apk close"), assembled(LISTING)
         old = resigned(file, hashlib.sha1(file[32:-52]).digest())

@@ -400,7 +400,8 @@ class Browse(BrowseTest):
         self.check("dexasm-browse, nothing is beside", not left, left)
 
     def test_ended(self) -> None:
-        """Ended at each call, or with each one failed, also where a system can't exchange two names: FOLDER is old or new."""
+        """Ended at each call, or with each one failed, also where a system can't exchange two names: FOLDER is old or
+        new."""
         if not can_trace():
             return
         at = room("browse ended")

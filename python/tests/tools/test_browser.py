@@ -11,7 +11,6 @@ from . import browser
 from .browsed import CODE, PARTS, hostile
 from .rooms import TOP, HelperTest, assembled, get, put, room, tool
 
-
 HTTP = "http://localhost:"
 
 

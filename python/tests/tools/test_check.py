@@ -44,7 +44,6 @@ from .rooms import (
 )
 from .streaming import answers, fake
 
-
 EVIL = (
     *(os.fsencode(name) for name in NAMES),
     b"::error::x",
@@ -466,7 +465,8 @@ class Check(HelperTest):
         self.check("dexasm-check --lint --junit", cases == want, out)
 
     def test_lint_limits(self) -> None:
-        """A program that takes too long to be linted, and one at which the worker is killed: what was told stays, once."""
+        """A program that takes too long to be linted, and one at which the worker is killed: what was told stays,
+        once."""
         at = room("check lint limits")
         linted(at)
         program = shlex.quote(tried.program())

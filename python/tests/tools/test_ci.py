@@ -13,7 +13,6 @@ from .checked import alone, properties
 from .recipe import EVIL, IDENTITY, TEXT, TURNED, many
 from .rooms import TOP, Ended, HelperTest, assembled, environment, get, put, room, run, shell
 
-
 HOOK = os.path.join(TOP, "docs/ci/pre-commit")
 COMMIT = ("git", "commit", "-qm", "a")
 # Names of files and archives that are looked at, and of one that isn't.

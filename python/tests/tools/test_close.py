@@ -20,7 +20,6 @@ from .rooms import (
 )
 from .signed import resigned
 
-
 SHORT = 0x70  # bytes of a header
 
 

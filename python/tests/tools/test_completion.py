@@ -5,7 +5,6 @@ from collections.abc import Sequence
 
 from .rooms import NAMES, TOP, HelperTest, put, room, run, shell
 
-
 BASH = """. {file}
 COMP_WORDS=({words}) COMP_CWORD={at}
 {function}

@@ -1,5 +1,5 @@
 """dexasm-corpus: what strangers' files do to it first, then its answers, and that nothing is lost or doubled; how its
-runs end is in corpus_runs.py."""
+runs end is in test_corpus_runs.py."""
 import csv
 import hashlib
 import io
@@ -187,9 +187,8 @@ class Corpus(CorpusTest):
         self.check("dexasm-corpus, same", sorted(found) == ["f/a.dex", "f/b.dex", "f/x.apkclasses.dex", "g.dex"], found)
 
     def test_same(self) -> None:
-        """Copies to the byte are one program at several paths, whatever these are called, in each form; what stands at one
-        path, or is refused, isn't there.
-        """
+        """Copies to the byte are one program at several paths, whatever these are called, in each form; what stands at
+        one path, or is refused, isn't there."""
         at, copy, one, names = room("corpus same"), assembled(LISTING), assembled(HEAD + APP), [*NAMES, "=1+1", WIDE]
         for name in names:
             put(at, f"{name}.dex", copy)
@@ -375,7 +374,8 @@ class Corpus(CorpusTest):
         self.check_equal("CORPUS: its tables are those of a database", told, plain(made))
 
     def test_recipes(self) -> None:
-        """The commands of RECIPES as they stand there, in a folder of evil names; those for Slurm by a sbatch of ours."""
+        """The commands of RECIPES as they stand there, in a folder of evil names; those for Slurm by a sbatch of
+        ours."""
         at, recipes = os.path.join(room("corpus recipes"), "d"), blocks("docs/RECIPES.md")["A corpus"]
         put(at, "build1.dex", assembled(TEXT))
         for name in NAMES:

@@ -194,7 +194,8 @@ class HostileCorpus(CorpusTest):
             self.check(f"dexasm-corpus {words}", opens and all("O_RDONLY" in line for line in opens), opens)
 
     def test_cells(self) -> None:
-        """What a spreadsheet takes for a formula begins with an apostrophe, in each column; --csv-raw has it as it is."""
+        """What a spreadsheet takes for a formula begins with an apostrophe, in each column; --csv-raw has it as it
+        is."""
         at = room("hostile cells")
         for number, name in enumerate((*CELLS, "\t=1", "\r=1", WIDE)):
             text = "".join(f"\\u{ord(char):04x}" for char in name)

@@ -41,7 +41,6 @@ from .rooms import (
     tool,
 )
 
-
 CORPUS = os.path.join(TOOLS, "dexasm-corpus")
 PATIENCE = LIMIT  # for what a run does meanwhile
 BAR = re.compile(r"\d+ files, \d+\.\d MB/s, \d+ refused(, \d+ s left)?")

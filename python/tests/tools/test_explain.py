@@ -11,7 +11,6 @@ from tests import tried
 from .patched import PatchedTest
 from .rooms import ESC, HEAD, LISTING, TOP, assembled, get, is_one_line, put, room, run, shell, tool
 
-
 PAGES = "".join(get(TOP, f"docs/{name}.md").decode() for name in ("FORMAT", "LISTING"))
 NUMBERS = sorted({int(number) for number in re.findall(r"^\| (\d+) \| [A-Z]\w+ \|", PAGES, re.M)})
 CLASS = b"class LA; 0x1\nsuper Ljava/lang/Object;\n"
@@ -217,7 +216,8 @@ class Explain(PatchedTest):
         )
 
     def test_words(self) -> None:
-        """The line, the word and why: of lines and of classes, of a file that is listed, and of a text that isn't it."""
+        """The line, the word and why: of lines and of classes, of a file that is listed, and of a text that isn't
+        it."""
         at, line = room("explain words"), b"direct m ()V 0x9\ncode 2 0 0\n%b\nend code\nend class\n"
         for what, text, number, says_line, hint in (
             ("a register", b"move v16 v0", 102, "6: move v16 v0", "v16: v0 to v15 here; move/from16 or move/16 takes"),

@@ -29,7 +29,6 @@ from .patched import (
 )
 from .rooms import ESC, HEAD, NAMES, TOP, assembled, dexasm, get, is_one_line, put, room, shell, tool
 
-
 PUBLIC, PRIVATE, PROTECTED, STATIC, FINAL, SYNCHRONIZED = 1, 2, 4, 8, 0x10, 0x20
 BRIDGE = VOLATILE = 0x40
 VARARGS = TRANSIENT = 0x80

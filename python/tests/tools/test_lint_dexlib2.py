@@ -15,7 +15,6 @@ from dexasm.tools.lint.verify import Method
 from tests import tried
 from .rooms import HEAD, TOP, HelperTest, assembled, dexasm, put, room, run
 
-
 JARS = [f"/usr/share/java/{name}.jar" for name in ("dexlib2", "guava", "jsr305", "smali-util")]
 METHODS, LENGTH, REGISTERS = 400, 14, 7
 # dexlib2's numbers of kinds: 0 unknown, 1 not set, 2 null, 3 to 9 ranges, 10 an int, 11 a float, 12 to 15 halves of a

@@ -31,7 +31,6 @@ from .rooms import (
     traced,
 )
 
-
 STRANGE = r"L\u2067a\u2060;"  # it turns what follows, and has what nobody sees
 ORDER = "@ the classes that both have stand in another order\n"
 

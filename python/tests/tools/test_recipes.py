@@ -104,7 +104,8 @@ class Recipes(HelperTest):
         )
 
     def test_merged(self) -> None:
-        """Several files in one, by plain names and by evil ones: each command as it stands, on files that are for it."""
+        """Several files in one, by plain names and by evil ones: each command as it stands, on files that are for
+        it."""
         lines = blocks("docs/RECIPES.md")["Several files in one"][0]
         first, second = assembled(TEXT), assembled(HEAD + b"class LOther; 0x1\nsuper LHello;\nend class\n")
         for name in ("", EVIL):

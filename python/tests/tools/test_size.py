@@ -36,7 +36,6 @@ from .rooms import (
     tool,
 )
 
-
 Row = dict[str, Any]  # as JSON has it
 COLUMNS = ["total", "code", "strings", "tables", "values", "debug", "unused", "strip"]
 
@@ -198,13 +197,15 @@ class Size(HelperTest):
             + b"static i I 9 = int 77\nend class\n"
         )
         rows = self.adds_up("two classes", assembled(text), at)
-        # Each code has a head of 16 bytes and 3 units; A's names are its own: "La/A;" (row 4, size 1, 5 characters, 0) and
+        # Each code has a head of 16 bytes and 3 units; A's names are its own: "La/A;" (row 4, size 1, 5 characters, 0)
+        # and
         # "only".
         self.check("dexasm-size, code", rows["La/A;"][1] == rows["La/B;"][1] == 16 + 2 * 3, rows)
         self.check("dexasm-size, strings", (rows["La/A;"][2], rows["La/B;"][2]) == (11 + 10, 11 + 16 + 7 + 7), rows)
         # The value 77 is an array of one value of one byte.
         self.check("dexasm-size, values", (rows["La/A;"][4], rows["La/B;"][4]) == (0, 3), rows)
-        # "V", "m" (7 bytes each); the type V, the prototype ()V. A's own: its type, its method, its class row, its class
+        # "V", "m" (7 bytes each); the type V, the prototype ()V. A's own: its type, its method, its class row, its
+        # class
         # data.
         self.check("dexasm-size, what both need", rows["(several classes)"][2:4] == [7 + 7, 4 + 12], rows)
         # header, 112 bytes; the map: a count and entries of 12 bytes of header, six tables but fields .. (fields are
@@ -385,9 +386,8 @@ class Size(HelperTest):
             self.changes_add_up(what, old, new, at, ("package", "class", "method", "string")[number % 4])
 
     def test_changes_by_hand(self) -> None:
-        """Worked out by hand from docs/FORMAT.md: a row of a string has 4 bytes and its item 2 and its characters, a row of
-        a type 4, of a class 32; a code 16 and 2 for each unit, a code begins at a multiple of 4.
-        """
+        """Worked out by hand from docs/FORMAT.md: a row of a string has 4 bytes and its item 2 and its characters, a
+        row of a type 4, of a class 32; a code 16 and 2 for each unit, a code begins at a multiple of 4."""
         at = room("size changes by hand")
         old = classes_of(A=METHOD % (b"m", b"only", b""), B=b"")
         new = classes_of(A=METHOD % (b"m", b"only more", b"nop\nnop\n"), C=b"")
@@ -494,7 +494,8 @@ class Size(HelperTest):
         cells = r"<tr><td>([^<]*)</td>(?:<td>[^<]*</td>)*<td>([^<]*)</td></tr>"
         bodies = [re.findall(cells, one) for one in page.split("<tbody>")[1:]]
         changes = [[int(cell.replace(",", "")) for cell, _ in rows] for rows in bodies]
-        # (2,100 classes or their packages and three rows of what is no class's, of which two didn't change; "L" is one of
+        # (2,100 classes or their packages and three rows of what is no class's, of which two didn't change; "L" is one
+        # of
         # the strings)
         counts = [len(rows) for rows in bodies]
         self.check(

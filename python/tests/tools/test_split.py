@@ -30,7 +30,6 @@ from .rooms import (
     traced,
 )
 
-
 GOOD = classes("LA;", "Lb/B;")
 
 
@@ -52,9 +51,8 @@ NEW_NAMES = ("A.txt", "C.txt", "b", "b/D.txt", "head", "order", "tail")
 
 
 def ended_at(call: str, number: int, how: str) -> tuple[Ended, Ended, bool, tuple[Ended, Ended, bool]]:
-    """A run that is ended at this call, or in which it fails: what it said, what is joined then, whether nothing is left
-    but one of the two listings; and the same of the next run, which is left alone.
-    """
+    """A run that is ended at this call, or in which it fails: what it said, what is joined then, whether nothing is
+    left but one of the two listings; and the same of the next run, which is left alone."""
     at = good(f"ended {call} {number} {how}")
     seen = traced("dexasm-split", "classes", given=NEW, at=at, inject=[f"{call}:{how}:when={number}"])
     joined, is_clean = tool("dexasm-split", "--join", "classes", at=at), clean(at) or clean(at, NEW_NAMES)
@@ -348,7 +346,8 @@ class Split(HelperTest):
             os.close(top)
 
     def test_ended(self) -> None:
-        """Ended at each call, or with each one failed: what is joined is the old listing or the new one, or nothing is."""
+        """Ended at each call, or with each one failed: what is joined is the old listing or the new one, or nothing
+        is."""
         if not can_trace():
             return
         calls = calls_of("dexasm-split", "classes", given=NEW, begins='"classes"', at=good("ended"))

@@ -77,7 +77,8 @@ class Streams(HelperTest):
             self.check(text, seen[:2] == (2 if "diff" in text else 3, "") and is_one_line(seen[2], "dexasm-"), seen)
 
     def test_unread(self) -> None:
-        """More than a pipe holds, of which one byte is read: what answers by its status doesn't say that all is well."""
+        """More than a pipe holds, of which one byte is read: what answers by its status doesn't say that all is
+        well."""
         at, many = room("streams unread"), b"".join(
             b"class L%s%d; 0x1\nend class\n" % (b"x" * 99, n) for n in range(3000)
         )
@@ -139,7 +140,8 @@ class Streams(HelperTest):
             self.check(f"{text}, {strict}", (seen[0], seen[2]) == ("diff" in text, ""), seen)
 
     def test_commands(self) -> None:
-        """Over such a command: one line, and the status of what failed. (Of a class by its name alone a line is made.)"""
+        """Over such a command: one line, and the status of what failed. (Of a class by its name alone a line is
+        made.)"""
         at = prepared("streams commands")
         jobs = ["browse a.dex --output pages", "diff a.dex b.dex", "graph --calls a.dex", "lint a.dex"]
         sizes = ["size a.dex", "size --by string a.dex b.dex"]
@@ -181,7 +183,8 @@ class Streams(HelperTest):
                 self.check(f"{text}, by a graphviz that answers {given[:60]!r}", is_so, seen)
 
     def test_module(self) -> None:
-        """The module for Python over such a command: a line and 3, where that isn't a listing or a file of that length."""
+        """The module for Python over such a command: a line and 3, where that isn't a listing or a file of that
+        length."""
         at = prepared("streams module")
         shutil.copytree(os.path.join(TOP, "python/src/dexasm"), os.path.join(at, "modules", "dexasm"))
         python = f"{shlex.quote(sys.executable)} -B -m dexasm"
