@@ -30,6 +30,7 @@ if command -v pkg-config >/dev/null; then pkg-config --modversion dexasm; else e
 if command -v man >/dev/null; then man -w dexasm-check | sed "s=^$PWD/=="; else echo none; fi
 complete -p dexasm | cut -c1-8
 """
+NO_PAGES = "pages need jinja2 (Debian: python3-jinja2; pip: dexasm[pages])"
 # A helper over the module that they share, over a page, and over both modules.
 HELPED = (
     ("dexasm assemble hello.txt | dexasm-query calls", '{\n "LHello;->get(Z)I": []\n}\n'),
@@ -141,7 +142,13 @@ class PackageTest(TestCase):
             ("/usr/bin/env python3 -B -m dexasm check hello.dex", "dexasm: refused 8 Checksum at 8\n"),
             *HELPED,
         ]
+        no_pages = ended(["python3", "-c", "import jinja2"], env=env, stderr=subprocess.DEVNULL)[0] != 0
+        if no_pages:
+            print(f"tests/package: {what}: no jinja2 here, so no page is looked at", file=sys.stderr)
         for command, rest in steps:
+            by = "dexasm-browse" if "-browse" in command else "dexasm-size" if "--html" in command else ""
+            if no_pages and by:
+                rest = f"{by}: {NO_PAGES}\n"
             is_typed = command.startswith("cat >")
             given, want = (rest.encode(), "") if is_typed else (b"", rest)
             self.runs(f"{what}: {command}", *drop, "bash", "-c", command, want=want, cwd=home, env=env, input=given)

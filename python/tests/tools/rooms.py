@@ -3,6 +3,7 @@ import atexit
 import collections
 import concurrent.futures
 import functools
+import importlib.util
 import os
 import re
 import resource
@@ -11,6 +12,7 @@ import signal
 import subprocess
 import sys
 import tempfile
+import unittest
 from collections.abc import Callable, Collection, Iterable, Sequence
 from typing import Any, TypeVar
 
@@ -22,6 +24,7 @@ Ended = tuple[int | str, str, str]  # status, or "late"; standard output; standa
 Case = TypeVar("Case", bound=tuple[Any, ...])
 Answer = TypeVar("Answer")
 ESC = "\x1b"
+NO_PAGES = "pages need jinja2"  # what is said where it isn't
 
 # As somebody wrote it: comments, classes whose names differ only in case, one in a package and one of the package's
 # name.
@@ -156,7 +159,15 @@ def run(
         )
     except subprocess.TimeoutExpired:
         return "late", "", ""
-    return done.returncode, done.stdout.decode("latin1"), done.stderr.decode("latin1")
+    said = done.stderr.decode("latin1")
+    if NO_PAGES in said:
+        raise unittest.SkipTest(f"{NO_PAGES}, which this Python hasn't got: no page is looked at")
+    return done.returncode, done.stdout.decode("latin1"), said
+
+
+def has_pages() -> bool:
+    """Whether pages can be made here."""
+    return importlib.util.find_spec("jinja2") is not None
 
 
 def tool(name: str, *words: str, **options: Any) -> Ended:

@@ -9,7 +9,9 @@ import sys
 
 from .archives import archive
 from .browsed import CODE
-from .rooms import HEAD, LISTING, TOP, HelperTest, assembled, environment, is_one_line, put, room, shell
+from .rooms import (
+    HEAD, LISTING, TOP, HelperTest, assembled, environment, has_pages, is_one_line, put, room, shell
+)  # fmt: skip
 from .streaming import answers, each, fake, is_line
 
 
@@ -30,6 +32,8 @@ WORDS = {
     "size": "a.dex",
     "split": "--join classes",
 }
+if not has_pages():
+    del WORDS["browse"]
 ENDS, FAILS = {"diff": 1}, {"diff": 2}  # statuses, where they aren't 0 and 3
 SILENT = ("browse", "merge")  # on standard output
 UNREAD = "( sleep 0.3; {} ) | true; exit ${{PIPESTATUS[0]}}"
@@ -93,16 +97,18 @@ class Streams(HelperTest):
             "explain <told": 0,
             "graph --calls --from none a.dex": 2,
             "query classes a.dex": 0,
-            "size --by class a.dex --html page.html": 0,
             "split --join classes": 0,
         }
+        if has_pages():
+            wants["size --by class a.dex --html page.html"] = 0
         texts = {f"dexasm-{words} | head -c 1; exit ${{PIPESTATUS[0]}}": want for words, want in wants.items()}
         for text, seen in each(texts, at):
             is_said = seen[2] == "" or "none" in text
             self.check(
                 text, (seen[0], len(seen[1])) == (texts[text], "none" not in text) and is_said, (seen[0], seen[2])
             )
-        self.check("dexasm-size, its page was written nevertheless", os.path.exists(os.path.join(at, "page.html")))
+        is_so = os.path.exists(os.path.join(at, "page.html")) == has_pages()
+        self.check("dexasm-size, its page was written nevertheless", is_so)
 
     def test_limit(self) -> None:
         """A file that may not grow that much is one that can't be written, for whatever is printed."""
@@ -143,10 +149,10 @@ class Streams(HelperTest):
         """Over such a command: one line, and the status of what failed. (Of a class by its name alone a line is
         made.)"""
         at = prepared("streams commands")
-        jobs = ["browse a.dex --output pages", "diff a.dex b.dex", "graph --calls a.dex", "lint a.dex"]
+        jobs = ["diff a.dex b.dex", "graph --calls a.dex", "lint a.dex"] + ["browse a.dex --output pages"] * has_pages()
         sizes = ["size a.dex", "size --by string a.dex b.dex"]
         for number, (command, path) in enumerate(answers(at)):
-            words = "query calls a.dex", sizes[number % 2], jobs[number % 4], "merge a.dex --output merged"
+            words = "query calls a.dex", sizes[number % 2], jobs[number % len(jobs)], "merge a.dex --output merged"
             texts = [f"dexasm-{one}" for one in words]
             for text, seen in each(texts, at, DEXASM_COMMAND=path):
                 said = re.sub(r"^.*: it can't be stripped, so .*\n", "", seen[2])  # (what dexasm-browse says before)
@@ -178,7 +184,7 @@ class Streams(HelperTest):
                 is_so = number == 7 or seen[:2] == (3, "") and is_line(seen[2])
                 self.check(f"{text}, by a graphviz that answers {given[:60]!r}", is_so, seen)
             words = f"dexasm-browse a.dex --output {number}/pages --graphs all; grep -rl 'No picture of' {number}/pages"
-            for text, seen in each([words], at, PATH=ways):
+            for text, seen in each([words] * has_pages(), at, PATH=ways):
                 is_so = seen == (0, f"{number}/pages/class/1.html\n", "")
                 self.check(f"{text}, by a graphviz that answers {given[:60]!r}", is_so, seen)
 

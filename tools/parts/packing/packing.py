@@ -130,7 +130,8 @@ def packed_page(path: str) -> bytes:
     if path == f"{TOP}/README.md":
         page = get(f"{TOP}/docs/PACKAGE.md").decode().partition("\n\n")[2].rpartition("\n---\n")[0].strip()
         instead = relinked(page, "docs/PACKAGE.md", {name: name for name in places()}, "README.md") + "\n\n"
-    return CHECKOUT.sub(lambda _: instead, text).encode()
+    made: str = CHECKOUT.sub(lambda _: instead, text)
+    return made.encode()
 
 
 def places() -> dict[str, str]:
@@ -156,7 +157,8 @@ def relinked(text: str, path: str, known: dict[str, str], goes: str | None = Non
             return words
         return f"{mark}[{words}]({os.path.relpath(known[there], here)}{'#' * bool(anchor)}{anchor})"
 
-    return LINK.sub(moved, text)
+    made: str = LINK.sub(moved, text)
+    return made
 
 
 def bytes_of(held: Held, place: str) -> bytes:
@@ -268,6 +270,7 @@ def control_of(held: Held, number: str) -> dict[str, str]:
 Version: {number}
 Architecture: amd64
 Depends: libc6 (>= 2.34), python3:any
+Recommends: python3-jinja2
 Suggests: libjna-java
 Section: devel
 Priority: optional

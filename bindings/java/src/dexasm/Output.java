@@ -17,7 +17,7 @@ import java.util.concurrent.Semaphore;
 
 /**
  * Brings an answer to a file OUT, by the rules of the command: at each moment OUT holds what it held or the whole
- * answer, or the whole answer stands beside it. (bindings/python/dexasm/deliver.py has all of them.)
+ * answer, or the whole answer stands beside it. (python/src/dexasm/deliver.py has all of them.)
  */
 final class Output {
   private static final int TURNS = 100; // how often OUT is looked at, if it is another file each time

@@ -9,6 +9,7 @@ from dexasm.tools.browse.code import Coder
 from dexasm.tools.browse.cuts import Part, file_of, member, others, paged
 from dexasm.tools.browse.texts import counted, facts, folded, link, some
 from dexasm.tools.pages.markup import text
+from dexasm.tools.pages.templates import Markup, joined, part
 from dexasm.tools.uses import CLASS_FLAGS, Uses, flag_words, heading, title
 
 TYPE_CHECKING = False  # (as in typing)
@@ -17,10 +18,6 @@ if TYPE_CHECKING:
 
 LONG = 300  # characters of a heading
 RUNS_IT = "The runtime calls it when the class is first used."
-GRAPHS = (
-    '<p class="soft">For a picture of a method\'s flow: <code>dexasm-browse --graphs METHOD</code>, as '
-    '<a href="../help.html#graphs">How to read it</a> says.</p>'
-)
 
 
 class Classes:
@@ -28,28 +25,29 @@ class Classes:
 
     def __init__(self, uses: Uses, coder: Coder) -> None:
         self.uses, self.coder = uses, coder
-        self.titles: dict[int, str] = {}
+        self.titles: dict[int, Markup] = {}
 
-    def class_link(self, row: int, root: str = "") -> str:
+    def class_link(self, row: int, root: str = "") -> Markup:
         return link(f"{root}{row}.html", text(self.uses.classes[row].name.pretty))
 
-    def title(self, number: int) -> str:
+    def title(self, number: int) -> Markup:
         """A member with its class, as HTML, cut where it is long."""
         if number not in self.titles:
             self.titles[number] = self.titled(number, text)
         return self.titles[number]
 
-    def titled(self, number: int, said: Callable[[str, int], str]) -> str:
+    def titled(self, number: int, said: Callable[[str, int], Markup]) -> Markup:
         """The same by `text`, or by `plain` where no element may stand."""
         row, at = self.uses.place(number)
-        return f"{said(self.uses.classes[row].name.pretty, 80)}.{said(title(self.uses.members[row][at]), 80)}"
+        owner, member = self.uses.classes[row].name.pretty, title(self.uses.members[row][at])
+        return part("dotted")(said(owner, 80), said(member, 80))
 
-    def member_link(self, number: int, place: int | None = None, root: str = "") -> str:
+    def member_link(self, number: int, place: int | None = None, root: str = "") -> Markup:
         row, at = self.uses.place(number)
         line = "" if place is None else f".{place}"
         return link(f"{root}{row}.html#{at}{line}", self.title(number))
 
-    def users(self, found: array[int] | None, root: str = "") -> list[str]:
+    def users(self, found: array[int] | None, root: str = "") -> list[Markup | str]:
         """Who uses something: each member once, as a link to where it does so first."""
         count = Counter(use >> 32 for use in found or ())
         first: dict[int, int] = {}
@@ -64,35 +62,35 @@ class Classes:
     def line_of(self, user: int, place: int) -> int | None:
         return place if hasattr(self.uses.member(user), "proto") else None
 
-    def used_by(self, found: array[int] | None, said: str = "Used by") -> str:
+    def used_by(self, found: array[int] | None, said: str = "Used by") -> Markup:
         count = len({use >> 32 for use in found or ()})
         return folded(f"{said} {counted(count, 'member')}", self.users(found))
 
     # ---- the page
 
-    def type_link(self, name: Type) -> str:
+    def type_link(self, name: Type) -> Markup:
         row = self.uses.rows.get(name)
         return text(name.pretty) if row is None else self.class_link(row)
 
-    def facts(self, row: int, package: str, taken: str) -> str:
+    def facts(self, row: int, package: Markup, taken: str) -> Markup:
         one = self.uses.classes[row]
         heirs = self.uses.heirs.get(row, [])
         interfaces = some(map(self.type_link, one.interfaces), len(one.interfaces))
         return facts(
             (
-                ("name in the file", f"<code>{text(one.name, LONG)}</code>"),
+                ("name in the file", part("code")(text(one.name, LONG))),
                 ("package", package),
                 ("superclass", self.type_link(one.superclass) if one.superclass is not None else ""),
-                ("interfaces", ", ".join(interfaces)),
+                ("interfaces", joined(", ", interfaces)),
                 ("source file", text(one.source) if one.source is not None else ""),
                 ("bytes", taken),
-                ("inherited by", ", ".join(some(map(self.class_link, heirs), len(heirs)))),
+                ("inherited by", joined(", ", some(map(self.class_link, heirs), len(heirs)))),
             )
         )
 
     def pages(
-        self, row: int, lines: list[str], package: str, taken: str, extra: Callable[[int], str], hint: bool
-    ) -> Iterator[tuple[list[Part], str]]:
+        self, row: int, lines: list[str], package: Markup, taken: str, extra: Callable[[int], Markup], hint: bool
+    ) -> Iterator[tuple[list[Part], Markup]]:
         """What each page of a class has. `lines` has the HTML of each member's lines, `extra` what is added to a
         method, and `hint` is whether something is said of pictures.
         """
@@ -100,47 +98,48 @@ class Classes:
         names = [file_of(row, at) for at in range(len(cut))]
         for at, parts in enumerate(cut):
             lead = others("Pages of this class", names, at)
-            head = "" if at else "\n".join(self.head(row, package, taken))
+            head = "" if at else joined("\n", self.head(row, package, taken))
             where = " on this page" if lead else ""
-            body = "\n".join(self.body(parts, len(self.uses.classes[row].fields), where, hint))
-            yield parts, f"<h1>{self.heading(row)}</h1>{lead}{head}{body}{lead}"
+            body = joined("\n", self.body(parts, len(self.uses.classes[row].fields), where, hint))
+            yield parts, part("class_page")(self.heading(row), lead, head, body)
 
-    def heading(self, row: int) -> str:
+    def heading(self, row: int) -> Markup:
         one = self.uses.classes[row]
         kind = "interface" if one.flags & 0x200 else "class"
         words = flag_words(one.flags & ~0x200, CLASS_FLAGS)
         return text(f"{words} {kind} {one.name.pretty}".strip(), LONG)
 
-    def head(self, row: int, package: str, taken: str) -> Iterator[str]:
+    def head(self, row: int, package: Markup, taken: str) -> Iterator[Markup]:
         """What stands on a class's first page, before its members."""
         yield self.facts(row, package, taken)
         yield self.used_by(self.coder.of_class.get(row), "Named in code or values by")
 
-    def parts(self, row: int, lines: list[str], extra: Callable[[int], str]) -> Iterator[Part]:
+    def parts(self, row: int, lines: list[str], extra: Callable[[int], Markup]) -> Iterator[Part]:
         first = self.uses.first[row]
         for at, one in enumerate(self.uses.members[row]):
             listed = link(f"#{at}", text(title(one)))
-            yield from member(at, listed, text(heading(one), LONG), "".join(self.about(first + at, extra)), lines[at])
+            lead = joined("", self.about(first + at, extra))
+            yield from member(at, listed, text(heading(one), LONG), lead, lines[at])
 
-    def body(self, parts: list[Part], fields: int, where: str, hint: bool) -> Iterator[str]:
+    def body(self, parts: list[Part], fields: int, where: str, hint: bool) -> Iterator[Markup]:
         """The members of a page: their names first."""
         for is_method, said in ((False, "field"), (True, "method")):
-            names = [part.listed for part in parts if part.listed and (part.at >= fields) == is_method]
+            names: list[Markup | str] = [one.listed for one in parts if one.listed and (one.at >= fields) == is_method]
             yield folded(counted(len(names), said) + where, names, 20)
         shown = -1
-        for part in parts:
-            if (part.at >= fields) > shown:
-                shown = part.at >= fields
-                yield f"<h2>Methods</h2>{GRAPHS if hint else ''}" if shown else "<h2>Fields</h2>"
-            yield part.html
+        for one in parts:
+            if (one.at >= fields) > shown:
+                shown = one.at >= fields
+                yield part("members")(shown, hint)
+            yield one.html
 
-    def about(self, number: int, extra: Callable[[int], str]) -> Iterator[str]:
+    def about(self, number: int, extra: Callable[[int], Markup]) -> Iterator[Markup]:
         """What stands between a member's heading and its lines."""
         if hasattr(self.uses.member(number), "proto"):
             yield extra(number)
         used = self.used_by(self.coder.of_member.get(number))
         is_first = self.uses.member(number).name == "<clinit>"
-        yield used or f'<p class="soft">{RUNS_IT if is_first else "Nothing in this file uses it by name."}</p>'
+        yield used or part("soft")(RUNS_IT if is_first else "Nothing in this file uses it by name.")
         calls = self.coder.calls.get(number, {})
         called = (self.member_link(to) + (f" ({times} times)" if times > 1 else "") for to, times in calls.items())
         outside = self.coder.calls_outside.get(number, 0)

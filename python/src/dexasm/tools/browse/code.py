@@ -4,11 +4,13 @@ what these lines use, noted as they are made. The text of the elements is the li
 Names stand in the words of the listing, so all is ASCII: what a browser could obey is an escape there."""
 from __future__ import annotations
 
-import html
+import functools
 from array import array
 from collections.abc import Iterator
 
 from dexasm import names
+from dexasm.tools.pages.markup import as_html
+from dexasm.tools.pages.templates import Markup, joined, part
 from dexasm.tools.uses import CLASS_IN, Uses, fresh
 
 TYPE_CHECKING = False  # (as in typing)
@@ -20,13 +22,18 @@ if TYPE_CHECKING:
     from dexasm.members import Field, Method, Value
 
     Users = dict[Any, array[int]]  # by a number or a name
-    Named = tuple[str, Users, int | str]
+    Named = tuple[Markup, Users, int | str]
 
 STRINGS_A_PAGE = 500
 
 
-def spelled(name: str) -> str:
-    return html.escape(names.spelled(name))
+def spelled(name: str) -> Markup:
+    return as_html(names.spelled(name))
+
+
+@functools.lru_cache(maxsize=4096)
+def literal(said: int | str) -> Markup:
+    return part("literal")(said)
 
 
 class Coder:
@@ -35,7 +42,7 @@ class Coder:
     def __init__(self, uses: Uses) -> None:
         self.uses = uses
         self.names: dict[str, Named] = {}  # each name's HTML, and where its users are noted
-        self.mnemonics: dict[str, tuple[str, str, str, bool]] = {}
+        self.mnemonics: dict[str, tuple[Markup, str, str, bool]] = {}
         self.strings: dict[str, int] = {}  # each string's number, in the order in which they are met
         # The users of each member, class and string, and of each name that the program doesn't define: the number of a
         # method in the upper 32 bits, and that of an instruction.
@@ -51,13 +58,13 @@ class Coder:
 
     # ---- names
 
-    def type_(self, name: str) -> str:
+    def type_(self, name: str) -> Markup:
         row = self.uses.rows.get(name)
-        return spelled(name) if row is None else f'<a href="{row}.html">{spelled(name)}</a>'
+        return spelled(name) if row is None else part("link")(f"{row}.html", spelled(name))
 
-    def types(self, text: str) -> str:
+    def types(self, text: str) -> Markup:
         """A type or a prototype."""
-        return "".join(self.type_(part) if part[:1] == "L" else part for part in CLASS_IN.split(text))
+        return joined("", (self.type_(one) if one[:1] == "L" else one for one in CLASS_IN.split(text)))
 
     def name(self, name: str) -> Named:
         """A type, a field or a method: as HTML, where it is noted, and as what."""
@@ -76,29 +83,29 @@ class Coder:
         owner, _, signature = name.partition("->")
         number = self.uses.resolve(owner, signature)
         cut = signature.find("(") if "(" in signature else signature.find(":")
-        said = spelled(signature[:cut])
+        to = ""
         if number is not None:
             row, at = self.uses.place(number)
-            said = f'<a href="{row}.html#{at}">{said}</a>'
-        said = f"{self.types(owner)}-&gt;{said}{self.types(signature[cut:])}"
+            to = f"{row}.html#{at}"
+        said = part("owner_member")(self.types(owner), to, spelled(signature[:cut]), self.types(signature[cut:]))
         if number is None:
             return said, self.of_other, str(name)
         return said, self.of_member, number
 
-    def text(self, text: str, user: int, place: int) -> str:
+    def text(self, text: str, user: int, place: int) -> Markup:
         """A string, as a link to where it is used."""
         number = self.strings.setdefault(text, len(self.strings))
         note(self.of_string, number, user << 32 | place)
-        said = html.escape(names.quoted(text))
-        return f'<a class="s" href="../strings/{number // STRINGS_A_PAGE}.html#{number}">{said}</a>'
+        to = f"../strings/{number // STRINGS_A_PAGE}.html#{number}"
+        return part("string")(to, as_html(names.quoted(text)))
 
     # ---- lines
 
-    def field(self, number: int, word: str, field: Field) -> str:
-        line = f"<li>{word} {spelled(field.name)} {self.types(field.type)} <i>{field.flags:#x}</i>"
-        return line if field.value is None else f"{line} = {' '.join(self.value(field.value, number))}"
+    def field(self, number: int, word: str, field: Field) -> Markup:
+        line = part("declared")(word, spelled(field.name), self.types(field.type), f"{field.flags:#x}")
+        return line if field.value is None else line + " = " + joined(" ", self.value(field.value, number))
 
-    def value(self, value: Value, user: int) -> Iterator[str]:
+    def value(self, value: Value, user: int) -> Iterator[Markup | str]:
         """The words of an initial value, which is at most 64 deep."""
         if value.kind == "array":
             yield "array {"
@@ -106,85 +113,86 @@ class Coder:
                 yield from self.value(one, user)
             yield "}"
         elif value.kind == "string":
-            yield f"string {self.text(value.value, user, 0)}"
+            yield joined(" ", ("string", self.text(value.value, user, 0)))
         elif value.kind in ("type", "field", "method", "enum"):
             said, where, what = self.name(value.value)
             note(where, what, user << 32)
-            yield f"{value.kind} {said}"
+            yield joined(" ", (value.kind, said))
         else:
-            kind, _, said = str(value).partition(" ")
-            yield f"{kind} <i>{said}</i>" if said else kind
+            kind, _, words = str(value).partition(" ")
+            yield part("value")(kind, words)
 
-    def method(self, number: int, at: int, word: str, method: Method, places: Iterator[tuple[int, int]]) -> str:
+    def method(self, number: int, at: int, word: str, method: Method, places: Iterator[tuple[int, int]]) -> Markup:
         """A method's lines: the elements of its instructions have ids, `3.0` the first of member 3, and say where each
         is in the file and in its code.
         """
-        head = f"<li>{word} {spelled(method.name)} {self.types(method.proto)} <i>{method.flags:#x}</i>"
+        head = part("declared")(word, spelled(method.name), self.types(method.proto), f"{method.flags:#x}")
         if method.code is None:
             return head
         code = fresh(method.code)
-        lines = [head, f"<li>code <i>{code.registers} {code.ins} {code.outs}</i>"]
+        lines = [head, part("sizes")(code.registers, code.ins, code.outs)]
+        rows: list[tuple[int, str, Markup | str]] = []  # each instruction's number, where it is, and its words
         insns = code.insns
         numbers = {id(insn): place for place, insn in enumerate(insns)}
         numbers[id(None)] = len(insns)  # (a label's instruction, where it is the end)
         marks = {numbers[id(label.insn)] for label in code.labels()}
 
-        def lead(label: Label) -> str:
-            return f'<a href="#{at}.{numbers[id(label.insn)]}">:L{numbers[id(label.insn)]}</a>'
+        @functools.cache
+        def link_to(place: int) -> Markup:
+            return part("link")(f"#{at}.{place}", f":L{place}")
+
+        def lead(label: Label) -> Markup:
+            return link_to(numbers[id(label.insn)])
 
         for place, (insn, (offset, address)) in enumerate(zip(insns, places)):
             if place in marks:
-                lines.append(f'<li class="l">:L{place}')
-            where = f'id="{at}.{place}" data-at="{offset:06x} {address:04x}"'
-            lines.append(f"<li {where}>{self.insn(insn, lead, number, place)}")
+                rows.append((place, "", ""))
+            rows.append((place, f"{offset:06x} {address:04x}", self.insn(insn, lead, number, place)))
+        lines.append(part("insns")(at, rows))
         if len(insns) in marks:
-            lines.append(f'<li class="l" id="{at}.{len(insns)}">:L{len(insns)}')
+            lines.append(part("mark")(len(insns), f"{at}.{len(insns)}"))
         lines += self.tries(code.tries, lead, number, numbers)
         self.insns[number] = len(insns)
-        lines.append("<li>end code")
-        return "\n".join(lines)
+        lines.append(part("line")(("end code",)))
+        return joined("\n", lines)
 
     def tries(
-        self, tries: list[Try], lead: Callable[[Label], str], number: int, numbers: dict[int, int]
-    ) -> Iterator[str]:
+        self, tries: list[Try], lead: Callable[[Label], Markup], number: int, numbers: dict[int, int]
+    ) -> Iterator[Markup]:
         for one in tries:
-            yield f"<li>try {lead(one.start)} {lead(one.end)}"
+            yield part("line")(("try", lead(one.start), lead(one.end)))
             for catch in one.catches:
                 said, where, what = self.name(catch.type)
                 note(where, what, number << 32 | numbers[id(catch.target.insn)])
-                yield f"<li>catch {said} {lead(catch.target)}"
+                yield part("line")(("catch", said, lead(catch.target)))
             if one.catch_all is not None:
-                yield f"<li>catchall {lead(one.catch_all)}"
+                yield part("line")(("catchall", lead(one.catch_all)))
 
-    def insn(self, insn: Insn, lead: Callable[[Label], str], user: int, place: int) -> str:
+    def insn(self, insn: Insn, lead: Callable[[Label], Markup], user: int, place: int) -> Markup:
         """The words of an instruction, in the order of the listing."""
         mnemonic = insn.mnemonic
         if mnemonic[-8:] == "-payload":
-            return " ".join(payload(insn, lead))
+            return joined(" ", payload(insn, lead))
         shape = self.mnemonics.get(mnemonic)
         if shape is None:
             shape = self.mnemonics[mnemonic] = shape_of(mnemonic)
-        line = shape[0]
-        registers = insn.registers
-        if registers:
-            line += f"{shape[1]} v{' v'.join(map(str, registers))}{shape[2]}"
-        else:
-            line += shape[1] + shape[2]
+        registers = f" v{' v'.join(map(str, insn.registers))}" if insn.registers else ""
+        words: list[Markup | str] = [shape[0] + f"{shape[1]}{registers}{shape[2]}"]
         if insn.literal is not None:
-            line += f" <i>{insn.literal}</i>"
+            words.append(literal(insn.literal))
         if insn.count is not None:
-            line += f" <i>{insn.count}</i>"
+            words.append(literal(insn.count))
         if insn.target is not None:
-            line += f" {lead(insn.target)}"
+            words.append(lead(insn.target))
         if insn.name is not None:
             said, where, what = self.names.get(insn.name) or self.name(insn.name)
             note(where, what, user << 32 | place)
             if shape[3]:
                 self.call(user, what)
-            line += f" {said}"
+            words.append(said)
         if insn.text is not None:
-            line += f" {self.text(insn.text, user, place)}"
-        return line
+            words.append(self.text(insn.text, user, place))
+        return joined(" ", words)
 
     def call(self, user: int, to: int | str) -> None:
         if isinstance(to, str):
@@ -201,24 +209,24 @@ def note(where: Users, what: int | str, use: int) -> None:
     uses.append(use)
 
 
-def shape_of(mnemonic: str) -> tuple[str, str, str, bool]:
+def shape_of(mnemonic: str) -> tuple[Markup, str, str, bool]:
     """A mnemonic as HTML, what stands before and after its registers, and whether it calls."""
     has_braces = mnemonic.startswith(("invoke-", "filled-new-array")) and not mnemonic.endswith("/range")
     return (
-        f"<b>{html.escape(mnemonic)}</b>",
+        part("mnemonic")(mnemonic),
         *((" {", " }") if has_braces else ("", "")),
         mnemonic.startswith("invoke-"),
     )
 
 
-def payload(insn: Any, lead: Callable[[Label], str]) -> Iterator[str]:
+def payload(insn: Any, lead: Callable[[Label], Markup]) -> Iterator[Markup]:
     """The words of what stands among instructions and is none."""
-    yield f"<b>{insn.word}</b>"
+    yield part("mnemonic")(insn.word)
     if insn.word == "packed-switch-payload":
-        yield f"<i>{insn.first}</i>"
+        yield literal(insn.first)
         yield from map(lead, insn.targets)
     elif insn.word == "sparse-switch-payload":
         for key, target in zip(insn.keys, insn.targets):
-            yield f"<i>{key}</i> {lead(target)}"
+            yield joined(" ", (literal(key), lead(target)))
     else:
-        yield f"<i>{insn.width}{' ' if insn.data else ''}{insn.data.hex()}</i>"
+        yield literal(f"{insn.width}{' ' if insn.data else ''}{insn.data.hex()}")

@@ -8,6 +8,8 @@ from bisect import bisect_right
 from collections.abc import Iterable, Iterator
 from typing import NamedTuple
 
+from dexasm.tools.pages.templates import Markup, part
+
 MOST = 1_000_000  # bytes of what a page lists; with what stands around it a page has less than 2 MB
 NEAR = 20  # pages before and behind one to which it has links
 LINK = re.compile(r'href="(?:([./a-z]*?)(\d+)\.html)?#(\d+)(?:\.(\d+))?"')
@@ -21,14 +23,14 @@ class Part(NamedTuple):
 
     at: int
     place: int
-    html: str
-    listed: str = ""
+    html: Markup
+    listed: Markup = Markup()
 
     def bytes(self) -> int:
         return len(self.html.encode("utf8")) + len(self.listed.encode("utf8"))
 
 
-def member(at: int, listed: str, heading: str, lead: str, lines: str) -> Iterator[Part]:
+def member(at: int, listed: Markup, heading: Markup, lead: Markup, lines: str) -> Iterator[Part]:
     """A member: its heading, what stands before its lines, and its lines; these in several parts where they are long.
     (What a single line has stays together.)
     """
@@ -37,20 +39,20 @@ def member(at: int, listed: str, heading: str, lead: str, lines: str) -> Iterato
     size = len(lead.encode("utf8"))
     for line in lines.split("\n"):
         if kept and size + len(line) > MOST:
-            yield part(at, start, listed, heading, lead, kept)
+            yield part_of(at, start, listed, heading, lead, kept)
             start, kept, size = place, [], 0
         kept.append(line)
         size += len(line)
         found = PLACE.match(line)
         place = int(found[1]) + 1 if found else place
-    yield part(at, start, listed, heading, lead, kept)
+    yield part_of(at, start, listed, heading, lead, kept)
 
 
-def part(at: int, start: int, listed: str, heading: str, lead: str, lines: list[str]) -> Part:
-    body = "\n".join(lines)
+def part_of(at: int, start: int, listed: Markup, heading: Markup, lead: Markup, lines: list[str]) -> Part:
+    body = Markup("\n".join(lines))
     if start < 0:
-        return Part(at, -1, f'<h3 id="{at}">{heading}</h3>{lead}<ol class="code">{body}</ol>', listed)
-    return Part(at, start, f'<h3>{heading}, from line {start} on</h3><ol class="code" start="{start}">{body}</ol>')
+        return Part(at, -1, part("member")(at, heading, lead, body), listed)
+    return Part(at, start, part("rest")(start, heading, body))
 
 
 def paged(parts: Iterable[Part]) -> list[list[Part]]:
@@ -72,18 +74,19 @@ def file_of(number: int, at: int) -> str:
     return f"{number}-{at}.html" if at else f"{number}.html"
 
 
-def others(label: str, names: list[str], here: int) -> str:
+def others(label: str, names: list[str], here: int) -> Markup:
     """Links to the pages of something that has several: to those around the one that is so far, the first and the last.
     """
     if len(names) < 2:
-        return ""
+        return Markup()
     near = range(max(here - NEAR, 0), min(here + NEAR + 1, len(names)))
-    links, last = [], -1
+    links: list[tuple[int | str, str | None]] = []  # what each says, and where it leads: not at all, or not from here
+    last = -1
     for at in sorted({0, *near, len(names) - 1}):
-        links += [".."] * (at > last + 1)
-        links.append(f"<strong>{at + 1}</strong>" if at == here else f'<a href="{names[at]}">{at + 1}</a>')
+        links += [("..", None)] * (at > last + 1)
+        links.append((at + 1, "" if at == here else names[at]))
         last = at
-    return f'<nav aria-label="{label}"><p>Pages: {" ".join(links)}</p></nav>'
+    return part("others")(label, links)
 
 
 class Cuts:
@@ -100,7 +103,7 @@ class Cuts:
         starts = self.starts.get((folder, number), ())
         return file_of(number, max(bisect_right(starts, (at, place)) - 1, 0))
 
-    def turned(self, html: str, folder: str, number: int | None = None, own: str = "") -> str:
+    def turned(self, html: Markup, folder: str, number: int | None = None, own: str = "") -> Markup:
         """A page's HTML with its links as the cuts have them; `own` is its name, and `number` whose page it is."""
         if not self.starts:
             return html
@@ -116,4 +119,4 @@ class Cuts:
             anchor = f"{at}.{place}" if place else at
             return f'href="#{anchor}"' if not way and file == own else f'href="{way or ""}{file}#{anchor}"'
 
-        return LINK.sub(lead, html)
+        return Markup(LINK.sub(lead, str(html)))

@@ -17,7 +17,7 @@ from dexasm.tools.flow import MOST_DRAWN, as_dot, drawn, flow, for_page, graphvi
 from dexasm.tools.helper import say
 from dexasm.tools.layout import KINDS, Dex, Tables, addresses, code_sizes
 from dexasm.tools.pages.markup import plain, text
-from dexasm.tools.pages.page import SCRIPT, read
+from dexasm.tools.pages.templates import Markup, part, read
 from dexasm.tools.sizes import rows_of
 from dexasm.tools.uses import Uses, method_of
 
@@ -25,11 +25,7 @@ TYPE_CHECKING = False  # (as in typing)
 if TYPE_CHECKING:
     from typing import Any
 
-ICON = (
-    '<svg xmlns="http://www.w3.org/2000/svg" viewBox="0 0 8 8"><path fill="#8ab6e0" d="M0 0h5v8H0z"/>'
-    '<path fill="#f6b26b" d="M5 0h3v5H5z"/><path fill="#a8dba0" d="M5 5h3v3H5z"/></svg>\n'
-)
-TOO_LARGE = '<p class="soft">No picture of its flow: it is too large.</p>'
+TOO_LARGE = "it is too large"
 MOST_OF_PICTURE = 500_000  # bytes of a picture on a page
 
 
@@ -49,7 +45,7 @@ class Sizes:
         return f"{total:,} ({said})" + (f"; strip takes away {strip:,}" if strip else "")
 
 
-def lines_of(uses: Uses, coder: Coder, row: int, places: Iterator[Iterator[tuple[int, int]]]) -> Iterator[str]:
+def lines_of(uses: Uses, coder: Coder, row: int, places: Iterator[Iterator[tuple[int, int]]]) -> Iterator[Markup]:
     """The HTML of each member's lines; of each code that the class has there are the places of its instructions."""
     one, first = uses.classes[row], uses.first[row]
     words = ["static"] * len(one.statics) + ["instance"] * len(one.instances)
@@ -138,7 +134,7 @@ class Browse:
         """What the pages of a class have. Where it is cut is noted, and with which member each page begins."""
         name = self.uses.classes[row].name
         at = self.packages.of_class.get(name)
-        package = self.packages.link(at) if at is not None else ""
+        package = self.packages.link(at) if at is not None else Markup()
         methods = range(self.uses.first[row], self.uses.first[row] + len(self.uses.members[row]))
         hint = self.pictured.isdisjoint(methods) and not self.coder.insns.keys().isdisjoint(methods)
         pages = [*self.classes.pages(row, lines, package, self.sizes.of_class(name), self.extra, hint)]
@@ -151,36 +147,30 @@ class Browse:
         title = plain(self.uses.classes[row].name.pretty, 80)
         for at, body in enumerate(bodies):
             name = file_of(row, at)
-            folder.put(f"class/{name}", frame.page(title, [cuts.turned(body, "class", row, name)]))
+            folder.put(f"class/{name}", frame.page(title, cuts.turned(Markup(body), "class", row, name)))
 
-    def extra(self, number: int) -> str:
+    def extra(self, number: int) -> Markup:
         """What is said of a method, besides who uses it."""
         if number not in self.coder.insns:
-            return '<p class="soft">No code in this file.</p>'
+            return part("soft")("No code in this file.")
         said = f"{counted(self.sizes.code[number], 'byte')}, {counted(self.coder.insns[number], 'instruction')}."
-        return f"<p>{said}</p>" + (self.flow_of(number) if number in self.pictured else "")
+        return part("paragraph")(said, self.flow_of(number) if number in self.pictured else "")
 
-    def flow_of(self, number: int) -> str:
+    def flow_of(self, number: int) -> Markup:
         """The picture of a method's flow, unless it is a single block."""
         graph = flow(self.uses, number)
         if len(graph.nodes) < 2:
-            return '<p class="soft">Its flow is a single block.</p>'
+            return part("soft")("Its flow is a single block.")
         if len(graph.edges) > MOST_DRAWN:
-            return TOO_LARGE
+            return part("no_picture")(TOO_LARGE)
         try:
             picture = for_page(drawn("\n".join(as_dot(graph, f"#{self.uses.place(number)[1]}."))))
         except Failed as failed:
-            return f'<p class="soft">No picture of its flow: {text(failed.line)}.</p>'
+            return part("no_picture")(text(failed.line))
         if len(picture) > MOST_OF_PICTURE:
-            return TOO_LARGE
+            return part("no_picture")(TOO_LARGE)
         count = counted(len(graph.nodes), "block")
-        said = f"The flow of {self.classes.titled(number, plain)}: {count}"
-        return (
-            f"<details open><summary>Its flow, {count}: a thin line leads to the next block, a thick one where a branch"
-            " goes, one with numbers where a switch does, a dashed one to a handler</summary>"
-            f'<div class="flow" tabindex="0" role="region" aria-label="{said}">'
-            f"{picture}</div></details>"
-        )
+        return part("flow")(count, self.classes.titled(number, plain), Markup(picture))  # (for_page made it of numbers)
 
     def put_strings(
         self, folder: Folder, frame: Frame, cuts: Cuts, pages: list[tuple[str, list[Part]]], count: int
@@ -188,19 +178,19 @@ class Browse:
         names = [name for name, _ in pages]
         for at, (name, parts) in enumerate(pages):
             body = strings(parts, count, others("Pages of strings", names, at))
-            folder.put(f"strings/{name}", frame.page("Strings", (cuts.turned(one, "strings") for one in body)))
+            folder.put(f"strings/{name}", frame.page(Markup("Strings"), cuts.turned(body, "strings")))
 
     def put_others(self, folder: Folder, frame: Frame, cuts: Cuts) -> None:
         for at in range(len(self.packages.nodes)):
             title = plain(self.packages.path(at), 80)
             for page, body in enumerate(self.packages.pages(at)):
-                folder.put(f"package/{file_of(at, page)}", frame.page(title, [body]))
+                folder.put(f"package/{file_of(at, page)}", frame.page(title, body))
         first = overview(self.shown, self.numbers(), self.packages, self.classes, self.sizes.code)
-        folder.put("index.html", frame.page("Overview", (cuts.turned(one, "") for one in first), ""))
-        folder.put("help.html", frame.page("How to read it", reading(), ""))
+        folder.put("index.html", frame.page(Markup("Overview"), cuts.turned(first, ""), ""))
+        folder.put("help.html", frame.page(Markup("How to read it"), reading(), ""))
         folder.put("style.css", read("pages.css") + read("browse.css"))
-        folder.put("script.js", SCRIPT.lstrip() + read("browse.js"))
-        folder.put("icon.svg", ICON)
+        folder.put("script.js", read("pages.js") + read("browse.js"))
+        folder.put("icon.svg", read("icon.svg"))
 
     def numbers(self) -> Iterator[tuple[str, int]]:
         uses, coder = self.uses, self.coder

@@ -8,8 +8,9 @@ from dexasm.tools.browse.classes import Classes
 from dexasm.tools.browse.code import STRINGS_A_PAGE
 from dexasm.tools.browse.cuts import Cuts, Part, file_of, others, paged
 from dexasm.tools.browse.texts import counted, facts, folded, in_quotes, link, quoted
-from dexasm.tools.pages.markup import LONGEST, number, row, seen, table, text
+from dexasm.tools.pages.markup import LONGEST, number, seen, table, text
 from dexasm.tools.pages.page import Node, picture, tree_of
+from dexasm.tools.pages.templates import Markup, joined, page, part
 from dexasm.tools.sizes import COLUMNS
 from dexasm.tools.uses import title
 
@@ -53,8 +54,8 @@ TYPES = (
     ("V Z B S C I J F D", "void, boolean, byte, short, char, int, long, float, double"),
     ("Ljava/lang/String;", "the class java.lang.String"),
     ("[I", "an array of int"),
-    ("LHello;-&gt;get(Z)I", "the method get of the class Hello: takes a boolean, answers an int"),
-    ("LHello;-&gt;name:I", "the field name of the class Hello, an int"),
+    ("LHello;->get(Z)I", "the method get of the class Hello: takes a boolean, answers an int"),
+    ("LHello;->name:I", "the field name of the class Hello, an int"),
 )
 
 
@@ -88,81 +89,79 @@ class Packages:
 
         return to
 
-    def name(self, node: Node, root: str) -> str:
+    def name(self, node: Node, root: str) -> Markup:
         to = self.lead(root)(node)
         said = text(node.name.replace("/", ".") + (".*" if node.kinds is None else ""))
         return link(to, said) if to else said
 
-    def lines(self, node: Node, root: str) -> Iterator[str]:
+    def lines(self, node: Node, root: str) -> Iterator[Markup]:
         for inner in node.rows():
-            yield row((inner.total,), self.name(inner, root))
+            yield part("row")((inner.total,), self.name(inner, root))
 
-    def largest(self) -> str:
+    def largest(self) -> Markup:
         """The largest rows of the overview, which leads to the others."""
         rows = [*self.lines(self.tree, "")]
         if len(rows) <= LARGEST:
             return holds(rows)
-        return f'{holds(rows[:LARGEST])}<p>{link("package/0.html", f"All {len(rows):,} rows")}</p>'
+        return holds(rows[:LARGEST]) + part("paragraph")(link("package/0.html", f"All {len(rows):,} rows"))
 
     def path(self, at: int) -> str:
         return self.nodes[at][1].replace("/", ".") or "(all packages)"
 
-    def link(self, at: int, root: str = "../") -> str:
+    def link(self, at: int, root: str = "../") -> Markup:
         return link(f"{root}package/{at}.html", text(self.path(at)))
 
-    def pages(self, at: int) -> Iterator[str]:
+    def pages(self, at: int) -> Iterator[Markup]:
         """What each page of a package has."""
         node, _, outer = self.nodes[at]
-        said = f"<p>{counted(node.total, 'byte')}{f', in {self.link(outer)}' if at else ''}.</p>"
-        shown = Part(0, -1, "\n".join([said, *picture(node, self.lead("../"))]))
+        said = part("bytes_in")(counted(node.total, "byte"), self.link(outer) if at else "")
+        shown = Part(0, -1, joined("\n", [said, picture(node, self.lead("../"))]))
         cut = paged([shown, *(Part(place, -1, one) for place, one in enumerate(self.lines(node, "../"), 1))])
-        names = [file_of(at, page) for page in range(len(cut))]
-        for page, parts in enumerate(cut):
-            lead = others("Pages of this package", names, page)
-            head = f"<h1>{f'Package {text(self.path(at))}' if at else 'All packages'}</h1>{lead}"
-            html = [part.html for part in parts]
-            top = html.pop(0) if page == 0 else ""
-            yield f"{head}{top}{holds(html)}{lead}"
+        names = [file_of(at, here) for here in range(len(cut))]
+        for here, parts in enumerate(cut):
+            lead = others("Pages of this package", names, here)
+            html = [one.html for one in parts]
+            top = html.pop(0) if here == 0 else ""
+            yield part("package")(self.path(at) if at else "", lead, top, holds(html))
 
 
-def holds(rows: list[str]) -> str:
+def holds(rows: list[Markup]) -> Markup:
     return table("What it holds, by bytes", ("bytes", "package or class"), rows)
 
 
 def overview(
     name: str, numbers: Iterable[tuple[str, int]], packages: Packages, classes: Classes, code_sizes: dict[int, int]
-) -> Iterator[str]:
-    yield f"<h1>{text(name)}</h1>"
-    yield facts((said, number(count)) for said, count in numbers)
-    yield "<h2>What takes the space</h2><p>Click a package or a class; the tables below lead there too.</p>"
-    yield from picture(packages.tree, packages.lead(""))
-    yield "<h2>The largest methods</h2>"
-    yield largest_methods(classes, code_sizes)
-    yield "<h2>The largest classes</h2>"
-    yield largest_classes(packages, classes)
-    yield "<h2>Packages</h2>"
-    yield packages.largest()
+) -> Markup:
+    return page(
+        "overview",
+        file=name,
+        facts=facts((said, number(count)) for said, count in numbers),
+        picture=picture(packages.tree, packages.lead("")),
+        methods=largest_methods(classes, code_sizes),
+        classes=largest_classes(packages, classes),
+        packages=packages.largest(),
+    )
 
 
-def largest_methods(classes: Classes, code_sizes: dict[int, int]) -> str:
+def largest_methods(classes: Classes, code_sizes: dict[int, int]) -> Markup:
     insns, uses = classes.coder.insns, classes.coder.of_member
 
-    def rows() -> Iterator[str]:
+    def rows() -> Iterator[Markup]:
         order = sorted(code_sizes, key=lambda method: (-code_sizes[method], method))
         for method in order[:LARGEST]:
             users = len({use >> 32 for use in uses.get(method, ())})
-            yield row((code_sizes[method], insns[method], users), classes.member_link(method, root="class/"))
+            yield part("row")((code_sizes[method], insns[method], users), classes.member_link(method, root="class/"))
 
     return table("By the bytes of their code", ("bytes", "instructions", "used by", "method"), rows())
 
 
-def largest_classes(packages: Packages, classes: Classes) -> str:
+def largest_classes(packages: Packages, classes: Classes) -> Markup:
     known = [(name, taken) for name, taken in packages.rows.items() if name in packages.class_rows]
     known.sort(key=lambda row: (-row[1][0], row[0]))
 
-    def rows() -> Iterator[str]:
+    def rows() -> Iterator[Markup]:
         for name, taken in known[:LARGEST]:
-            yield row(taken, classes.class_link(packages.class_rows[name], "class/"))
+            yield part("row")(taken, classes.class_link(packages.class_rows[name], "class/"))
 
     return table("By their bytes; strip is what dexasm strip takes away", (*COLUMNS, "class"), rows())
 
@@ -171,51 +170,29 @@ def strings_cut(classes: Classes, found: list[str], cuts: Cuts) -> list[tuple[st
     """The pages of strings: each string with where it is used."""
     pages = []
     for first in range(0, max(1, len(found)), STRINGS_A_PAGE):
-        part = enumerate(found[first : first + STRINGS_A_PAGE], first)
-        cut = paged(Part(at, -1, string_row(classes, at, string)) for at, string in part)
+        some = enumerate(found[first : first + STRINGS_A_PAGE], first)
+        cut = paged(Part(at, -1, string_row(classes, at, string)) for at, string in some)
         cuts.add("strings", first // STRINGS_A_PAGE, cut)
         pages += [(file_of(first // STRINGS_A_PAGE, at), parts) for at, parts in enumerate(cut)]
     return pages
 
 
-def string_row(classes: Classes, at: int, string: str) -> str:
+def string_row(classes: Classes, at: int, string: str) -> Markup:
     users = classes.users(classes.coder.of_string[at], "../class/")
-    said = ", ".join(users) if len(users) < 5 else folded(counted(len(users), "member"), users, 0)
-    return f'<tr id="{at}"><td><code>{quoted(string, 1000)}</code></td><td>{said}</td></tr>'
+    said = joined(", ", users) if len(users) < 5 else folded(counted(len(users), "member"), users, 0)
+    return part("string_row")(at, quoted(string, 1000), said)
 
 
-def strings(parts: list[Part], count: int, lead: str) -> Iterator[str]:
+def strings(parts: list[Part], count: int, lead: Markup) -> Markup:
     """A page of strings."""
-    yield f"<h1>Strings {parts[0].at:,} to {parts[-1].at:,} of {count:,}</h1>" if parts else "<h1>No strings</h1>"
-    yield '<p class="soft">Those of code and of initial values, in the order in which the file uses them.</p>'
-    yield f'{lead}<div class="wide"><table class="strings"><thead><tr><th scope="col">string</th>'
-    yield '<th scope="col">used by</th></tr></thead><tbody>'
-    yield from (part.html for part in parts)
-    yield f"</tbody></table></div>{lead}"
+    rows = joined("\n", (one.html for one in parts))
+    ends = {"first": parts[0].at, "last": parts[-1].at} if parts else {}
+    return page("strings", count_here=len(parts), count=count, lead=lead, rows=rows, **ends)
 
 
-def reading() -> Iterator[str]:
-    yield "<h1>How to read it</h1>"
-    yield "<p>The code of a method is a list of instructions, one a line: a word that says what is done, the registers"
-    yield "(v0, v1 ..) that it is done with, and a number, a line or a name. The first register is mostly the one that"
-    yield "gets the result. Lines that begin with a colon are labels: <code>:L8</code> stands before line 8, and each"
-    yield "label in an instruction is a link to its line. Each name is a link to where it is defined, where this file"
-    yield "defines it; <q>used by</q> leads back. A call leads to the method that the named class has or inherits in"
-    yield "this file; a class below it may have another one of that name. Before each line stands its number, and where"
-    yield "there is room its offset in the file and its address in units of 16 bits, in hexadecimal, as dexdump has"
-    yield "them.</p>"
-    yield f"<h2>Instructions</h2>{facts((f'<code>{word}</code>', said) for word, said in READING)}"
-    yield f"<h2>Types and names</h2>{facts((f'<code>{word}</code>', said) for word, said in TYPES)}"
-    yield "<h2>The search</h2><p>/ goes to it, Escape leaves it, Tab goes from link to link. It finds classes, members"
-    yield f"and strings, of these the first {LONGEST} characters; several words must all be there.</p>"
-    yield "<h2>Names</h2><p>What nobody sees in a name stands as an escape, as <code>\\u3164</code>, and so does all"
-    yield "but ASCII of a name that has another form in the Unicode standard (NFC). The parts of a name stand from left"
-    yield "to right, as in the file, also where the letters of a part run from right to left. The code has names as a"
-    yield "listing has them, all in ASCII.</p>"
-    yield '<h2 id="graphs">Pictures of the flow</h2><p><code>dexasm-browse --graphs METHOD</code> puts a picture of a'
-    yield "method's flow on the page of its class; <code>dexasm-graph FILE METHOD</code> draws it by itself. Both need"
-    yield "graphviz. On a page it opens whole, or where that would be too small at its first block. Buttons make it"
-    yield "larger and smaller, or the wheel with Ctrl held, or keys: +, -, 0 (all of it) and 1 (its first block).</p>"
+def reading() -> Markup:
+    instructions, types = ([(part("code")(word), Markup(said)) for word, said in rows] for rows in (READING, TYPES))
+    return page("help", instructions=facts(instructions), types=facts(types), longest=LONGEST)
 
 
 def shards(classes: Classes, pages: list[list[int]], found: list[str], cuts: Cuts) -> Iterator[str]:
@@ -226,17 +203,17 @@ def shards(classes: Classes, pages: list[list[int]], found: list[str], cuts: Cut
     rows, count = [], 0
     for at, one in enumerate(uses.classes):
         ends = [*pages[at][1:], len(uses.members[at])]
-        for page, (first, end) in enumerate(zip(pages[at], ends)):
+        for cut, (first, end) in enumerate(zip(pages[at], ends)):
             names = [seen(title(member)) for member in uses.members[at][first:end]]
-            rows.append([seen(one.name.pretty), file_of(at, page), first, names])
+            rows.append([seen(one.name.pretty), file_of(at, cut), first, names])
             count += 1 + len(names)
             if count >= SHARD:
                 yield script(rows, [])
                 rows, count = [], 0
     yield script(rows, [])
     for first in range(0, len(found), SHARD):
-        part = enumerate(found[first : first + SHARD], first)
-        places = ((one, f"{cuts.file('strings', at // STRINGS_A_PAGE, at)}#{at}") for at, one in part)
+        some = enumerate(found[first : first + SHARD], first)
+        places = ((one, f"{cuts.file('strings', at // STRINGS_A_PAGE, at)}#{at}") for at, one in some)
         yield script([], [[in_quotes(one), place] for one, place in places])
 
 

@@ -1,5 +1,5 @@
-"""What the pages of dexasm-size and of dexasm-browse have in common: names of somebody else's making as HTML, and
-tables.
+"""Names of somebody else's making on pages: what can't be seen, what looks as another name, and what runs from right to
+left. `text`, `plain` and `drawn_text` are filters of the templates.
 """
 from __future__ import annotations
 
@@ -9,6 +9,7 @@ import unicodedata
 from collections.abc import Iterable
 
 from dexasm.tools.escapes import escaped, shown
+from dexasm.tools.pages.templates import Markup, part
 
 LONGEST = 120  # characters of a name where it isn't the listing's own line
 MARKS = 4  # that may stand on one character ("Unicode Security Mechanisms", UTS 39, 5.4: no more nonspacing marks)
@@ -48,34 +49,41 @@ def seen(name: str, most: int = LONGEST) -> str:
     return unpiled(escaped(name))
 
 
-def plain(name: str, most: int = LONGEST) -> str:
+def as_html(text: str) -> Markup:
+    """A text of which nothing is obeyed."""
+    return Markup(html.escape(text))
+
+
+def turned(name: str, most: int, apart: str) -> Markup:
+    """A name as HTML, in which letters that run from right to left stand apart, in the form of `apart`. (Of a Markup
+    re.sub would escape what it puts in.)
+    """
+    return Markup(RIGHT_TO_LEFT.sub(apart, html.escape(seen(name, most))))
+
+
+def plain(name: str, most: int = LONGEST) -> Markup:
     """A name where no element may stand: a title, an attribute."""
-    return html.escape(seen(name, most))
+    return as_html(seen(name, most))
 
 
-def text(name: str, most: int = LONGEST) -> str:
-    """A name as HTML: nothing in it is obeyed, what is long is cut, and its parts stand in the order of the file."""
-    return RIGHT_TO_LEFT.sub(r'<bdi dir="ltr">\g<0></bdi>', plain(name, most))
+def text(name: str, most: int = LONGEST) -> Markup:
+    """A name as HTML: what is long is cut, and its parts stand in the order of the file."""
+    return turned(name, most, r'<bdi dir="ltr">\g<0></bdi>')
 
 
-def drawn_text(name: str) -> str:
+def drawn_text(name: str) -> Markup:
     """The same in a picture."""
-    return RIGHT_TO_LEFT.sub(r"<tspan>\g<0></tspan>", plain(name))
+    return turned(name, LONGEST, r"<tspan>\g<0></tspan>")
 
 
 def number(count: int | None) -> str:
     return "-" if count is None else f"{count:,}"
 
 
-def row(cells: Iterable[int | None], name: str) -> str:
-    return f"<tr>{''.join(f'<td>{number(one)}</td>' for one in cells)}<td>{name}</td></tr>"
+def signed(count: int) -> str:
+    return f"{count:+,}" if count else "0"
 
 
-def table(caption: str, heads: Iterable[str], rows: Iterable[str], total: str = "") -> str:
+def table(caption: str, heads: Iterable[str], rows: Iterable[Markup], total: Markup | str = "") -> Markup:
     """Rows of numbers with a name at the end; `total` is the row below them."""
-    head = "".join(f'<th scope="col" tabindex="0">{one}</th>' for one in heads)
-    foot = f"<tfoot>{total}</tfoot>" if total else ""
-    return (
-        f'<div class="wide"><table class="sums"><caption class="soft">{caption}</caption><thead><tr>{head}</tr></thead>'
-        "<tbody>" + "\n".join(rows) + f"</tbody>{foot}</table></div>"
-    )
+    return part("table")(caption, heads, Markup("\n").join(rows), total)

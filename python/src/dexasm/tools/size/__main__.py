@@ -50,9 +50,7 @@ from dexasm.tools.escapes import escaped, shortened
 from dexasm.tools.files import deliver, get, name_of
 from dexasm.tools.helper import helper, say
 from dexasm.tools.layout import Dex
-from dexasm.tools.pages.page import html_page
 from dexasm.tools.rows import add_forms, write_csv
-from dexasm.tools.size.change_page import changes_page
 from dexasm.tools.size.changes import HEADS, Changes
 from dexasm.tools.sizes import BY, COLUMNS, by_package, bytes_of, rows_of
 
@@ -120,6 +118,8 @@ def one_file(path: str, asked: Namespace, prog: str) -> None:
     # (first the page, which nobody has to read what is printed for)
     if asked.html is not None:
         rows = rows_of(*dexes)
+        from dexasm.tools.pages.page import html_page
+
         deliver(asked.html, html_page(os.path.basename(path), COLUMNS, rows, by_package(rows)).encode("utf8"))
     rows, heads = sorted_by(asked.sort, rows_of(*dexes, asked.by)), (*COLUMNS, "name")
     cells = [[*numbers, name] for name, numbers in rows]
@@ -139,6 +139,8 @@ def two_files(old: str, new: str, asked: Namespace) -> None:
 
     if asked.html is not None:
         names = os.path.basename(old), os.path.basename(new)
+        from dexasm.tools.size.change_page import changes_page
+
         deliver(asked.html, changes_page(names, {title: of(by) for title, by in TABLES.items()}).encode("utf8"))
     found = of(asked.by, HEADS[0] if asked.sort == COLUMNS[0] else asked.sort)
     cells, total = [row.cells() for row in found.rows], found.total
