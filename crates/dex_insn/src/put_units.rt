@@ -121,5 +121,7 @@ pub(crate) fn put_five(
     let u2 = u2.to_le_bytes();
     let u3 = u3.to_le_bytes();
     let u4 = u4.to_le_bytes();
-    out.extend_from_slice(&[u0[0], u0[1], u1[0], u1[1], u2[0], u2[1], u3[0], u3[1], u4[0], u4[1]])
+    out.extend_from_slice(&[
+        u0[0], u0[1], u1[0], u1[1], u2[0], u2[1], u3[0], u3[1], u4[0], u4[1],
+    ])
 }

@@ -190,11 +190,7 @@ fn put_values(out: &mut Vec<u8>, ranks: &Ranks<'_>, all: &[Value<'_>]) -> Result
 }
 
 /// The bytes of the encoded_array of these values, as [`put_array`] appends them. It fails only when out of memory.
-pub fn make_array(
-    alloc: Global,
-    ranks: &Ranks<'_>,
-    values: &[Value<'_>],
-) -> Result<Vec<u8>, Fault>
+pub fn make_array(alloc: Global, ranks: &Ranks<'_>, values: &[Value<'_>]) -> Result<Vec<u8>, Fault>
     requires named { AllNamesHold (IsRanked ranks.now) (content.values (map value values.now)) }
     requires counts { ArrayFits (map value values.now) }
     ensures ok { IfOk result (λ array. Shortest (SpellsArray (NameRanks ranks.now)) array.items (map value values.now)) }
