@@ -82,8 +82,8 @@ put_over_two zero (a ∷ b ∷ rest) n l few = let high : n / 256 % 256 ≡ n / 
 put_over_two (suc p) (a ∷ rest) n l few = ap (λ (z : List ℕ). a ∷ z) (put_over_two p rest n (omega (arith, l)) few)
 put_over_two _ _ n l few = absurd (omega (arith, l))
 
-pub short_put : (us new : List ℕ) (n m : ℕ) → 4 ≤ length us → n < 65536 → n ≡ m → new ≡ take 2 us ++ (u16_bytes n ++ drop (2 + 2) us) → new ≡ with_short us m
-short_put us new n m four few e put = put ∙ put_over_two 2 us n four few ∙ ap (with_short us) e
+pub short_put : (us new : List ℕ) (n m : ℕ) → 4 ≤ length us → m < 65536 → n ≡ m → new ≡ take 2 us ++ (u16_bytes n ++ drop (2 + 2) us) → new ≡ with_short us m
+short_put us new n m four few e put = put ∙ put_over_two 2 us n four (omega (arith, few, e)) ∙ ap (with_short us) e
 
 pub size_is : (numbers : Columns) (old new : List ℕ) (n m : ℕ) (r : Raw) → n ≡ m → IsRenumbered numbers old new m r → IsRenumbered numbers old new n r
 size_is numbers old new n m r e x = record { size = e ∙ x.size; is_new = x.is_new; fits = x.fits }
