@@ -1,5 +1,5 @@
 -- The front of an instruction's units, as code reads it.
-use Rattle.std.proofs.Common.{◌≡◌, ◌≢◌, ℕ, zero, suc, ◌+◌, ◌*◌, ◌/◌, ◌%◌, ◌<◌, ◌≤◌, List, ◌∷◌, ◌++◌, take, drop, length, refl, ap, subst, ◌∙◌, arith}
+use Rattle.std.proofs.Common.{◌≡◌, ◌≢◌, ℕ, ◌+◌, ◌*◌, ◌/◌, ◌%◌, ◌<◌, ◌≤◌, List, ◌∷◌, ◌++◌, take, drop, length, refl, ap, subst, ◌∙◌, arith}
 use Rattle.std.specs.Prelude.{set}
 use Rattle.std.proofs.lemmas.List.{length-set}
 use Rattle.dex_base.specs.Fields.{u16_at, u32_at, u16_bytes}
@@ -76,14 +76,18 @@ five_size _ e = absurd cc
 -- ---- in place
 
 -- a number put over two bytes sets one after the other
-pub put_over_two : (p : ℕ) (us : List ℕ) (n : ℕ) → p + 2 ≤ length us → n < 65536 → take p us ++ (u16_bytes n ++ drop (p + 2) us) ≡ set (set us p (n % 256)) (p + 1) (n / 256)
+put_over_third : (us : List ℕ) (n : ℕ) → 4 ≤ length us → n < 65536 → take 2 us ++ (u16_bytes n ++ drop (2 + 2) us) ≡ set (set us 2 (n % 256)) 3 (n / 256)
 unfolding u16_bytes
-put_over_two zero (a ∷ b ∷ rest) n l few = let high : n / 256 % 256 ≡ n / 256 = omega (arith, few) in ap (λ (x : ℕ). n % 256 ∷ x ∷ rest) high
-put_over_two (suc p) (a ∷ rest) n l few = ap (λ (z : List ℕ). a ∷ z) (put_over_two p rest n (omega (arith, l)) few)
-put_over_two _ _ n l few = absurd (omega (arith, l))
+put_over_third (a ∷ b ∷ c ∷ d ∷ rest) n l few = let high : n / 256 % 256 ≡ n / 256 = omega (arith, few) in ap (λ (x : ℕ). a ∷ b ∷ n % 256 ∷ x ∷ rest) high
+put_over_third _ n l few = absurd (omega (arith, l))
+
+put_over_fifth : (us : List ℕ) (n : ℕ) → 6 ≤ length us → n < 65536 → take 4 us ++ (u16_bytes n ++ drop (4 + 2) us) ≡ set (set us 4 (n % 256)) 5 (n / 256)
+unfolding u16_bytes
+put_over_fifth (a ∷ b ∷ c ∷ d ∷ e ∷ f ∷ rest) n l few = let high : n / 256 % 256 ≡ n / 256 = omega (arith, few) in ap (λ (x : ℕ). a ∷ b ∷ c ∷ d ∷ n % 256 ∷ x ∷ rest) high
+put_over_fifth _ n l few = absurd (omega (arith, l))
 
 pub short_put : (us new : List ℕ) (n m : ℕ) → 4 ≤ length us → m < 65536 → n ≡ m → new ≡ take 2 us ++ (u16_bytes n ++ drop (2 + 2) us) → new ≡ with_short us m
-short_put us new n m four few e put = put ∙ put_over_two 2 us n four (omega (arith, few, e)) ∙ ap (with_short us) e
+short_put us new n m four few e put = put ∙ put_over_third us n four (omega (arith, few, e)) ∙ ap (with_short us) e
 
 pub size_is : (numbers : Columns) (old new : List ℕ) (n m : ℕ) (r : Raw) → n ≡ m → IsRenumbered numbers old new m r → IsRenumbered numbers old new n r
 size_is numbers old new n m r e x = record { size = e ∙ x.size; is_new = x.is_new; fits = x.fits }
@@ -131,4 +135,4 @@ unnamed_cleared us mid new first third kept last e low f few k l m six fits n =
     let byte : 16 * (first / 4096) + last ≡ register (field us 0 12 4) 4 (field us 0 8 4) + 16 * field us 0 12 4 = omega (arith, g, count) in
     let front : mid ≡ set us 1 (register (field us 0 12 4) 4 (field us 0 8 4) + 16 * field us 0 12 4) = m ∙ ap (λ (x : ℕ). set us 1 x) byte in
     let whole : length mid ≡ length us = ap length m ∙ simp length-set in
-    n ∙ put_over_two 4 mid kept (omega (arith, whole, six)) fits ∙ ap (λ (x : ℕ). set (set mid 4 (x % 256)) 5 (x / 256)) all ∙ ap (λ (z : List ℕ). set (set z 4 (named_unit us (field us 0 12 4) % 256)) 5 (named_unit us (field us 0 12 4) / 256)) front
+    n ∙ put_over_fifth mid kept (omega (arith, whole, six)) fits ∙ ap (λ (x : ℕ). set (set mid 4 (x % 256)) 5 (x / 256)) all ∙ ap (λ (z : List ℕ). set (set z 4 (named_unit us (field us 0 12 4) % 256)) 5 (named_unit us (field us 0 12 4) / 256)) front
