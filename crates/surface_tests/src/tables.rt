@@ -19,9 +19,9 @@ pub fn row<N: Row>(name: N) -> N {
 pub fn rows<'a>(
     text: Str<'a>,
     ty: Desc<'a>,
-    proto: &'a Proto<'a>,
-    field: &'a FieldRef<'a>,
-    method: &'a MethodRef<'a>,
+    proto: Proto<'a>,
+    field: FieldRef<'a>,
+    method: MethodRef<'a>,
 ) {
     let _ = (row(text), row(ty), row(proto), row(field), row(method));
 }
