@@ -6,15 +6,16 @@ use Rattle.std.proofs.lemmas.Bool.{cases_lt}
 use Rattle.dex_insn.specs.Raw as raw
 use Rattle.dex_insn.specs.Raw.{Raw}
 use Rattle.program_types.specs.Content.{Name, Insn}
+use Rattle.program_types.specs.Content as made
 use Rattle.program_types.specs.Formed.{IsSwitch, insn_at, insn_payload, insn_leads, RefersToPayload, PayloadHolds}
 use Rattle.program_code_rules.specs.Branches.{IsOrigin}
 use Rattle.code_read.specs.Places.{Rises, target_at}
 use Rattle.code_read.specs.Walk.{Walks, starts, raw_at, address}
-use Rattle.code_read.specs.Symbols.{linked, name_in}
-use Rattle.code_read.specs.Linked.{lead, payload_of, SpellsInsns}
-use Rattle.code_read.specs.ByAddress.{offsets_of, CountFrom, OffsetLeadsTo, LeadsByAddress}
+use Rattle.code_read.specs.Symbols.{linked, name_in, ints}
+use Rattle.code_read.specs.Linked.{lead, payload_of, IsLinked, SpellsInsns}
+use Rattle.code_read.specs.ByAddress.{offsets_of, CountFrom, OffsetLeadsTo, LeadsByAddress, IsLinkedByAddress, SpellsInsnsByAddress}
 use Rattle.code_read.proofs.Runs.{run-rises, length-of_starts}
-use Rattle.code_read.proofs.PlaceLaws.{target-there}
+use Rattle.code_read.proofs.PlaceLaws.{target-there, target-to}
 use Rattle.code_read.proofs.LinkLaws.{kind-linked}
 use Rattle.code_read.proofs.CodesFormed.{leads-inside}
 
@@ -105,3 +106,79 @@ leads-by_address N us rs is s k m =
       only = λ j c. count-one is k j x.origin (raw_at rs k) kind p c counts;
       leads = subst (AllZip (OffsetLeadsTo rs x.origin) zs) (sym led) (all-lead rs x.origin zs (walk-rises us rs s.walk) (subst (λ (d : ℕ). AllByRecursion (λ (to : ℕ). to < d) (map T zs)) n inside));
     }
+
+-- ---- the other way: what leads by address is linked
+
+-- an offset that leads to an instruction is linked to its number
+lead-is : (rs : List Raw) (from to : ℕ) (z : ℤ) → Rises (starts rs) → OffsetLeadsTo rs from z to → lead (starts rs) (address rs from) z ≡ to
+unfolding lead
+lead-is rs from to z r o =
+    let n = length-of_starts rs in
+    let there = o.there in
+    ap (λ (t : Option ℕ). unwrap_or t (length (starts rs))) (target-to (starts rs) (address rs from) to z r (omega (arith, n, there)) (sym o.sum))
+
+all-are : (rs : List Raw) (from : ℕ) (T : ℤ → ℕ) (zs : List ℤ) → Rises (starts rs) → AllZip (OffsetLeadsTo rs from) zs (map T zs) → map T zs ≡ map (lead (starts rs) (address rs from)) zs
+all-are rs from T [] r h = refl
+all-are rs from T (z ∷ zs) r h =
+    let one = lead-is rs from (T z) z r h.0 in
+    let rest = all-are rs from T zs r h.1 in
+    ap (λ (t : ℕ). t ∷ map T zs) (sym one) ∙ ap (λ (ts : List ℕ). lead (starts rs) (address rs from) z ∷ ts) rest
+
+first-same : (a b : ℕ) (xs ys : List ℕ) → a ∷ xs ≡ b ∷ ys → a ≡ b
+first-same a b xs ys e = cc
+
+-- where two ways to link lead the offsets alike, they make the same instruction
+linked-alike : (S T : ℤ → ℕ) (w : Name) (r : Raw) → map S (offsets_of r) ≡ map T (offsets_of r) → linked S w r ≡ linked T w r
+unfolding linked
+linked-alike S T w (raw.I10t op offset) e = ap (made.I10t op) (first-same (S offset) (T offset) [] [] e)
+linked-alike S T w (raw.I20t op offset) e = ap (made.I20t op) (first-same (S offset) (T offset) [] [] e)
+linked-alike S T w (raw.I30t op offset) e = ap (made.I30t op) (first-same (S offset) (T offset) [] [] e)
+linked-alike S T w (raw.I21t op a offset) e = ap (made.I21t op a) (first-same (S offset) (T offset) [] [] e)
+linked-alike S T w (raw.I22t op a b offset) e = ap (made.I22t op a b) (first-same (S offset) (T offset) [] [] e)
+linked-alike S T w (raw.I31t op a offset) e = ap (made.I31t op a) (first-same (S offset) (T offset) [] [] e)
+linked-alike S T w (raw.Packed first offsets) e = ap (made.Packed first) e
+linked-alike S T w (raw.Sparse keys offsets) e = ap (made.Sparse (ints keys)) e
+linked-alike S T w _ e = refl
+
+-- offsets that count from the one switch of a payload, or from their own instruction, have that origin
+switch-from : (is : List Insn) (k from : ℕ) → IsSwitch (insn_payload (insn_at is k)) → PayloadHolds is k → RefersToPayload is from k → IsOrigin is k from
+switch-from is k from w p c = let u = p.used w in inl (w, c, λ i x. let a = u.2 i x in let b = u.2 from c in omega (arith, a, b))
+
+other-from : (is : List Insn) (k from : ℕ) → (¬ IsSwitch (insn_payload (insn_at is k))) → from ≡ k → IsOrigin is k from
+other-from is k from h e = inr (λ i s. h s.0, e)
+
+origin-from : (is : List Insn) (k from : ℕ) (r : Raw) → insn_payload (insn_at is k) ≡ payload_of r → PayloadHolds is k → CountFrom is k r from → IsOrigin is k from
+unfolding payload_of
+origin-from is k from (raw.Packed first offsets) e p c = switch-from is k from (subst IsSwitch (sym e) tt) p c
+origin-from is k from (raw.Sparse keys offsets) e p c = switch-from is k from (subst IsSwitch (sym e) tt) p c
+origin-from is k from _ e p c = other-from is k from (λ w. subst IsSwitch e w) c
+
+linked-by_address : (N : ℕ → Name → Type 0) (rs : List Raw) (is : List Insn) (k : ℕ) → Rises (starts rs) → PayloadHolds is k → IsLinkedByAddress N rs is k → IsLinked N rs is k
+linked-by_address N rs is k rise p x =
+    let r = raw_at rs k in
+    let w = name_in (insn_at is k) in
+    let from = x.leads.from in
+    let kind : insn_payload (insn_at is k) ≡ payload_of r = ap insn_payload (sym x.says.symbol) ∙ kind-linked _ _ r in
+    let led : insn_leads (insn_at is k) ≡ map x.target (offsets_of r) = ap insn_leads (sym x.says.symbol) ∙ leads-linked x.target w r in
+    let same = all-are rs from x.target (offsets_of r) rise (subst (AllZip (OffsetLeadsTo rs from) (offsets_of r)) led x.leads.leads) in
+    record {
+      origin = from;
+      counts = origin-from is k from r kind p x.leads.counts;
+      says = record { symbol = sym (linked-alike x.target (lead (starts rs) (address rs from)) w r same) ∙ x.says.symbol; named = x.says.named };
+    }
+
+-- the two say the same
+pub to-by_address : (N : ℕ → Name → Type 0) (us : List ℕ) (rs : List Raw) (is : List Insn) → SpellsInsns N us rs is → SpellsInsnsByAddress N us rs is
+to-by_address N us rs is s = record {
+  walk = s.walk;
+  count = s.linked.count;
+  each = λ k m. let n = s.linked.count in record { target = _; says = (s.linked.each k m).says; leads = leads-by_address N us rs is s k (omega (arith, m, n)) };
+  keep = s.keep;
+}
+
+pub from-by_address : (N : ℕ → Name → Type 0) (us : List ℕ) (rs : List Raw) (is : List Insn) → SpellsInsnsByAddress N us rs is → SpellsInsns N us rs is
+from-by_address N us rs is s = record {
+  walk = s.walk;
+  linked = record { count = s.count; each = λ k m. let n = s.count in linked-by_address N rs is k (walk-rises us rs s.walk) (s.keep.payloads k (omega (arith, m, n))) (s.each k m) };
+  keep = s.keep;
+}

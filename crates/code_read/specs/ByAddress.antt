@@ -6,10 +6,11 @@ use Rattle.std.specs.Prelude.{ℕ, ℤ, pos, ◌≡◌, ◌+ℤ◌, ◌<◌, Lis
 use Rattle.std.specs.List.{AllZip}
 use Rattle.dex_insn.specs.Raw as raw
 use Rattle.dex_insn.specs.Raw.{Raw}
-use Rattle.program_types.specs.Content.{Insn}
+use Rattle.program_types.specs.Content.{Name, Insn}
 use Rattle.program_types.specs.Formed.{insn_at, insn_leads, RefersToPayload}
-use Rattle.code_read.specs.Walk.{raw_at, address}
-use Rattle.code_read.specs.Symbols.{ints}
+use Rattle.code_read.specs.Walk.{Walks, raw_at, address}
+use Rattle.code_read.specs.Symbols.{ints, Says}
+use Rattle.code_read.specs.Linked.{KeepRules}
 
 -- the offsets in an instruction, in 16-bit units: of a branch, of what refers to a payload, and of a switch's payload
 abbrev pub offsets_of : Raw → List ℤ
@@ -41,3 +42,17 @@ pub record LeadsByAddress (rs : List Raw) (is : List Insn) (k : ℕ) : Type 0 wh
   pub counts : CountFrom is k (raw_at rs k) from
   pub only : (j : ℕ) → CountFrom is k (raw_at rs k) j → j ≡ from
   pub leads : AllZip (OffsetLeadsTo rs from) (offsets_of (raw_at rs k)) (insn_leads (insn_at is k))
+
+-- Instruction k is raw instruction k: the same operands, a name for which its index stands, and the numbers of the instructions to
+-- which its offsets lead by address.
+pub record IsLinkedByAddress (N : ℕ → Name → Type 0) (rs : List Raw) (is : List Insn) (k : ℕ) : Type 0 where
+  pub target : ℤ → ℕ
+  pub says : Says N target (raw_at rs k) (insn_at is k)
+  pub leads : LeadsByAddress rs is k
+
+-- The units are the instructions, end to end, linked by address: each instruction is the raw one, as the pages say it.
+pub record SpellsInsnsByAddress (N : ℕ → Name → Type 0) (us : List ℕ) (rs : List Raw) (is : List Insn) : Type 0 where
+  pub walk : Walks us rs
+  pub count : length is ≡ length rs
+  pub each : (k : ℕ) → k < length rs → IsLinkedByAddress N rs is k
+  pub keep : KeepRules is

@@ -23,6 +23,11 @@ pub fn codes_carry_over()
     ensures overruns { (b : List ℕ) (names : Names) → IsFramed b → AreNamesOf b names → (off : ℕ) (e : Fault) → CodeOverruns (NameIsAt names) b off e ↔ CodeOverruns (NameStands b) b off e }
 {}
 
+/// No code stands at offset 0, so `read_code` refuses it.
+pub fn no_code_stands_at_zero()
+    ensures { (b : List ℕ) (names : Names) → IsFramed b → (c : Code) → ¬ CodeStands (NameIsAt names) b 0 c }
+{}
+
 /// At each place of a file a code stands, or a fault of code items does.
 pub fn codes_are_decided()
     ensures { (b : List ℕ) → AreBytes b → IsFramed b → (names : Names) (off : ℕ) → CodeIsDecided names b off }

@@ -1,14 +1,15 @@
 //! Laws of instructions, each the contract of a function that does nothing.
-ghost use Rattle.std.specs.Prelude.{◌≡◌, ◌<◌, ◌*◌, ◌/◌, ℕ, ℤ, List, length};
+ghost use Rattle.std.specs.Prelude.{◌≡◌, ◌↔◌, ◌<◌, ◌*◌, ◌/◌, ℕ, ℤ, List, length};
 ghost use Rattle.dex_base.specs.declared.fault.Fault.{Fault};
 ghost use Rattle.dex_insn.specs.Raw.{Raw};
 ghost use Rattle.dex_insn.specs.Registers.{named_registers};
-ghost use Rattle.program_types.specs.Content.{Name, Code};
+ghost use Rattle.program_types.specs.Content.{Name, Code, Insn};
 ghost use Rattle.program_types.specs.Formed.{insn_registers};
 ghost use Rattle.tables_rows.specs.Names.{Names, NameIsAt};
-ghost use Rattle.code_read.specs.ByAddress.{LeadsByAddress};
+ghost use Rattle.code_read.specs.ByAddress.{LeadsByAddress, SpellsInsnsByAddress};
 ghost use Rattle.code_read.specs.Code.{SpellsCode};
 ghost use Rattle.code_read.specs.InsnFaults.{InsnsBreak};
+ghost use Rattle.code_read.specs.Linked.{SpellsInsns};
 ghost use Rattle.code_read.specs.Symbols.{linked};
 
 /// A raw instruction names the registers that the instruction names for which it stands: so the rule of registers is one, of files
@@ -26,4 +27,11 @@ pub fn insns_break_one_rule()
 /// the instruction whose address is the sum, and to no other. An offset counts from its instruction, a switch's target from the switch.
 pub fn offsets_lead_by_address()
     ensures { (names : Names) (bytes : List ℕ) (c : Code) (s : SpellsCode (NameIsAt names) bytes c) (k : ℕ) → k < length c.insns → LeadsByAddress s.body.raws c.insns k }
+{}
+
+/// The same as a definition: units are instructions exactly if they are by address, where each is the raw instruction with a name for
+/// its index and, for each offset, the number of the instruction whose address is the sum, and the rules of branches, switches and
+/// payloads hold. So the definition can be read without the number that stands for no instruction, and without a last switch.
+pub fn insns_are_spelled_by_address()
+    ensures { (names : Names) (us : List ℕ) (rs : List Raw) (is : List Insn) → SpellsInsns (NameIsAt names) us rs is ↔ SpellsInsnsByAddress (NameIsAt names) us rs is }
 {}

@@ -39,10 +39,13 @@ mod reading;
 
 pub use checking::Checked;
 pub use file_laws::{
-    codes_are_decided, codes_carry_over, names_of_codes_have_rows, standing_codes_are_formed,
+    codes_are_decided, codes_carry_over, names_of_codes_have_rows, no_code_stands_at_zero,
+    standing_codes_are_formed,
 };
 pub use handlers::{read_number, read_signed};
-pub use insn_laws::{insns_break_one_rule, offsets_lead_by_address, registers_are_said};
+pub use insn_laws::{
+    insns_are_spelled_by_address, insns_break_one_rule, offsets_lead_by_address, registers_are_said,
+};
 pub use item::{Item, item_of};
 pub use item_laws::{
     broken_code_is_none, code_carries_over, code_is_one, code_is_prefix_unique, one_fault,

@@ -215,7 +215,8 @@ pub fn check_body(
     Ok(body.past)
 }
 
-/// The code of the code item at this byte offset of the file. Its registers are looked at last (73).
+/// The code of the code item at this byte offset of the file. Its registers are looked at last (73). No code stands at
+/// offset 0 (`no_code_stands_at_zero`), so that is refused.
 ///
 /// ```
 /// use bumpalo::Bump;

@@ -1,7 +1,7 @@
 //! Numbers at a place in bytes, the low byte first, as all fixed numbers of a .dex file.
 ghost use Rattle.std.specs.Prelude.{◌≡◌, ◌+◌, ◌<◌, ◌≤◌, ◌++◌, length, take, drop};
 ghost use Rattle.std.specs.List.{AllByRecursion};
-ghost use Rattle.dex_base.specs.Fields.{AreBytes, u16_at, u32_at, u32_bytes};
+ghost use Rattle.dex_base.specs.Fields.{AreBytes, u16_at, u32_at, u16_bytes, u32_bytes};
 
 use byteorder::{ByteOrder, LittleEndian};
 
@@ -27,6 +27,14 @@ pub fn u32_at(bytes: &[u8], place: usize) -> u32
     ensures { result ≡ u32_at bytes.now place }
 {
     LittleEndian::read_u32(&bytes[place..])
+}
+
+/// Writes a number of two bytes at a place, a byte offset. All other bytes stay.
+pub fn put_u16_at(bytes: &mut [u8], place: usize, n: u16)
+    requires { place + 2 ≤ length bytes.old }
+    ensures { bytes.new ≡ take place bytes.old ++ (u16_bytes n ++ drop (place + 2) bytes.old) }
+{
+    LittleEndian::write_u16(&mut bytes[place..place + 2], n);
 }
 
 /// Writes a number of four bytes at a place, a byte offset. All other bytes stay.

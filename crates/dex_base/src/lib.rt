@@ -49,7 +49,7 @@ pub use adler::adler32;
 pub use descriptor::{descriptor_length, is_array, is_class, is_descriptor};
 pub use fault::Fault;
 pub use fault_names::{FAULTS, Row, fault_name, fault_sentence};
-pub use fields::{are_bytes, put_u32_at, u16_at, u32_at};
+pub use fields::{are_bytes, put_u16_at, put_u32_at, u16_at, u32_at};
 pub use leb128::{put_sleb, put_uleb, read_sleb, read_uleb};
 pub use mutf8::{put_mutf8, read_mutf8};
 pub use seed::Seed;

@@ -54,7 +54,7 @@ pub(crate) fn put_one(out: &mut Vec<u8>, u0: u16) -> Result<(), AllocError>
     ensures capacity { vec_capacity out.old ≤ vec_capacity out.new }
     ensures room { vec_len out.old + 2 ≤ vec_capacity out.old → IsOk result }
 {
-    out.extend_from_slice(&[(u0 % 256) as u8, (u0 / 256) as u8])
+    out.extend_from_slice(&u0.to_le_bytes())
 }
 
 /// Appends two units.
@@ -64,12 +64,9 @@ pub(crate) fn put_two(out: &mut Vec<u8>, u0: u16, u1: u16) -> Result<(), AllocEr
     ensures capacity { vec_capacity out.old ≤ vec_capacity out.new }
     ensures room { vec_len out.old + 4 ≤ vec_capacity out.old → IsOk result }
 {
-    out.extend_from_slice(&[
-        (u0 % 256) as u8,
-        (u0 / 256) as u8,
-        (u1 % 256) as u8,
-        (u1 / 256) as u8,
-    ])
+    let u0 = u0.to_le_bytes();
+    let u1 = u1.to_le_bytes();
+    out.extend_from_slice(&[u0[0], u0[1], u1[0], u1[1]])
 }
 
 /// Appends three units.
@@ -79,14 +76,10 @@ pub(crate) fn put_three(out: &mut Vec<u8>, u0: u16, u1: u16, u2: u16) -> Result<
     ensures capacity { vec_capacity out.old ≤ vec_capacity out.new }
     ensures room { vec_len out.old + 6 ≤ vec_capacity out.old → IsOk result }
 {
-    out.extend_from_slice(&[
-        (u0 % 256) as u8,
-        (u0 / 256) as u8,
-        (u1 % 256) as u8,
-        (u1 / 256) as u8,
-        (u2 % 256) as u8,
-        (u2 / 256) as u8,
-    ])
+    let u0 = u0.to_le_bytes();
+    let u1 = u1.to_le_bytes();
+    let u2 = u2.to_le_bytes();
+    out.extend_from_slice(&[u0[0], u0[1], u1[0], u1[1], u2[0], u2[1]])
 }
 
 /// Appends four units.
@@ -102,16 +95,11 @@ pub(crate) fn put_four(
     ensures capacity { vec_capacity out.old ≤ vec_capacity out.new }
     ensures room { vec_len out.old + 8 ≤ vec_capacity out.old → IsOk result }
 {
-    out.extend_from_slice(&[
-        (u0 % 256) as u8,
-        (u0 / 256) as u8,
-        (u1 % 256) as u8,
-        (u1 / 256) as u8,
-        (u2 % 256) as u8,
-        (u2 / 256) as u8,
-        (u3 % 256) as u8,
-        (u3 / 256) as u8,
-    ])
+    let u0 = u0.to_le_bytes();
+    let u1 = u1.to_le_bytes();
+    let u2 = u2.to_le_bytes();
+    let u3 = u3.to_le_bytes();
+    out.extend_from_slice(&[u0[0], u0[1], u1[0], u1[1], u2[0], u2[1], u3[0], u3[1]])
 }
 
 /// Appends five units.
@@ -128,16 +116,12 @@ pub(crate) fn put_five(
     ensures capacity { vec_capacity out.old ≤ vec_capacity out.new }
     ensures room { vec_len out.old + 10 ≤ vec_capacity out.old → IsOk result }
 {
+    let u0 = u0.to_le_bytes();
+    let u1 = u1.to_le_bytes();
+    let u2 = u2.to_le_bytes();
+    let u3 = u3.to_le_bytes();
+    let u4 = u4.to_le_bytes();
     out.extend_from_slice(&[
-        (u0 % 256) as u8,
-        (u0 / 256) as u8,
-        (u1 % 256) as u8,
-        (u1 / 256) as u8,
-        (u2 % 256) as u8,
-        (u2 / 256) as u8,
-        (u3 % 256) as u8,
-        (u3 / 256) as u8,
-        (u4 % 256) as u8,
-        (u4 / 256) as u8,
+        u0[0], u0[1], u1[0], u1[1], u2[0], u2[1], u3[0], u3[1], u4[0], u4[1],
     ])
 }

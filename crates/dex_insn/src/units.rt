@@ -53,7 +53,7 @@ pub(crate) fn signed_nibble(bits: u8) -> i8
 pub(crate) fn low_byte(unit: u16) -> u8
     ensures { result ≡ unit % 256 }
 {
-    (unit % 256) as u8
+    unit.to_le_bytes()[0]
 }
 
 /// The high byte of a unit.
@@ -61,7 +61,7 @@ pub(crate) fn low_byte(unit: u16) -> u8
 pub(crate) fn high_byte(unit: u16) -> u8
     ensures { result ≡ unit / 256 }
 {
-    (unit / 256) as u8
+    unit.to_le_bytes()[1]
 }
 
 /// Unit 1 as a signed number, as the branch offsets of 16 bits are.

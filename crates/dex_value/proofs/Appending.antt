@@ -1,5 +1,5 @@
 -- What writing appends.
-use Rattle.std.proofs.Common.{◌≡◌, ℕ, ◌+◌, ◌^◌, ◌<◌, ◌≤◌, List, [], ◌∷◌, ◌++◌, length, take, get_or, map, refl, sym, ap, subst, ◌∙◌, append_assoc, arith, Result, Ok, Err, OnErr}
+use Rattle.std.proofs.Common.{◌≡◌, ℕ, ◌+◌, ◌^◌, ◌<◌, ◌≤◌, List, [], ◌∷◌, ◌++◌, length, take, get_or, map, refl, sym, ap, subst, ◌∙◌, append_assoc, arith}
 use Rattle.std.proofs.lemmas.List.{length-append, length-map, map-append, take_more}
 use Rattle.dex_base.specs.Grammar.{Appends, Each}
 use Rattle.dex_base.specs.Leb128.{Spells, Shortest}
@@ -14,7 +14,7 @@ use Rattle.program_types.specs.Mentions.{NamesHold, AllNamesHold}
 use Rattle.dex_value.specs.Named.{IsRanked}
 use Rattle.dex_value.specs.Counts.{CountsFit, AllCountsFit}
 use Rattle.dex_value.specs.Wide.{wide_value, wide_values}
-use Rattle.dex_value.specs.Writing.{UnsignedAs, HighAs, IndexAs, HoldsMore}
+use Rattle.dex_value.specs.Writing.{UnsignedAs, HighAs, IndexAs}
 use Rattle.dex_value.proofs.Lists.{count_of-values, each-values, values-each}
 use Rattle.program_types.proofs.Nesting.{from, from_next}
 
@@ -70,10 +70,6 @@ writing_next s old mid new xs i d some w a = record {
 -- a value of the list takes at most what all take
 pub one_wide : (s : Five) (old out : List ℕ) (xs : List made.Value) (i : ℕ) (d : made.Value) → i < length xs → Writing s old out xs i → wide_value (value (get_or xs i d)) ≤ wide_values (values (map value xs))
 one_wide s old out xs i d some w = let e = next_wide xs i d some in let h = w.less in omega (arith, e, h)
-
--- where one value isn't written whole
-pub writing_stops : (s : Five) (old mid new : List ℕ) (xs : List made.Value) (i : ℕ) → Writing s old mid xs i → HoldsMore mid new → HoldsMore old new
-writing_stops s old mid new xs i w m = (w.done.bytes ++ m.0, m.1 ∙ ap (λ l. l ++ m.0) w.done.joined ∙ append_assoc old w.done.bytes m.0)
 
 -- ---- arrays
 
@@ -132,8 +128,3 @@ module _ (N : ℕ → Name → Type 0) (old mid new : List ℕ) (n : ℕ) (vs : 
               omega (arith, k, e);
         };
       }
-
--- a fact holds of any error
-pub on_err : {T E P : Type 0} (r : Result T E) → P → OnErr r P
-on_err (Ok x) p = tt
-on_err (Err e) p = p

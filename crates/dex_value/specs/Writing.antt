@@ -1,5 +1,5 @@
 -- What the private functions of writing say.
-use Rattle.std.specs.Prelude.{◌≡◌, ℕ, ℤ, pos, negsuc, ◌+◌, ◌*◌, ◌-◌, ◌%◌, ◌^◌, ◌<◌, ◌≤◌, List, ◌∷◌, ◌++◌, length}
+use Rattle.std.specs.Prelude.{◌≡◌, ℕ, ℤ, pos, negsuc, ◌+◌, ◌*◌, ◌-◌, ◌%◌, ◌^◌, ◌<◌, ◌≤◌, List, ◌∷◌, length}
 use Rattle.program_types.specs.Content.{Name}
 use Rattle.dex_value.specs.Spelling.{Sized, signed_of, unsigned_of, high_of}
 
@@ -41,7 +41,3 @@ IndexAs N type bytes which = Sized type 4 (λ low. N (unsigned_of low) which) by
 -- The head of so many bytes, and after it these.
 abbrev pub sized : ℕ → List ℕ → List ℕ
 sized type low = (32 * (length low - 1) + type) ∷ low
-
--- The Vec holds what it held, and maybe more.
-abbrev pub HoldsMore : List ℕ → List ℕ → Type 0
-HoldsMore old new = (more : List ℕ) × (new ≡ old ++ more)

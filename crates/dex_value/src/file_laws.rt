@@ -25,6 +25,11 @@ pub fn arrays_carry_over()
     ensures one { (b : List ℕ) → IsFramed b → IsPrefixUnique (SpellsArray (NameStands b)) }
 {}
 
+/// No array stands at offset 0, so `read_array` refuses it.
+pub fn no_array_stands_at_zero()
+    ensures { (b : List ℕ) (names : Names) → IsFramed b → (most : ℕ) (vs : List Value) → ¬ ArrayStands (NameIsAt names) b 0 most vs }
+{}
+
 /// Where the tables hold, at each place an array stands or a fault does.
 pub fn arrays_are_decided()
     ensures { (b : List ℕ) → AreBytes b → IsFramed b → TablesHold b → (off most : ℕ) → ArrayIsDecided b off most }

@@ -30,7 +30,7 @@ mod file_laws;
 pub use checking::check_array;
 pub use file_laws::{
     arrays_are_decided, arrays_carry_over, faults_are_where_no_array_stands,
-    names_of_arrays_have_rows, shortest_array_is_one,
+    names_of_arrays_have_rows, no_array_stands_at_zero, shortest_array_is_one,
 };
 pub use laws::{
     array_carries_over, array_is_prefix_unique, array_is_short, one_fault, spelled_array_can_be_put,
@@ -38,4 +38,4 @@ pub use laws::{
 pub use numbers::{number, unsigned};
 pub use reading::read_array;
 pub use types::{NameType, NumberType, SizedType, name_kind, sized_type};
-pub use writing::{put_array, put_plain, put_unsigned};
+pub use writing::{make_array, put_array, put_plain, put_unsigned};

@@ -1,5 +1,5 @@
 //! Values as bytes, in the fewest.
-ghost use Rattle.std.specs.Prelude.{◌≡◌, ◌+◌, ◌*◌, ◌-◌, ◌^◌, ◌<◌, ◌≤◌, ◌++◌, length, map, OnOk, OnErr, IsOkUnless};
+ghost use Rattle.std.specs.Prelude.{◌≡◌, ◌+◌, ◌*◌, ◌-◌, ◌^◌, ◌<◌, ◌≤◌, ◌++◌, length, map, IfOk, OnOk, OnErr, IsOkUnless};
 ghost use Rattle.dex_base.specs.Fault.{memory};
 ghost use Rattle.dex_base.specs.Grammar.{Appends, Each};
 ghost use Rattle.dex_base.specs.Leb128.{Shortest};
@@ -12,12 +12,13 @@ ghost use Rattle.dex_value.specs.Spelling.{SpellsValue, SpellsArray};
 ghost use Rattle.program_types.specs.Mentions.{NamesHold, AllNamesHold};
 ghost use Rattle.dex_value.specs.Named.{IsRanked, IsPlain};
 ghost use Rattle.dex_value.specs.Counts.{CountsFit, AllCountsFit, ArrayFits};
-ghost use Rattle.dex_value.specs.Writing.{SignedAs, UnsignedAs, HighAs, IndexAs, magnitude_of, sized, HoldsMore};
+ghost use Rattle.dex_value.specs.Writing.{SignedAs, UnsignedAs, HighAs, IndexAs, magnitude_of, sized};
 
 use crate::widths::{high_width, signed_width, unsigned_width};
 use byteorder::{ByteOrder, LittleEndian};
 use dex_base::{Fault, put_uleb};
 use program_types::{Name, Value};
+use std::alloc::Global;
 use tables_names::Ranks;
 
 /// Appends a head of this type and the bytes after it.
@@ -162,7 +163,6 @@ fn put_value(out: &mut Vec<u8>, ranks: &Ranks<'_>, one: &Value<'_>) -> Result<()
     requires named { NamesHold (IsRanked ranks.now) (value one.now) }
     requires counts { CountsFit (value one.now) }
     ensures ok { OnOk result (Appends (Shortest (SpellsValue (NameRanks ranks.now))) out.old.items out.new.items (value one.now)) }
-    ensures err { OnErr result (HoldsMore out.old.items out.new.items) }
     ensures memory { IsOkUnless result memory }
 {
     match one {
@@ -181,7 +181,6 @@ fn put_values(out: &mut Vec<u8>, ranks: &Ranks<'_>, all: &[Value<'_>]) -> Result
     requires named { AllNamesHold (IsRanked ranks.now) (content.values (map value all.now)) }
     requires counts { AllCountsFit (content.values (map value all.now)) }
     ensures ok { OnOk result (Appends (Each (Shortest (SpellsValue (NameRanks ranks.now)))) out.old.items out.new.items (map value all.now)) }
-    ensures err { OnErr result (HoldsMore out.old.items out.new.items) }
     ensures memory { IsOkUnless result memory }
 {
     for one in all {
@@ -190,16 +189,17 @@ fn put_values(out: &mut Vec<u8>, ranks: &Ranks<'_>, all: &[Value<'_>]) -> Result
     Ok(())
 }
 
-/// Appends a count and values.
-fn put_counted(out: &mut Vec<u8>, ranks: &Ranks<'_>, all: &[Value<'_>]) -> Result<(), Fault>
-    requires named { AllNamesHold (IsRanked ranks.now) (content.values (map value all.now)) }
-    requires counts { ArrayFits (map value all.now) }
-    ensures ok { OnOk result (Appends (Shortest (SpellsArray (NameRanks ranks.now))) out.old.items out.new.items (map value all.now)) }
-    ensures err { OnErr result (HoldsMore out.old.items out.new.items) }
+/// The bytes of the encoded_array of these values, as [`put_array`] appends them. It fails only when out of memory.
+pub fn make_array(alloc: Global, ranks: &Ranks<'_>, values: &[Value<'_>]) -> Result<Vec<u8>, Fault>
+    requires named { AllNamesHold (IsRanked ranks.now) (content.values (map value values.now)) }
+    requires counts { ArrayFits (map value values.now) }
+    ensures ok { IfOk result (λ array. Shortest (SpellsArray (NameRanks ranks.now)) array.items (map value values.now)) }
     ensures memory { IsOkUnless result memory }
 {
-    put_uleb(out, all.len() as u32)?;
-    put_values(out, ranks, all)
+    let mut array = Vec::new(alloc);
+    put_uleb(&mut array, values.len() as u32)?;
+    put_values(&mut array, ranks, values)?;
+    Ok(array)
 }
 
 /// Appends the encoded_array of these values: their number as uleb128, then each in the fewest bytes that spell it, its
@@ -228,10 +228,8 @@ pub fn put_array(out: &mut Vec<u8>, ranks: &Ranks<'_>, values: &[Value<'_>]) -> 
     ensures err { OnErr result (out.new.items ≡ out.old.items) }
     ensures memory { IsOkUnless result memory }
 {
-    let before = out.len();
-    let done = put_counted(out, ranks, values);
-    if done.is_err() {
-        out.truncate(before);
-    }
-    done
+    let alloc = *out.allocator();
+    let array = make_array(alloc, ranks, values)?;
+    out.extend_from_slice(&array)?;
+    Ok(())
 }

@@ -1,11 +1,15 @@
-//! A job carried out: what FILE or standard input gives is read, and the answer goes to OUT or to standard output.
-ghost use Rattle.std.specs.Prelude.{◌≡◌, false, true, [], None, Some};
-ghost use Rattle.dexasm_command.specs.Carried.{AnswersFrom, CarriesOut, GoesTo, HandsOver, around};
+//! A job carried out: a source, which is FILE or standard input, one run on it, and what becomes of its answer: it goes to standard output,
+//! or to OUT when it is whole.
+ghost use Rattle.std.specs.Prelude.{◌≡◌, false, true, ⊤};
+ghost use Rattle.dexasm_run.specs.Runs.{MatchRun};
+ghost use Rattle.dexasm_command.specs.Carried.{CarriesOut, HandsOver, around};
+ghost use Rattle.dexasm_command.specs.Running.{Brings, RunsOn, RunsOnFile, failure_of, told};
 
+use crate::file_source::FileSource;
 use dex_base::Seed;
 use dexasm_job::Job;
-use dexasm_run::{RunFault, Sink, Source, answer_bytes, make, run_seeded, write_all};
-use dexasm_world::{Refusal, World, deliver, read_all};
+use dexasm_run::{RunFault, Sink, Source, Watched, run_seeded};
+use dexasm_world::{Refusal, World, deliver};
 use std::alloc::Global;
 
 /// Carries out the job on what FILE holds, or on what the input gives, and delivers its answer to OUT or to the output. Hashes begin
@@ -29,79 +33,101 @@ pub fn carry_out<W: World, I: Source, O: Sink>(
         result }
 {
     match file {
-        None => answer_from(alloc, seed, job, out, world, input, output),
-        Some(path) => match read_all(alloc, world, path) {
-            Ok(given) => answer_given(alloc, seed, job, given, out, world, output),
-            Err(Refusal::Memory) => Err(RunFault::Memory),
-            Err(_) => Err(RunFault::Input),
-        },
+        None => {
+            let made = run_on(alloc, seed, job, input, out, output)?;
+            bring(alloc, made.as_slice(), out, world)
+        }
+        Some(path) => {
+            let made = run_on_file(alloc, seed, job, world, path, out, output)?;
+            bring(alloc, made.as_slice(), out, world)
+        }
     }
 }
 
-/// The answer to these bytes.
-fn answer_given<W: World, O: Sink>(
+/// Runs the job on a source. Its answer goes to the output or, where there is OUT, is what this answers, for OUT to get.
+fn run_on<I: Source, O: Sink>(
     alloc: Global,
     seed: Seed,
     job: Job,
-    given: Vec<u8>,
-    out: Option<&str>,
-    world: &mut W,
-    output: &mut O,
-) -> Result<(), RunFault>
-    ensures { AnswersFrom job out.entry (Some given.items) (Some []) false
-        (around W.is_known (W.files world.old) None false (O.contents output.old) (O.failed output.old))
-        (around W.is_known (W.files world.new) None false (O.contents output.new) (O.failed output.new))
-        result }
-{
-    match answer_bytes(alloc, seed, job, given) {
-        Ok(made) => match out {
-            None => write_all(made.as_slice(), output),
-            Some(path) => hand_over(alloc, made.as_slice(), path, world),
-        },
-        Err(fault) => Err(fault),
-    }
-}
-
-/// The answer to what the input gives.
-fn answer_from<W: World, I: Source, O: Sink>(
-    alloc: Global,
-    seed: Seed,
-    job: Job,
-    out: Option<&str>,
-    world: &mut W,
     input: &mut I,
+    out: Option<&str>,
     output: &mut O,
-) -> Result<(), RunFault>
+) -> Result<Vec<u8>, RunFault>
     requires input_works { I.failed input.old ≡ false }
     requires input_goes_on { I.ended input.old ≡ false }
     requires output_works { O.failed output.old ≡ false }
-    ensures { AnswersFrom job out.entry (I.remaining input.old) (I.remaining input.new) (I.failed input.new)
-        (around W.is_known (W.files world.old) (I.remaining input.old) (I.failed input.old) (O.contents output.old) (O.failed output.old))
-        (around W.is_known (W.files world.new) (I.remaining input.new) (I.failed input.new) (O.contents output.new) (O.failed output.new))
-        result }
+    ensures runs { RunsOn job out.entry (I.remaining input.old) (I.remaining input.new) (I.failed input.new)
+        (O.contents output.old) (O.contents output.new) (O.failed output.new) result }
+    ensures blames { MatchRun result ⊤ (λ _. ⊤) (I.blames input.old input.new) ⊤ ⊤ }
 {
+    let mut made = Watched::new(Vec::new(alloc));
     match out {
-        None => run_seeded(alloc, seed, job, input, output),
-        Some(path) => answer_to(alloc, seed, job, path, world, input),
+        None => run_seeded(alloc, seed, job, input, output)?,
+        Some(_) => match run_seeded(alloc, seed, job, input, &mut made) {
+            // A vector takes no more only where memory runs out.
+            Err(RunFault::Output) => return Err(RunFault::Memory),
+            done => done?,
+        },
     }
+    Ok(made.into_inner())
 }
 
-/// The answer, delivered to OUT when it is whole.
-fn answer_to<W: World, I: Source>(
+/// Runs the job on what FILE holds.
+fn run_on_file<W: World, O: Sink>(
     alloc: Global,
     seed: Seed,
     job: Job,
-    out: &str,
-    world: &mut W,
-    input: &mut I,
-) -> Result<(), RunFault>
-    requires input_works { I.failed input.old ≡ false }
-    requires input_goes_on { I.ended input.old ≡ false }
-    ensures { GoesTo job (I.remaining input.old) (I.remaining input.new) (I.failed input.new) (W.is_known ≡ true) (W.files world.old) (W.files world.new)
-        out.now result }
+    world: &W,
+    path: &str,
+    out: Option<&str>,
+    output: &mut O,
+) -> Result<Vec<u8>, RunFault>
+    requires { O.failed output.old ≡ false }
+    ensures { RunsOnFile (W.is_known ≡ true) (W.files world.now) path.now job out.entry
+        (O.contents output.old) (O.contents output.new) (O.failed output.new) result }
 {
-    let answer = make(alloc, seed, job, input)?;
-    hand_over(alloc, answer.as_slice(), out, world)
+    let reader = match world.open(path) {
+        Ok(reader) => reader,
+        Err(refusal) => return Err(failure_of(refusal)),
+    };
+    let mut given = FileSource::new(world, reader);
+    let made = run_on(alloc, seed, job, &mut given, out, output);
+    told(made, given.refusal)
+}
+
+/// What has come of a run on FILE, of which a read was refused, or none.
+fn told(made: Result<Vec<u8>, RunFault>, refusal: Option<Refusal>) -> Result<Vec<u8>, RunFault>
+    ensures { result ≡ told made refusal }
+{
+    match (made, refusal) {
+        (Err(RunFault::Input), Some(refusal)) => Err(failure_of(refusal)),
+        (made, _) => made,
+    }
+}
+
+/// How a run fails where FILE is refused.
+fn failure_of(refusal: Refusal) -> RunFault
+    ensures { result ≡ failure_of refusal }
+{
+    match refusal {
+        Refusal::Memory => RunFault::Memory,
+        Refusal::Missing | Refusal::Other => RunFault::Input,
+    }
+}
+
+/// Delivers a whole answer to OUT, where there is one.
+fn bring<W: World>(
+    alloc: Global,
+    answer: &[u8],
+    out: Option<&str>,
+    world: &mut W,
+) -> Result<(), RunFault>
+    ensures { Brings (W.is_known ≡ true) (W.files world.old) (W.files world.new) out.entry answer.now result }
+{
+    match out {
+        None => Ok(()),
+        Some(path) => hand_over(alloc, answer, path, world),
+    }
 }
 
 /// A whole answer, delivered to OUT.

@@ -12,6 +12,7 @@
 
 // A job carried out, of which the words are plain paths or standard streams.
 mod carrying;
+mod file_source;
 mod streams;
 
 // What is told of a failure, on a terminal and elsewhere.
@@ -26,7 +27,7 @@ mod serving;
 pub use carrying::carry_out;
 pub use dex_base::Seed;
 pub use dexasm_job::Job;
-pub use dexasm_plan::{plan, usage_status};
+pub use dexasm_plan::{Plan, plan, usage_status};
 pub use dexasm_run::{
     Line, RunFault, Sink, Source, Watched, answer, line_text, run, run_seeded, status, write_all,
 };

@@ -37,22 +37,6 @@ BeginsAnswer job had left held holds = (given : List ℕ) × (made : List ℕ) �
     × IsAllGiven had left given × Answer job given made × (n ≤ length made)
     × Appends held holds (take n made)
 
--- the answer to these bytes, or why there is none
-abbrev pub AnswersTo : Job → List ℕ → Result (Vec ℕ Global) RunFault → Type 0
-AnswersTo job given (Ok made) = Answer job given made.items
-AnswersTo job given (Err (Refused fault)) = Refusal job given fault
-AnswersTo job given (Err Input) = ⊥
-AnswersTo job given (Err Output) = ⊥
-AnswersTo job given (Err Memory) = ⊤
-
--- The answer to some bytes that a source gave up to its end, or why there is none.
-abbrev pub Makes : Job → Option (List ℕ) → Option (List ℕ) → Bool → Bool → Result (Vec ℕ Global) RunFault → Type 0
-Makes job had left failed ended (Ok made) = (given : List ℕ) × IsAllGiven had left given × Answer job given made.items × (ended ≡ true)
-Makes job had left failed ended (Err (Refused fault)) = Refuses job had left fault × (ended ≡ true)
-Makes job had left failed ended (Err Input) = failed ≡ true
-Makes job had left failed ended (Err Output) = ⊥
-Makes job had left failed ended (Err Memory) = ⊤
-
 -- reading to the end: the bytes given, or why not
 abbrev pub ReadsAll : Option (List ℕ) → Option (List ℕ) → Bool → Bool → Result (Vec ℕ Global) RunFault → Type 0
 ReadsAll old new failed ended (Ok given) = IsAllGiven old new given.items × (ended ≡ true)

@@ -1,5 +1,5 @@
 //! How a run fails.
-ghost use Rattle.std.specs.Prelude.{◌≡◌, Some, IfOk, string_bytes};
+ghost use Rattle.std.specs.Prelude.{◌≡◌, ◌≢◌, Some, IfOk, string_bytes};
 ghost use Rattle.dexasm_run.specs.Status.{error_line, exit_status};
 
 use dex_base::{Fault, fault_name};
@@ -19,6 +19,21 @@ pub enum RunFault {
     Output,
     /// Out of memory.
     Memory,
+}
+
+/// The fault of a call, as a run fails by it: out of memory is no refusal of the bytes.
+impl From<Fault> for RunFault {
+    ghost use Rattle.dexasm_run.specs.declared.error.RunFault.TheVariants.{Memory, Refused};
+
+    ghost from_gives = { λ fault failure. (fault.code ≡ 255 → failure ≡ Memory) × (fault.code ≢ 255 → failure ≡ Refused fault) };
+
+    fn from(fault: Fault) -> RunFault {
+        if fault.code == 255 {
+            RunFault::Memory
+        } else {
+            RunFault::Refused(fault)
+        }
+    }
 }
 
 /// The exit status of the program: 1 refused, 3 input or output, 4 out of memory.

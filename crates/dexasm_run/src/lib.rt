@@ -23,7 +23,7 @@ mod watched;
 pub use answers::{answer, answer_seeded};
 pub use error::{Line, RunFault, line_text, status};
 pub use laws::{listed_and_assembled_is_stripped, one_answer, one_outcome};
-pub use running::{answer_bytes, make, run, run_seeded, write_all};
+pub use running::{run, run_seeded, write_all};
 pub use sink::{Sink, Writer};
 pub use source::{Reader, Source};
 pub use watched::Watched;

@@ -1,13 +1,13 @@
 //! One run of a job: read all, answer, write all.
-ghost use Rattle.std.specs.Prelude.{◌≡◌, ◌≢◌, ◌<◌, vec_len, true, false, ⊤, IfOk, length, take};
+ghost use Rattle.std.specs.Prelude.{◌≡◌, ◌<◌, vec_len, true, false, ⊤, IfOk, length, take};
 ghost use Rattle.std.specs.Io.KnownBytes.{Keeps};
-ghost use Rattle.dexasm_run.specs.Runs.{Answers, AnswersTo, BeginsAnswer, Makes, MatchRun, Refuses, ReadsAll, WritesAll};
+ghost use Rattle.dexasm_run.specs.Runs.{Answers, BeginsAnswer, MatchRun, Refuses, ReadsAll, WritesAll};
 
 use crate::answers::answer_owned;
 use crate::error::RunFault;
 use crate::sink::Sink;
 use crate::source::Source;
-use dex_base::{Fault, Seed};
+use dex_base::Seed;
 use dexasm_job::Job;
 use std::alloc::{AllocError, Global};
 
@@ -52,6 +52,7 @@ pub fn run<R: Source, W: Sink>(
     ensures unwritten { MatchRun result ⊤ (λ _. Keeps (W.contents output.old) (W.contents output.new))
         (Keeps (W.contents output.old) (W.contents output.new)) ⊤
         (Keeps (W.contents output.old) (W.contents output.new)) }
+    ensures blames { MatchRun result ⊤ (λ _. ⊤) (R.blames input.old input.new) ⊤ ⊤ }
 {
     run_seeded(alloc, Seed::fixed(), job, input, output)
 }
@@ -91,72 +92,11 @@ pub fn run_seeded<R: Source, W: Sink>(
     ensures unwritten { MatchRun result ⊤ (λ _. Keeps (W.contents output.old) (W.contents output.new))
         (Keeps (W.contents output.old) (W.contents output.new)) ⊤
         (Keeps (W.contents output.old) (W.contents output.new)) }
-{
-    let made = make(alloc, seed, job, input)?;
-    write_all(made.as_slice(), output)
-}
-
-/// Takes from the source until it has ended, and answers the job on all that it gave. Hashes begin with the seed.
-///
-/// ```
-/// use dex_base::Seed;
-/// use dexasm_job::Job;
-/// use dexasm_run::{Watched, make};
-///
-/// let listing: &[u8] = b"dex 035 listing 2\n";
-/// let job = Job::Assemble { align: false };
-/// let made = make(alloc, Seed::fixed(), job, &mut Watched::new(listing)).unwrap();
-/// assert_eq!(rt; made.len(), 140);
-/// ```
-pub fn make<R: Source>(
-    alloc: Global,
-    seed: Seed,
-    job: Job,
-    input: &mut R,
-) -> Result<Vec<u8>, RunFault>
-    requires { R.ended input.old ≡ false }
-    ensures { Makes job (R.remaining input.old) (R.remaining input.new) (R.failed input.new) (R.ended input.new) result }
+    ensures blames { MatchRun result ⊤ (λ _. ⊤) (R.blames input.old input.new) ⊤ ⊤ }
 {
     let given = read_all(alloc, input)?;
-    answer_bytes(alloc, seed, job, given)
-}
-
-/// Answers the job on these bytes. Hashes begin with the seed.
-///
-/// ```
-/// use dex_base::Seed;
-/// use dexasm_job::Job;
-/// use dexasm_run::answer_bytes;
-///
-/// let listing: Vec<u8> = Vec::from_slice(alloc, b"dex 035 listing 2\n").unwrap();
-/// let job = Job::Assemble { align: false };
-/// let made = answer_bytes(alloc, Seed::fixed(), job, listing).unwrap();
-/// assert_eq!(rt; made.len(), 140);
-/// ```
-pub fn answer_bytes(
-    alloc: Global,
-    seed: Seed,
-    job: Job,
-    given: Vec<u8>,
-) -> Result<Vec<u8>, RunFault>
-    ensures { AnswersTo job given.items result }
-{
-    match answer_owned(alloc, seed, job, given) {
-        Ok(made) => Ok(made),
-        Err(fault) => Err(refusal(fault)),
-    }
-}
-
-/// Out of memory is no refusal of the bytes.
-fn refusal(fault: Fault) -> RunFault
-    ensures memory { fault.code ≡ 255 → result ≡ RunFault.Memory }
-    ensures refused { fault.code ≢ 255 → result ≡ RunFault.Refused fault }
-{
-    if fault.code == 255 {
-        RunFault::Memory
-    } else {
-        RunFault::Refused(fault)
-    }
+    let made = answer_owned(alloc, seed, job, given)?;
+    write_all(made.as_slice(), output)
 }
 
 /// Room for one `take`.
@@ -169,7 +109,8 @@ fn new_piece(alloc: Global) -> Result<Vec<u8>, AllocError>
 /// All that the source gives up to its end.
 fn read_all<R: Source>(alloc: Global, input: &mut R) -> Result<Vec<u8>, RunFault>
     requires { R.ended input.old ≡ false }
-    ensures { ReadsAll (R.remaining input.old) (R.remaining input.new) (R.failed input.new) (R.ended input.new) result }
+    ensures given { ReadsAll (R.remaining input.old) (R.remaining input.new) (R.failed input.new) (R.ended input.new) result }
+    ensures blames { MatchRun result ⊤ (λ _. ⊤) (R.blames input.old input.new) ⊤ ⊤ }
 {
     match new_piece(alloc) {
         Ok(mut piece) => gather(alloc, input, piece.as_mut_slice()),
@@ -181,7 +122,8 @@ fn read_all<R: Source>(alloc: Global, input: &mut R) -> Result<Vec<u8>, RunFault
 fn gather<R: Source>(alloc: Global, input: &mut R, piece: &mut [u8]) -> Result<Vec<u8>, RunFault>
     requires goes_on { R.ended input.old ≡ false }
     requires room { 0 < length piece.old }
-    ensures { ReadsAll (R.remaining input.old) (R.remaining input.new) (R.failed input.new) (R.ended input.new) result }
+    ensures given { ReadsAll (R.remaining input.old) (R.remaining input.new) (R.failed input.new) (R.ended input.new) result }
+    ensures blames { MatchRun result ⊤ (λ _. ⊤) (R.blames input.old input.new) ⊤ ⊤ }
 {
     let mut given = Vec::new(alloc);
     loop {

@@ -1,5 +1,5 @@
 //! What a run reads from: a source, which says whether it failed and whether it ended, and any reader as one.
-ghost use Rattle.std.specs.Prelude.{◌≡◌, ◌||◌, ℕ, Bool, List, Option, ⊤};
+ghost use Rattle.std.specs.Prelude.{◌≡◌, ◌||◌, ℕ, Bool, List, Option, ⊤, IfErr, OnOk};
 ghost use Rattle.std.specs.Io.{ReadsAtMost};
 ghost use Rattle.std.specs.Io.KnownBytes.{ReadConsumes};
 ghost use Rattle.dexasm_run.specs.Ends.{call_failed, count_of, moved_none};
@@ -20,13 +20,18 @@ pub trait Source {
     // A call on it met its end.
     ghost ended: { Self → Bool };
 
+    // What it says of a call that failed, as it was before and as it is: nothing, unless an `impl` says why.
+    ghost blames: { Self → Self → Type 0 } = { λ _ _. ⊤ };
+
     /// Reads bytes into the piece, and tells how many. An error, an interruption too, turns `failed` true; no byte
     /// for a nonempty piece turns `ended` true; nothing else does.
     fn take(&mut self, piece: &mut [u8]) -> io::Result<usize>
         ensures bound { ReadsAtMost result piece.new }
         ensures bytes { ReadConsumes (remaining self.old) (remaining self.new) result piece.new }
         ensures failed { failed self.new ≡ (failed self.old || call_failed result) }
-        ensures ended { ended self.new ≡ (ended self.old || moved_none result piece.old) };
+        ensures ended { ended self.new ≡ (ended self.old || moved_none result piece.old) }
+        ensures blames { IfErr result (λ _. blames self.old self.new) }
+        ensures passes { OnOk result ((later : Self) → blames self.new later → blames self.old later) };
 
     /// Whether a `take` has answered an error.
     fn failed(&self) -> bool

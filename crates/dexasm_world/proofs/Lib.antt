@@ -11,4 +11,3 @@ pub mod Choosing
 pub mod Leading
 pub mod Outcomes
 pub mod Leaving
-pub mod Gathering

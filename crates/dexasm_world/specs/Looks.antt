@@ -1,7 +1,5 @@
 -- What is told of a name.
-use Rattle.std.specs.Prelude.{◌≡◌, ◌≢◌, ◌⊎◌, ◌<◌, ℕ, true, false, List, Option, Some, None, IsSome, ⊤, Result, Ok, Err, Vec}
-use Rattle.std.specs.Global.{Global}
-use Rattle.std.specs.Io.KnownBytes.{Consumes, IsAtEnd}
+use Rattle.std.specs.Prelude.{◌≡◌, ◌≢◌, ◌⊎◌, ◌<◌, ℕ, true, false, List, Option, Some, None, IsSome, ⊤, Result, Ok, Err}
 use Rattle.dexasm_world.specs.State.{Path, FileState, Files, place_of}
 use Rattle.dexasm_world.specs.Steps.{Same}
 use Rattle.dexasm_world.specs.Safe.{part_path, name_count, target_of, IsTaken}
@@ -93,16 +91,6 @@ IsHeld f path bytes = f.paths.is_device (place_of f path) ≡ false → (n : ℕ
 abbrev pub Caused : {T : Type 0} → Result T Refusal → Type 0 → Type 0
 Caused (Ok r) Cause = ⊤
 Caused (Err refusal) Cause = RefusedFor refusal Cause
-
--- all that the file at the path's end holds, or why it can't be read
-abbrev pub ReadsFile : Files → Path → Result (Vec ℕ Global) Refusal → Type 0
-ReadsFile f path (Ok given) = IsHeld f path given.items
-ReadsFile f path (Err refusal) = RefusedFor refusal (CantBeRead f path)
-
--- all that a reader had left, which stands at this place, or why it can't be read
-abbrev pub ReadsRest : Files → Path → Option (List ℕ) → Option (List ℕ) → Result (Vec ℕ Global) Refusal → Type 0
-ReadsRest f place had left (Ok given) = Consumes had left given.items × IsAtEnd left
-ReadsRest f place had left (Err refusal) = RefusedFor refusal (IsBarredAt f place)
 
 -- what failed is the files
 abbrev pub HasCause : {T : Type 0} → Files → Files → Result T Refusal → Type 0

@@ -4,11 +4,9 @@
 mod delivery;
 mod possible;
 mod put;
-mod reading;
 mod world;
 
 pub use delivery::deliver;
 pub use possible::each_call_is_possible;
 pub use put::put_all;
-pub use reading::read_all;
 pub use world::{Dress, Handle, Look, NotMade, NotReplaced, Reading, Refusal, World};

@@ -20,7 +20,7 @@ ghost use Rattle.dex_value.specs.Wide.{wide_array};
 
 use crate::placed::Placed;
 use dex_base::{Fault, are_bytes};
-use dex_value::put_array;
+use dex_value::make_array;
 use file_layout::Items;
 use program_types::{Program, Value};
 use std::alloc::Global;
@@ -42,8 +42,7 @@ fn add_array(
     if values.len() == 0 {
         return Ok(0);
     }
-    let mut bytes = Vec::new(alloc);
-    put_array(&mut bytes, ranks, values)?;
+    let bytes = make_array(alloc, ranks, values)?;
     are_bytes(&bytes);
     Ok(items.put(out, bytes)?)
 }

@@ -1,8 +1,8 @@
 -- The front of an instruction's units, as code reads it.
-use Rattle.std.proofs.Common.{◌≡◌, ◌≢◌, ℕ, ◌+◌, ◌*◌, ◌/◌, ◌%◌, ◌<◌, ◌≤◌, List, ◌∷◌, length, refl, ap, subst, ◌∙◌, arith}
+use Rattle.std.proofs.Common.{◌≡◌, ◌≢◌, ℕ, ◌+◌, ◌*◌, ◌/◌, ◌%◌, ◌<◌, ◌≤◌, List, ◌∷◌, ◌++◌, take, drop, length, refl, ap, subst, ◌∙◌, arith}
 use Rattle.std.specs.Prelude.{set}
 use Rattle.std.proofs.lemmas.List.{length-set}
-use Rattle.dex_base.specs.Fields.{u16_at, u32_at}
+use Rattle.dex_base.specs.Fields.{u16_at, u32_at, u16_bytes}
 use Rattle.dex_insn.specs.Fields.{number, field}
 use Rattle.dex_insn.specs.Opcodes.{index_kind_of}
 use Rattle.dex_insn.specs.Raw as raw
@@ -75,6 +75,20 @@ five_size _ e = absurd cc
 
 -- ---- in place
 
+-- a number put over two bytes sets one after the other
+put_over_third : (us : List ℕ) (n : ℕ) → 4 ≤ length us → n < 65536 → take 2 us ++ (u16_bytes n ++ drop (2 + 2) us) ≡ set (set us 2 (n % 256)) 3 (n / 256)
+unfolding u16_bytes
+put_over_third (a ∷ b ∷ c ∷ d ∷ rest) n l few = let high : n / 256 % 256 ≡ n / 256 = omega (arith, few) in ap (λ (x : ℕ). a ∷ b ∷ n % 256 ∷ x ∷ rest) high
+put_over_third _ n l few = absurd (omega (arith, l))
+
+put_over_fifth : (us : List ℕ) (n : ℕ) → 6 ≤ length us → n < 65536 → take 4 us ++ (u16_bytes n ++ drop (4 + 2) us) ≡ set (set us 4 (n % 256)) 5 (n / 256)
+unfolding u16_bytes
+put_over_fifth (a ∷ b ∷ c ∷ d ∷ e ∷ f ∷ rest) n l few = let high : n / 256 % 256 ≡ n / 256 = omega (arith, few) in ap (λ (x : ℕ). a ∷ b ∷ c ∷ d ∷ n % 256 ∷ x ∷ rest) high
+put_over_fifth _ n l few = absurd (omega (arith, l))
+
+pub short_put : (us new : List ℕ) (n m : ℕ) → 4 ≤ length us → m < 65536 → n ≡ m → new ≡ take 2 us ++ (u16_bytes n ++ drop (2 + 2) us) → new ≡ with_short us m
+short_put us new n m four few e put = put ∙ put_over_third us n four (omega (arith, few, e)) ∙ ap (with_short us) e
+
 pub size_is : (numbers : Columns) (old new : List ℕ) (n m : ℕ) (r : Raw) → n ≡ m → IsRenumbered numbers old new m r → IsRenumbered numbers old new n r
 size_is numbers old new n m r e x = record { size = e ∙ x.size; is_new = x.is_new; fits = x.fits }
 
@@ -108,8 +122,9 @@ same_last m n g h p q = rw (p, q) refl
 
 pub unnamed_cleared : (us mid new : List ℕ) (first third kept last : ℕ) → first ≡ u16_at us 0 → first < 65536 → third ≡ u16_at us 4 → third < 65536
     → kept ≡ register (first / 4096) 0 (third % 16) + 16 * register (first / 4096) 1 (third / 16 % 16) + 256 * register (first / 4096) 2 (third / 256 % 16) + 4096 * register (first / 4096) 3 (third / 4096)
-    → last ≡ register (first / 4096) 4 (first / 256 % 16) → mid ≡ set us 1 (16 * (first / 4096) + last) → new ≡ set (set mid 4 (kept % 256)) (4 + 1) (kept / 256) → new ≡ with_named us (field us 0 12 4)
-unnamed_cleared us mid new first third kept last e low f few k l m n =
+    → last ≡ register (first / 4096) 4 (first / 256 % 16) → mid ≡ set us 1 (16 * (first / 4096) + last) → 6 ≤ length us → kept < 65536
+    → new ≡ take 4 mid ++ (u16_bytes kept ++ drop (4 + 2) mid) → new ≡ with_named us (field us 0 12 4)
+unnamed_cleared us mid new first third kept last e low f few k l m six fits n =
     let u = first_unit us in
     let v = third_unit us in
     let count : first / 4096 ≡ field us 0 12 4 = omega (arith, e, u, low) in
@@ -119,4 +134,5 @@ unnamed_cleared us mid new first third kept last e low f few k l m n =
     let g : last ≡ register (field us 0 12 4) 4 (field us 0 8 4) = l ∙ same_last (first / 4096) (field us 0 12 4) (first / 256 % 16) (field us 0 8 4) count (omega (arith, e, u)) in
     let byte : 16 * (first / 4096) + last ≡ register (field us 0 12 4) 4 (field us 0 8 4) + 16 * field us 0 12 4 = omega (arith, g, count) in
     let front : mid ≡ set us 1 (register (field us 0 12 4) 4 (field us 0 8 4) + 16 * field us 0 12 4) = m ∙ ap (λ (x : ℕ). set us 1 x) byte in
-    n ∙ ap (λ (x : ℕ). set (set mid 4 (x % 256)) 5 (x / 256)) all ∙ ap (λ (z : List ℕ). set (set z 4 (named_unit us (field us 0 12 4) % 256)) 5 (named_unit us (field us 0 12 4) / 256)) front
+    let whole : length mid ≡ length us = ap length m ∙ simp length-set in
+    n ∙ put_over_fifth mid kept (omega (arith, whole, six)) fits ∙ ap (λ (x : ℕ). set (set mid 4 (x % 256)) 5 (x / 256)) all ∙ ap (λ (z : List ℕ). set (set z 4 (named_unit us (field us 0 12 4) % 256)) 5 (named_unit us (field us 0 12 4) / 256)) front

@@ -10,17 +10,8 @@ ghost use Rattle.file_renumber.specs.Renumbered.{number_in, HasNumber, HasShortN
 
 use crate::numbers::Numbers;
 use crate::shapes::{Shape, insn_at, opcode_at, shape_at};
-use dex_base::{are_bytes, put_u32_at, u16_at, u32_at};
+use dex_base::{are_bytes, put_u16_at, put_u32_at, u16_at, u32_at};
 use dex_insn::{RawInsn, index_kind_of, size_of};
-
-/// Puts a number of two bytes in place of the one at a place, a byte offset.
-fn put_u16_at(bytes: &mut [u8], place: usize, n: u16)
-    requires { place + 2 ≤ length bytes.old }
-    ensures { bytes.new ≡ set (set bytes.old place (n % 256)) (place + 1) (n / 256) }
-{
-    bytes[place] = (n % 256) as u8;
-    bytes[place + 1] = (n / 256) as u8;
-}
 
 /// The number of the row that the index of an instruction of this opcode stands for.
 fn number_of(numbers: &Numbers, op: u8, index: u32) -> u32

@@ -93,9 +93,12 @@ impl<'a> Needed<'a> {
     pub fn add_string(&mut self, name: Str<'a>) -> Result<(), Fault>
         ensures added { OnOk result (self.new ≡ with_name self.old (OfText (str name.entry))) }
         ensures unchanged { OnErr result (self.new ≡ self.old) }
+        ensures closed { IsClosed self.new }
         ensures memory { IsOkUnless result memory }
     {
-        self.numbered.add_string(name)?;
+        let added = self.numbered.add_string(name);
+        self.numbered.has_parts();
+        added?;
         Ok(())
     }
 
@@ -112,9 +115,12 @@ impl<'a> Needed<'a> {
     pub fn add_type(&mut self, name: Desc<'a>) -> Result<(), Fault>
         ensures added { OnOk result (self.new ≡ with_name self.old (OfDesc (desc name.entry))) }
         ensures partly { OnErr result (AddsPart self.old self.new (with_parts self.old (OfDesc (desc name.entry)))) }
+        ensures closed { IsClosed self.new }
         ensures memory { IsOkUnless result memory }
     {
-        self.numbered.add_type(name)?;
+        let added = self.numbered.add_type(name);
+        self.numbered.has_parts();
+        added?;
         Ok(())
     }
 
@@ -138,9 +144,12 @@ impl<'a> Needed<'a> {
         requires params { All IsDescriptor (map desc name.now.params.now) }
         ensures added { OnOk result (self.new ≡ with_proto self.old (proto name.now)) }
         ensures partly { OnErr result (AddsPart self.old self.new (with_proto_parts self.old (proto name.now))) }
+        ensures closed { IsClosed self.new }
         ensures memory { IsOkUnless result memory }
     {
-        self.numbered.add_proto(arena, name)?;
+        let added = self.numbered.add_proto(arena, name);
+        self.numbered.has_parts();
+        added?;
         Ok(())
     }
 
@@ -165,9 +174,12 @@ impl<'a> Needed<'a> {
         requires params { All IsDescriptor (map desc name.now.proto.now.params.now) }
         ensures added { OnOk result (self.new ≡ with_name self.old (OfMethod (method_ref name.now))) }
         ensures partly { OnErr result (AddsPart self.old self.new (with_parts self.old (OfMethod (method_ref name.now)))) }
+        ensures closed { IsClosed self.new }
         ensures memory { IsOkUnless result memory }
     {
-        self.numbered.add_method(arena, name)?;
+        let added = self.numbered.add_method(arena, name);
+        self.numbered.has_parts();
+        added?;
         Ok(())
     }
 
@@ -187,9 +199,12 @@ impl<'a> Needed<'a> {
     pub fn add_field(&mut self, name: &FieldRef<'a>) -> Result<(), Fault>
         ensures added { OnOk result (self.new ≡ with_name self.old (OfField (field_ref name.now))) }
         ensures partly { OnErr result (AddsPart self.old self.new (with_parts self.old (OfField (field_ref name.now)))) }
+        ensures closed { IsClosed self.new }
         ensures memory { IsOkUnless result memory }
     {
-        self.numbered.add_field(name)?;
+        let added = self.numbered.add_field(name);
+        self.numbered.has_parts();
+        added?;
         Ok(())
     }
 

@@ -22,11 +22,13 @@ USE = re.compile(r"^\s*(?:ghost )?(pub )?use ([\w.]+)(?:\.\{(.*)\})?(?: as (\S+)
 HEAD = re.compile(r"^\s*(?:(?:abbrev|unfoldable|opaque|pub)\s+)*(?:(record|data|module|ruleset|mutual|infix\w*)(?:\s+|$))?([^\s(){}:,;]*)")
 FIELD = re.compile(r"^\s+(?:pub\s+)?([^\s(){}:,;]+)\s*(?:\([^)]*\))?\s*:")
 CITED = re.compile(r"(?:using|unfolding|simp|with|rewriting)\(([^()]*)\)")
-MOST_PATHS = 36000
+MOST_PATHS = 39000
 # The crates that hand on what stands in the crates that they are made of.
 FRONTS = {"dex_program", "dex_tables", "dex_code", "dex_file", "dex_listing", "dexasm_command"}
 # What only these call is called by nothing.
 APART = re.compile(r"crates/(?:\w+_(?:tests|samples)|bench|example)/")
+# The crate that has what is promised.
+SURFACE = "crates/surface_tests/"
 # What is for those who use the library: to compare names, to put them into an arena, and to ask a program's rules by hash.
 FOR_USERS = {"str_eq", "proto_eq", "field_ref_eq", "method_ref_eq", "field_ref_cmp", "method_ref_cmp", "alloc_descs", "alloc_proto"}
 FOR_USERS |= {"well_formed_in"}
@@ -219,8 +221,7 @@ def code_of(one: File) -> Iterator[tuple[int, str]]:
 def uncalled(files: dict[str, File]) -> Iterator[str]:
     """Public functions that no crate of the product calls, and that aren't promised. A law has no body, or stands among laws; what a
     function of the same name calls is called by nobody else yet."""
-    with open(os.path.join(TOP, "tools", "data", "compiled", "surface.txt"), encoding="utf-8") as it:
-        known = FOR_USERS | set(re.findall(r"\w+", it.read()))
+    known = FOR_USERS | {word for path, one in files.items() if path.startswith(SURFACE) for word in re.findall(r"\w+", "\n".join(one.lines))}
     public, called = {}, set()
     for path, one in sorted(files.items()):
         if not one.is_code or APART.match(path):

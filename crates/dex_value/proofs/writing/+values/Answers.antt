@@ -13,7 +13,7 @@ use Rattle.program_types.specs.Mentions.{NamesHold}
 use Rattle.dex_value.specs.Named.{IsRanked}
 use Rattle.dex_value.specs.Counts.{CountsFit}
 use Rattle.dex_value.specs.Wide.{wide_value, wide_values}
-use Rattle.dex_value.proofs.Appending.{counted, array_value_appends, next_named, next_counts, one_wide, writing_next, writing_stops, on_err}
+use Rattle.dex_value.proofs.Appending.{counted, array_value_appends, next_named, next_counts, one_wide, writing_next}
 use Rattle.dex_value.proofs.writing.+values.Goals as goal
 
 pub put_value-overflow_cast-all : goal.put_value-overflow_cast-all
@@ -39,11 +39,6 @@ put_values-put_value-requires t c =
     let fits = (next_counts c.args.all.now c.loop-one.one-index c.one-item.result c.loop-one-test.true c.loop-one.invariant.counts).0 in
     let most = c.decreases in
     (omega (arith, few, most), (subst (λ (v : made.Value). NamesHold (IsRanked c.args.ranks.now) (value v)) is n, subst (λ (v : made.Value). CountsFit (value v)) is fits))
-
-pub put_values-returns-in_err-put_value-clause-err : goal.put_values-returns-in_err-put_value-clause-err
-put_values-returns-in_err-put_value-clause-err t c =
-    let h = writing_stops c.args.ranks.now c.args.out.now.items c.loop-one.out.items c.put_value.new.out.items c.args.all.now c.loop-one.one-index c.loop-one.invariant c.in_err-put_value.ensures.err in
-    on_err c.from_residual.result h
 
 pub put_values-loop-one-preserved : goal.put_values-loop-one-preserved
 put_values-loop-one-preserved t c =

@@ -1,23 +1,16 @@
 use Rattle.std.proofs.Common.{map, arith}
-use Rattle.dex_base.specs.Leb128.{Shortest}
-use Rattle.tables_names.specs.Closure.{NameRanks}
 use Rattle.program_types.specs.View as view
 use Rattle.file_assemble.proofs.RankedArrays.{array_some}
 use Rattle.file_assemble.proofs.ArrayLaws.{array_used}
 use Rattle.dex_value.proofs.Fitting.{narrow_fits}
-use Rattle.dex_value.specs.Spelling.{SpellsArray}
 use Rattle.file_assemble.proofs.arrays.add_array.Goals as goal
-use Rattle.code_put.proofs.HandlerPacks.{alone}
 
-pub put_array-requires-clause-counts : goal.put_array-requires-clause-counts
-put_array-requires-clause-counts c = narrow_fits (map view.value c.args.values.now) (omega (arith, c.requires.room))
+pub make_array-bytes-requires-clause-counts : goal.make_array-bytes-requires-clause-counts
+make_array-bytes-requires-clause-counts c = narrow_fits (map view.value c.args.values.now) (omega (arith, c.requires.room))
 
 pub put-requires-clause-some : goal.put-requires-clause-some
-put-requires-clause-some c =
-    array_some c.args.ranks.now _ (map view.value c.args.values.now) (alone (Shortest (SpellsArray (NameRanks c.args.ranks.now))) _ _ (map view.value c.args.values.now) c.new-bytes.ensures.items c.in_ok-put_array.ensures.ok)
+put-requires-clause-some c = array_some c.args.ranks.now _ (map view.value c.args.values.now) c.in_ok-bytes.ensures.ok
 
 pub returns-clause-ok : goal.returns-clause-ok
 returns-clause-ok c =
-    array_used c.args.ranks.now _ _ _ _ c.args.values.now _ _ (omega arith) (rw c.deref.ensures.value at c.are_bytes.ensures.each)
-    (alone (Shortest (SpellsArray (NameRanks c.args.ranks.now))) _ _ (map view.value c.args.values.now) c.new-bytes.ensures.items c.in_ok-put_array.ensures.ok)
-    c.in_ok-put.ensures.ok
+    array_used c.args.ranks.now _ _ _ _ c.args.values.now _ _ (omega arith) (rw c.deref.ensures.value at c.are_bytes.ensures.each) c.in_ok-bytes.ensures.ok c.in_ok-put.ensures.ok

@@ -4,4 +4,4 @@ use Rattle.file_renumber.proofs.in_place.clear_unnamed.Goals as goal
 
 pub returns : goal.returns
 returns c =
-    unnamed_cleared c.args.front.now _ c.put_u16_at.new.bytes c.u16_at-first.result _ _ _ c.u16_at-first.ensures (omega arith) c.u16_at.ensures (omega arith) c.named-third.ensures c.last_named-last.ensures.value refl c.put_u16_at.ensures
+    unnamed_cleared c.args.front.now _ c.put_u16_at.new.bytes c.u16_at-first.result _ _ _ c.u16_at-first.ensures (omega arith) c.u16_at.ensures (omega arith) c.named-third.ensures c.last_named-last.ensures.value refl c.requires (omega arith) c.put_u16_at.ensures
