@@ -11,6 +11,7 @@ pub mod NamedLaws
 pub mod LateLaws
 pub mod CodeLaws
 pub mod HeldLaws
+pub mod ZeroLaws
 pub mod ValueLaws
 pub mod Numbering
 pub mod HeadLaws

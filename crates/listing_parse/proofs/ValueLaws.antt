@@ -3,16 +3,16 @@ use Rattle.std.proofs.Common.{◌≡◌, suc, ◌<◌, if◌then◌else◌, Bool
 use Rattle.std.specs.List.{AllByRecursion}
 use Rattle.std.proofs.lemmas.Bool.{cases_lt, lt-ltb}
 use Rattle.program_types.specs.Content.{Value}
-use Rattle.listing_parse.specs.Zeros.{zero_of}
 use Rattle.listing_parse.specs.Members.{Given, value_or_zero, is_given, given_length, values_of}
-use Rattle.listing_parse.specs.Classes.{IsValue, HasNone, AreValues}
+use Rattle.listing_parse.specs.Classes.{IsZero, IsValue, HasNone, AreValues}
+use Rattle.listing_parse.proofs.ZeroLaws.{zero_there, zero_one}
 
 value_there : (g : Given) (o : Option Value) → g.value ≡ o → IsValue g.field.ty g.value (value_or_zero g)
-value_there g None e = rw e refl
+value_there g None e = rw e (zero_there g.field.ty)
 value_there g (Some v) e = rw e refl
 
 value_one : (g : Given) (o : Option Value) (v : Value) → g.value ≡ o → IsValue g.field.ty g.value v → value_or_zero g ≡ v
-value_one g None v e h = let k : v ≡ zero_of g.field.ty = rw e at h in rw e (sym k)
+value_one g None v e h = let k : IsZero g.field.ty v = rw e at h in rw e (sym (zero_one g.field.ty v k))
 value_one g (Some w) v e h = let k : w ≡ v = rw e at h in rw e k
 
 none_length : (gs : List Given) → AllByRecursion HasNone gs → given_length gs ≡ 0

@@ -1,14 +1,14 @@
 -- The lines of a class, and the class that they mean.
 -- Page: docs/LISTING.md, "The lines", "Values", "A grammar", "Faults" (104).
-use Rattle.std.specs.Prelude.{◌≡◌, ◌≢◌, Bool, true, false, List, [], ◌∷◌, ◌++◌, length, map, Option, Some, None}
-use Rattle.std.specs.List.{AllByRecursion, flat_map, list_all}
+use Rattle.std.specs.Prelude.{◌≡◌, ◌≢◌, ◌==◌, Bool, true, false, pos, List, [], ◌∷◌, ◌++◌, length, map, slice_index, Option, Some, None, codes}
+use Rattle.std.specs.List.{AllByRecursion, flat_map, list_all, list_any}
 use Rattle.std.specs.List.Sorted.{IsPermutation}
 use Rattle.std.specs.declared.cmp.Ordering.TheVariants.{Less}
+use Rattle.program_types.specs.Content as content
 use Rattle.program_types.specs.Content.{Units, Descriptor, Value, Code, Member, Method, Class, Program}
 use Rattle.program_types.specs.Key.{Key, key_cmp}
 use Rattle.program_rules.specs.Rules.{member_key, method_key}
 use Rattle.listing_lines.specs.Lines.{Line, open_class, end_class, super_line, implements_line, source_line, static_line, instance_line, direct_line, virtual_line}
-use Rattle.listing_parse.specs.Zeros.{zero_of}
 use Rattle.listing_parse.specs.Members.{Given, given_key}
 use Rattle.listing_parse.specs.Codes.{code_lines, leads_into}
 
@@ -115,10 +115,22 @@ pub record AreSorted {X : Type 0} (key : X → Key) (given held : List X) : Type
 
 -- ---- values
 
+-- The zero of a type, which the first character of its descriptor tells: Z, B, S, C, I, J, F or D, or another one.
+pub data IsZero (ty : Descriptor) : Value → Type 0 where
+  of_boolean : slice_index ty 0 ≡ 90 → IsZero ty (content.Boolean false)
+  of_byte : slice_index ty 0 ≡ 66 → IsZero ty (content.Byte (pos 0))
+  of_short : slice_index ty 0 ≡ 83 → IsZero ty (content.Short (pos 0))
+  of_char : slice_index ty 0 ≡ 67 → IsZero ty (content.Char 0)
+  of_int : slice_index ty 0 ≡ 73 → IsZero ty (content.Int (pos 0))
+  of_long : slice_index ty 0 ≡ 74 → IsZero ty (content.Long (pos 0))
+  of_float : slice_index ty 0 ≡ 70 → IsZero ty (content.Float 0)
+  of_double : slice_index ty 0 ≡ 68 → IsZero ty (content.Double 0)
+  of_reference : list_any (λ c. slice_index ty 0 == c) (codes "ZBSCIJFD") ≡ false → IsZero ty content.Null
+
 -- The value of a field of this type: the one that the text gives, or the type's zero.
 abbrev pub IsValue : Descriptor → Option Value → Value → Type 0
 IsValue ty (Some w) v = w ≡ v
-IsValue ty None v = v ≡ zero_of ty
+IsValue ty None v = IsZero ty v
 
 -- The text gives it no value.
 abbrev pub HasNone : Given → Type 0
