@@ -7,8 +7,8 @@ class Missing(Exception):
     """What a text is made of isn't there, so that no text of its part can be made."""
 
 
-class Link(str):
-    """What stands for the text of a file that is a link: where it leads."""
+class Program(str):
+    """The text of a file that can be run."""
 
 
 class Made(NamedTuple):
@@ -19,22 +19,18 @@ class Made(NamedTuple):
 
 
 def is_there(path: str, text: str) -> bool:
-    """Whether the file has this text, or the link leads there."""
-    if isinstance(text, Link):
-        return os.path.islink(path) and os.readlink(path) == text
+    """Whether the file has this text, and can be run if it is to."""
     try:
         with open(path, encoding="utf8") as file:
-            return file.read() == text
+            return file.read() == text and (not isinstance(text, Program) or os.access(path, os.X_OK))
     except FileNotFoundError:
         return False
 
 
 def write(path: str, text: str) -> None:
     os.makedirs(os.path.dirname(path), exist_ok=True)
-    if isinstance(text, Link):
-        os.symlink(text, f"{path}.new")
-        os.replace(f"{path}.new", path)
-        return
     with open(f"{path}.new", "w", encoding="utf8") as file:
         file.write(text)
+    if isinstance(text, Program):
+        os.chmod(f"{path}.new", 0o755)
     os.replace(f"{path}.new", path)

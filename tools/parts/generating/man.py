@@ -1,21 +1,30 @@
 """The manual pages and the completions of shells: docs/man/dexasm.1 from the words of the help,
 crates/dexasm_plan/src/texts.rt, and the tables of faults of docs/FORMAT.md and docs/LISTING.md; docs/man/dexasm-listing.5
 from docs/LISTING.md; a page of each helper of python/ from its docstring, which is its help; contrib/completion/
-from the help too; the links of python/bin. And whether the tables name each fault as the code does.
+from the help too; the files of python/bin. And whether the tables name each fault as the code does.
 """
 import ast
 import re
 from collections.abc import Container
 
 from .. import helpers as programs, sought
-from .making import Link, Made, Missing
+from .making import Made, Missing, Program
 
 TEXTS = "crates/dexasm_plan/src/texts.rt"
 NUMBERS, NAMES = "crates/dex_base/src/fault.rt", "crates/dex_base/src/fault_names.rt"
 FORMAT, LISTING = "docs/FORMAT.md", "docs/LISTING.md"
 # Names of faults that no call answers yet.
 TO_COME = {"200"}
-LAUNCHER = "dexasm-check"  # the one file below python/bin
+LAUNCHER = "dexasm-check"  # which each other file of python/bin runs, under its own name
+HELPER = """\
+#!/usr/bin/env python3
+\"\"\"%s, by the launcher beside this file.\"\"\"
+from os.path import dirname, join, realpath
+
+LAUNCHER = join(dirname(realpath(__file__)), "dexasm-check")
+with open(LAUNCHER, encoding="utf8") as file:
+    exec(compile(file.read(), LAUNCHER, "exec"), {"__file__": LAUNCHER, "HELPER": "%s"})
+"""
 JOBS = ("check", "list", "assemble", "strip")
 
 # What the texts don't say.
@@ -372,7 +381,7 @@ def made() -> Made:
     pages = {"docs/man/dexasm.1": page(said), "docs/man/dexasm-listing.5": listing_page(said)}
     pages |= {f"docs/man/{name}.1": helper_page(name, doc, said) for name, doc in helpers().items()}
     pages |= {f"contrib/completion/{name}": words(said) for name, words in (("dexasm.bash", bash), ("_dexasm", zsh), ("dexasm.fish", fish))}
-    pages |= {f"python/bin/{name}": Link(LAUNCHER) for name in helpers() if name != LAUNCHER}
+    pages |= {f"python/bin/{name}": Program(HELPER % (name, name)) for name in helpers() if name != LAUNCHER}
     if misnamed():
         raise Missing(f"{FORMAT} and {LISTING} don't name these faults as {NAMES} does: {', '.join(misnamed())}")
     look_at_version(said)
