@@ -23,7 +23,8 @@ from os.path import dirname, join, realpath
 
 LAUNCHER = join(dirname(realpath(__file__)), "dexasm-check")
 with open(LAUNCHER, encoding="utf8") as file:
-    exec(compile(file.read(), LAUNCHER, "exec"), {"__file__": LAUNCHER, "HELPER": "%s"})
+    launcher = compile(file.read(), LAUNCHER, "exec")
+exec(launcher, {"__file__": LAUNCHER, "HELPER": "%s"})
 """
 JOBS = ("check", "list", "assemble", "strip")
 
