@@ -5,8 +5,8 @@ use Rattle.file_assemble.proofs.ArrayLaws.{array_used}
 use Rattle.dex_value.proofs.Fitting.{narrow_fits}
 use Rattle.file_assemble.proofs.arrays.add_array.Goals as goal
 
-pub make_array-bytes-requires-clause-counts : goal.make_array-bytes-requires-clause-counts
-make_array-bytes-requires-clause-counts c = narrow_fits (map view.value c.args.values.now) (omega (arith, c.requires.room))
+pub make_array-requires-clause-counts : goal.make_array-requires-clause-counts
+make_array-requires-clause-counts c = narrow_fits (map view.value c.args.values.now) (omega (arith, c.requires.room))
 
 pub put-requires-clause-some : goal.put-requires-clause-some
 put-requires-clause-some c = array_some c.args.ranks.now _ (map view.value c.args.values.now) c.in_ok-bytes.ensures.ok
