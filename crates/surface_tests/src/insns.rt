@@ -1,5 +1,6 @@
 //! dex_insn.
-ghost use Rattle.dex_insn.specs.Raw.{IsRaw, raw};
+ghost use Rattle.dex_insn.specs.Raw.{raw};
+ghost use Rattle.dex_insn.specs.Written.{IsRaw};
 
 use dex_base::Fault;
 use dex_insn::{

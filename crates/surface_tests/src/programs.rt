@@ -11,6 +11,8 @@ use dex_program::{
 };
 use std::alloc::Global;
 
+fn copied<T: Copy>(_one: T) {}
+
 /// Each type is `Copy`.
 pub fn names_are_copy<'a>(
     text: Str<'a>,
@@ -20,8 +22,12 @@ pub fn names_are_copy<'a>(
     method: MethodRef<'a>,
     name: Name<'a>,
 ) {
-    let _ = (text, text, ty, ty, proto, proto);
-    let _ = (field, field, method, method, name, name);
+    copied(text);
+    copied(ty);
+    copied(proto);
+    copied(field);
+    copied(method);
+    copied(name);
 }
 
 pub fn values_and_codes_are_copy<'a>(
@@ -31,8 +37,11 @@ pub fn values_and_codes_are_copy<'a>(
     covered: Try<'a>,
     code: Code<'a>,
 ) {
-    let _ = (value, value, insn, insn, catch, catch);
-    let _ = (covered, covered, code, code);
+    copied(value);
+    copied(insn);
+    copied(catch);
+    copied(covered);
+    copied(code);
 }
 
 pub fn classes_are_copy<'a>(
@@ -41,8 +50,10 @@ pub fn classes_are_copy<'a>(
     class: Class<'a>,
     program: Program<'a>,
 ) {
-    let _ = (member, member, method, method);
-    let _ = (class, class, program, program);
+    copied(member);
+    copied(method);
+    copied(class);
+    copied(program);
 }
 
 pub fn text<'a>(units: &'a [u16]) -> Str<'a> {

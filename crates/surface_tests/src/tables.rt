@@ -23,7 +23,11 @@ pub fn rows<'a>(
     field: FieldRef<'a>,
     method: MethodRef<'a>,
 ) {
-    let _ = (row(text), row(ty), row(proto), row(field), row(method));
+    let _ = row(text);
+    let _ = row(ty);
+    let _ = row(proto);
+    let _ = row(field);
+    let _ = row(method);
 }
 
 pub fn tables_read<'a>(
