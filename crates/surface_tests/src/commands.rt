@@ -1,52 +1,10 @@
-//! The command: its words, a run, and a source and a sink that are written by their page alone.
-ghost use Rattle.std.specs.Prelude.{◌≡◌, None, false};
+//! The command: its words, and a run.
+ghost use Rattle.std.specs.Prelude.{◌≡◌, false};
 
 use clap::Error;
 use dex_base::Fault;
 use dexasm_command::{Job, Plan, RunFault, Sink, Source, Watched, plan, run, status, usage_status};
 use std::alloc::Global;
-use std::io;
-
-/// A source that is at its end, and a sink that takes all.
-pub struct End {
-    pub fails: bool,
-    pub ends: bool,
-}
-
-impl Source for End {
-    ghost remaining = { λ _. None };
-
-    ghost failed = { λ end. end.fails };
-
-    ghost ended = { λ end. end.ends };
-
-    fn take(&mut self, piece: &mut [u8]) -> io::Result<usize> {
-        self.ends = self.ends || !piece.is_empty();
-        Ok(0)
-    }
-
-    fn failed(&self) -> bool {
-        self.fails
-    }
-
-    fn ended(&self) -> bool {
-        self.ends
-    }
-}
-
-impl Sink for End {
-    ghost contents = { λ _. None };
-
-    ghost failed = { λ end. end.fails };
-
-    fn put(&mut self, piece: &[u8]) -> io::Result<usize> {
-        Ok(piece.len())
-    }
-
-    fn failed(&self) -> bool {
-        self.fails
-    }
-}
 
 /// Each job, and what it holds with its type.
 pub fn parts_of_job(job: Job) -> bool {
@@ -60,9 +18,8 @@ pub fn planned<'w>(alloc: Global, words: &'w [&'w str]) -> Result<Plan<'w>, Erro
     plan(alloc, words)
 }
 
-pub fn parts_of_plan<'w>(planned: Plan<'w>) -> (Job, Option<&'w str>, Option<&'w str>) {
-    let Plan { job, file, output } = planned;
-    (job, file, output)
+pub fn plan_of<'w>(job: Job, file: Option<&'w str>, output: Option<&'w str>) -> Plan<'w> {
+    Plan { job, file, output }
 }
 
 pub fn done<R: Source, W: Sink>(
