@@ -3,10 +3,10 @@ refusal. (Not the launcher, a script with requests of its own.)
 
 A run with a refused request ends with status 4 and its line, with nothing written, or with the right answer; a run
 without one gives the right answer. By the program of crates/bench single calls are tried too: `parse`, `print_1`,
-`Tables::read`, `read_code`, and `Needed` with its `freeze`; each gives the right sum, or is told as 255. And
-`put_uleb`, `put_sleb`, `put_mutf8`, `put_insn`, `put_array` and `put_code`, each on a Vec that has no room left, which is
-as it was after a refusal. What is counted is the requests that were refused.
-"""
+`Tables::read`, `read_code`, `Needed` with its `freeze`, and `read`, `write`, `strip`, `align_all`, `print` and `run`;
+each gives the right sum, or is told as 255. And `put_uleb`, `put_sleb`, `put_mutf8`, `put_insn`, `put_array` and
+`put_code`, each on a Vec that has no room left, which is as it was after a refusal. What is counted is the requests
+that were refused."""
 import itertools
 import os
 import subprocess
@@ -147,6 +147,13 @@ class Calls(MemoryTest):
 
     def test_needed(self) -> None:
         self.sweep(["needed", "method", "20", "random"])
+
+    def test_whole(self) -> None:
+        """Whole files and programs; `run` into a writer that has room."""
+        (status, file, _, said), _ = self.ran(["assemble"], BRANCHES.encode(), None)
+        self.assertEqual(status, 0, said)
+        for name in ("read", "write", "strip", "align_all", "print", "run"):
+            self.sweep(["calls", name], file)
 
     def test_puts(self) -> None:
         """The calls that append: that call alone which was refused says so, and that its Vec is as it was."""

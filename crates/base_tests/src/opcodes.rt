@@ -163,6 +163,30 @@ fn rows_from_90_on_are_those_of_the_page() -> Result<(), Fail> {
     none_wrong(Ok(first_row_otherwise(&RUNS_90, 0x90, 0xff)))
 }
 
+/// Formats of each length, by their IDs.
+static UNITS: [(&str, Format, usize); 5] = [
+    ("10x", Format::F10x, 1),
+    ("22c", Format::F22c, 2),
+    ("31t", Format::F31t, 3),
+    ("35c", Format::F35c, 3),
+    ("51l", Format::F51l, 5),
+];
+
+/// The ID of the first format that has other units.
+fn first_units_otherwise() -> Option<&'static str> {
+    for (id, format, units) in &UNITS {
+        if format.units() != *units {
+            return Some(*id);
+        }
+    }
+    None
+}
+
+#[test]
+fn units_are_the_first_digit_of_the_id() -> Result<(), Fail> {
+    none_wrong(Ok(first_units_otherwise()))
+}
+
 /// A text that names no opcode.
 struct NoName(&'static str);
 

@@ -42,7 +42,7 @@ fn listing(alloc: Global, classes: u32) -> Result<Vec<u8>, AllocError> {
 }
 
 /// How many members and instructions a program has.
-fn size_of(whole: &Program<'_>) -> u64 {
+pub fn size_of(whole: &Program<'_>) -> u64 {
     let mut sum: u64 = 0;
     for class in whole.classes {
         sum = sum

@@ -1,10 +1,12 @@
 //! The work that `bench/*/run` time beside plain Rust: `bench NAME WORD ..`, where NAME is `codecs`, `insns`, `needed`,
-//! `tables`, `code` or `listing`, and the words are those of the file of that name; and `bench puts`, whose requests for memory
-//! tools/try memory refuses. `bench all` does each once, on little; `tables` and `code` read the file on standard input.
+//! `tables`, `code` or `listing`, and the words are those of the file of that name; and `bench puts` and `bench calls`, whose requests for
+//! memory tools/try memory refuses. `bench all` does each but the last once, on little; `tables`, `code` and `calls` read the file on
+//! standard input.
 //!
 //! docs/MAP.md says where this crate stands among the others.
 #![tactic(auto)]
 
+mod calls;
 mod code;
 mod codecs;
 mod insns;
@@ -29,7 +31,7 @@ fn main(rt: HostRuntime) -> io::Result<()> {
         None => "",
     };
     let mut bytes = Vec::new(rt.alloc());
-    if matches!(name, "all" | "tables" | "code") {
+    if matches!(name, "all" | "tables" | "code" | "calls") {
         rt.stdin().read_to_end(&mut bytes)?;
     }
     run(&rt, name, &words, &bytes)
@@ -47,11 +49,12 @@ fn run(
         "insns" => insns::run(rt, words),
         "needed" => needed::run(rt, words),
         "puts" => puts::run(rt),
+        "calls" => calls::run(rt, words, bytes),
         "tables" => tables::run(rt, words, bytes),
         "code" => code::run(rt, words, bytes),
         "listing" => listing::run(rt, words),
         "all" => run_all(rt, bytes),
-        _ => println!(rt; "bench codecs|insns|needed|puts|tables|code|listing|all WORD .."),
+        _ => println!(rt; "bench codecs|insns|needed|puts|calls|tables|code|listing|all WORD .."),
     }
 }
 

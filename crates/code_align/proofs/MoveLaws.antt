@@ -11,7 +11,7 @@ use Rattle.program_types.specs.Content as made
 use Rattle.program_types.specs.Formed.{insn_at, try_at, TryFormed}
 use Rattle.program_types.specs.Operands.{IsOperand}
 use Rattle.code_align.specs.Aligned.{with_nops, moved_insn, moved_catch, moved_try}
-use Rattle.code_align.specs.Aligning.{IsTryBelow}
+use Rattle.code_align.specs.inner.Aligning.{IsTryBelow}
 
 -- ---- functions that agree below a count move alike
 

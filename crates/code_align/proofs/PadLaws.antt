@@ -10,7 +10,7 @@ use Rattle.program_types.specs.Sizes.{insn_units}
 use Rattle.program_types.specs.declared.payload.Payload.{Payload}
 use Rattle.code_read.proofs.Lists.{at-old, at-new}
 use Rattle.code_align.specs.Aligned.{PayloadsEven, with_nops, PadsPayloads, nops_to, moved, moved_insn, padded, Aligned}
-use Rattle.code_align.specs.Aligning.{is_there, is_odd, pads_from, AreMovedNumbers}
+use Rattle.code_align.specs.inner.Aligning.{is_there, is_odd, pads_from, AreMovedNumbers}
 use Rattle.std.proofs.Math.Seq.{take-length}
 
 -- how many are true

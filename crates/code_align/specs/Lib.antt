@@ -1,2 +1,3 @@
 pub mod Aligned
 pub mod Aligning
+pub mod inner

@@ -1,18 +1,17 @@
 //! Instructions and tries with the numbers in them moved.
 
-ghost use Rattle.std.specs.Prelude.{◌≡◌, ◌<◌, ℕ, length, map, slice_index, IfOk, IsOkUnless};
+ghost use Rattle.std.specs.Prelude.{◌≡◌, ◌<◌, ℕ, length, map, slice_index, IfOk};
 ghost use Rattle.std.specs.List.{AllByRecursion};
-ghost use Rattle.dex_base.specs.Fault.{memory};
 ghost use Rattle.program_types.specs.View.{insn, catch, try};
 ghost use Rattle.program_types.specs.Formed.{insn_at, try_at};
 ghost use Rattle.program_types.specs.Operands.{IsOperand};
 ghost use Rattle.code_align.specs.Aligned.{moved_insn, moved_catch, moved_try, with_nops};
-ghost use Rattle.code_align.specs.Aligning.{IsTryBelow};
+ghost use Rattle.code_align.specs.inner.Aligning.{IsTryBelow};
 
 use bumpalo::Bump;
 use bumpalo::collections::into_bump_slice;
-use dex_base::Fault;
 use program_types::{Catch, Insn, Try};
+use std::alloc::AllocError;
 
 /// The new number of instruction k.
 fn moved(numbers: &[u32], k: u32) -> u32
@@ -23,10 +22,13 @@ fn moved(numbers: &[u32], k: u32) -> u32
 }
 
 /// The targets of a switch's payload, moved.
-fn moved_targets<'a>(arena: &'a Bump, numbers: &[u32], targets: &[u32]) -> Result<&'a [u32], Fault>
+fn moved_targets<'a>(
+    arena: &'a Bump,
+    numbers: &[u32],
+    targets: &[u32],
+) -> Result<&'a [u32], AllocError>
     requires inside { AllByRecursion (λ to. to < length numbers.now) targets.now }
     ensures ok { IfOk result (λ all. all.now ≡ map (slice_index numbers.now) targets.now) }
-    ensures memory { IsOkUnless result memory }
 {
     let mut all = Vec::with_capacity(arena, targets.len())?;
     for i in 0..targets.len() {
@@ -36,10 +38,9 @@ fn moved_targets<'a>(arena: &'a Bump, numbers: &[u32], targets: &[u32]) -> Resul
 }
 
 /// An instruction with its targets moved.
-fn moved_insn<'a>(arena: &'a Bump, numbers: &[u32], one: &Insn<'a>) -> Result<Insn<'a>, Fault>
+fn moved_insn<'a>(arena: &'a Bump, numbers: &[u32], one: &Insn<'a>) -> Result<Insn<'a>, AllocError>
     requires operand { IsOperand (length numbers.now) (insn one.now) }
     ensures ok { IfOk result (λ i. insn i ≡ moved_insn (slice_index numbers.now) (insn one.now)) }
-    ensures memory { IsOkUnless result memory }
 {
     let found = match *one {
         Insn::I10t { op, to } => {
@@ -85,11 +86,10 @@ pub(crate) fn moved_insns<'a>(
     numbers: &[u32],
     pads: &[bool],
     insns: &[Insn<'a>],
-) -> Result<&'a [Insn<'a>], Fault>
+) -> Result<&'a [Insn<'a>], AllocError>
     requires count { length pads.now ≡ length insns.now }
     requires operands { (k : ℕ) → k < length insns.now → IsOperand (length numbers.now) (insn_at (map insn insns.now) k) }
     ensures ok { IfOk result (λ all. map insn all.now ≡ map (moved_insn (slice_index numbers.now)) (with_nops pads.now (map insn insns.now))) }
-    ensures memory { IsOkUnless result memory }
 {
     let mut all = Vec::with_capacity(arena, insns.len())?;
     for k in 0..insns.len() {
@@ -117,10 +117,9 @@ fn moved_catches<'a>(
     arena: &'a Bump,
     numbers: &[u32],
     catches: &[Catch<'a>],
-) -> Result<&'a [Catch<'a>], Fault>
+) -> Result<&'a [Catch<'a>], AllocError>
     requires inside { AllByRecursion (λ c. c.at < length numbers.now) (map catch catches.now) }
     ensures ok { IfOk result (λ all. map catch all.now ≡ map (moved_catch (slice_index numbers.now)) (map catch catches.now)) }
-    ensures memory { IsOkUnless result memory }
 {
     let mut all = Vec::with_capacity(arena, catches.len())?;
     for i in 0..catches.len() {
@@ -130,10 +129,9 @@ fn moved_catches<'a>(
 }
 
 /// A try with what it names moved.
-fn moved_try<'a>(arena: &'a Bump, numbers: &[u32], one: &Try<'a>) -> Result<Try<'a>, Fault>
+fn moved_try<'a>(arena: &'a Bump, numbers: &[u32], one: &Try<'a>) -> Result<Try<'a>, AllocError>
     requires { IsTryBelow (length numbers.now) (try one.now) }
     ensures ok { IfOk result (λ t. try t ≡ moved_try (slice_index numbers.now) (try one.now)) }
-    ensures memory { IsOkUnless result memory }
 {
     let catches = moved_catches(arena, numbers, one.catches)?;
     let catch_all = match one.catch_all {
@@ -153,10 +151,9 @@ pub(crate) fn moved_tries<'a>(
     arena: &'a Bump,
     numbers: &[u32],
     tries: &[Try<'a>],
-) -> Result<&'a [Try<'a>], Fault>
+) -> Result<&'a [Try<'a>], AllocError>
     requires inside { (i : ℕ) → i < length tries.now → IsTryBelow (length numbers.now) (try_at (map try tries.now) i) }
     ensures ok { IfOk result (λ all. map try all.now ≡ map (moved_try (slice_index numbers.now)) (map try tries.now)) }
-    ensures memory { IsOkUnless result memory }
 {
     let mut all = Vec::with_capacity(arena, tries.len())?;
     for i in 0..tries.len() {

@@ -1,18 +1,19 @@
 //! Which instructions get nops before them, and the new numbers of all.
 
-ghost use Rattle.std.specs.Prelude.{◌≡◌, ◌≢◌, ◌≤◌, ◌<◌, ◌+◌, ◌^◌, if◌then◌else◌, ℕ, length, map, IfOk, IfErr, IsOkUnless};
+ghost use Rattle.std.specs.Prelude.{◌≡◌, ◌≢◌, ◌≤◌, ◌<◌, ◌+◌, ◌^◌, if◌then◌else◌, ℕ, length, map, IfOk, IfErr};
 ghost use Rattle.dex_base.specs.Fault.{memory};
 ghost use Rattle.program_types.specs.View.{insn};
 ghost use Rattle.program_types.specs.Formed.{insn_at};
 ghost use Rattle.program_types.specs.Operands.{IsOperand};
 ghost use Rattle.program_types.specs.Sizes.{insn_units};
 ghost use Rattle.code_align.specs.Aligned.{moved};
-ghost use Rattle.code_align.specs.Aligning.{is_odd, pads_from, AreMovedNumbers, too_many};
+ghost use Rattle.code_align.specs.Aligning.{too_many};
+ghost use Rattle.code_align.specs.inner.Aligning.{is_odd, pads_from, AreMovedNumbers};
 
 use code_put::units_of;
 use dex_base::{Fault, fault};
 use program_types::Insn;
-use std::alloc::Global;
+use std::alloc::{AllocError, Global};
 
 /// Whether an instruction at this address is a payload at an odd one.
 #[tactic(auto, unfolding(program_types::specs::Formed::insn_payload))]
@@ -38,11 +39,10 @@ fn after(at: u64, nop: bool, one: &Insn<'_>) -> u64
 }
 
 /// Which instructions get a nop before them: walking forwards, each payload that would stand at an odd address.
-pub(crate) fn pads_of(alloc: Global, insns: &[Insn<'_>]) -> Result<Vec<bool>, Fault>
+pub(crate) fn pads_of(alloc: Global, insns: &[Insn<'_>]) -> Result<Vec<bool>, AllocError>
     requires few { length insns.now ≤ 2147483647 }
     requires operands { (k : ℕ) → k < length insns.now → IsOperand (length insns.now) (insn_at (map insn insns.now) k) }
     ensures ok { IfOk result (λ pads. pads.items ≡ pads_from 0 (map insn insns.now)) }
-    ensures memory { IsOkUnless result memory }
 {
     let mut pads = Vec::with_capacity(alloc, insns.len())?;
     let mut at: u64 = 0;

@@ -13,8 +13,9 @@ use Rattle.code_read.proofs.Lists.{at-old, at-new}
 use Rattle.code_read.specs.Handlers.{Handler, AllBy}
 use Rattle.code_read.specs.Tries.{handler_of}
 use Rattle.code_read.specs.Places.{Rises}
-use Rattle.code_put.specs.Packs.{IsFirstUse, PacksHandler, PacksCatch}
-use Rattle.code_put.specs.Writing.{IsHeldAs, IsDistinct, joined_keys}
+use Rattle.code_put.specs.Packs.{IsFirstUse}
+use Rattle.code_put.specs.inner.Packs.{PacksHandler, PacksCatch}
+use Rattle.code_put.specs.inner.Writing.{IsHeldAs, IsDistinct, joined_keys}
 use Rattle.code_put.proofs.ListLaws.{all-at}
 use Rattle.dex_base.proofs.ListFacts.{zip_length, zip_more, get_last, slice_left, all_get, all_append, all_weaker}
 

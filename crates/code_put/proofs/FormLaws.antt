@@ -13,7 +13,8 @@ use Rattle.program_types.specs.Kinds.{IsOfKind}
 use Rattle.program_types.specs.Sizes.{starts_from, total, insn_units, addresses_of, length_of}
 use Rattle.program_types.specs.Formed.{insn_at}
 use Rattle.code_read.specs.Places.{Rises}
-use Rattle.code_put.specs.Fits.{ShortFits, HasIndexBelow, NameFits, FitsCode, CanBePut}
+use Rattle.code_put.specs.Fits.{ShortFits, HasIndexBelow, FitsCode, CanBePut}
+use Rattle.code_put.specs.inner.Fits.{NameFits}
 use Rattle.code_put.proofs.SizeLaws.{units-some}
 use Rattle.dex_base.proofs.ListFacts.{all_back, all_front}
 use Rattle.code_read.proofs.Runs.{length-starts}

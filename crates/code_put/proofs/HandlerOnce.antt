@@ -6,7 +6,7 @@ use Rattle.dex_base.proofs.ShortestLaws.{AllBytes, shortest_one, shortest_signed
 use Rattle.program_types.specs.Content.{Name, OfDesc, Catch}
 use Rattle.code_read.proofs.PlaceLaws.{position-there}
 use Rattle.code_read.specs.Handlers.{Handler, HasAll, catches_of, AllBy}
-use Rattle.code_put.specs.Packs.{AddressAt, PacksCatch, PacksHandler}
+use Rattle.code_put.specs.inner.Packs.{AddressAt, PacksCatch, PacksHandler}
 use Rattle.dex_base.proofs.WeakerLaws.{IsPrefixUnique-weaker, Shortest-weaker}
 use Rattle.dex_base.proofs.Numbers.{spells_unique}
 use Rattle.dex_base.proofs.Signed.{signed_unique}

@@ -12,7 +12,7 @@ use Rattle.program_types.specs.Content.{Name, OfDesc, Catch}
 use Rattle.code_read.specs.Places.{Rises, position}
 use Rattle.code_read.proofs.PlaceLaws.{position-is}
 use Rattle.code_read.specs.Handlers.{Handler, HasAll, catches_of, TypeBy, AllBy, PartsBy}
-use Rattle.code_put.specs.Packs.{AddressAt, PacksCatch, PacksHandler}
+use Rattle.code_put.specs.inner.Packs.{AddressAt, PacksCatch, PacksHandler}
 
 -- an instruction's own address
 pub position-own : (ss : List ℕ) (n : ℕ) → Rises ss → n < length ss → position ss (get_or ss n 0) ≡ Some n

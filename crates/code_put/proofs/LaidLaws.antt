@@ -15,8 +15,9 @@ use Rattle.code_read.specs.Handlers.{Handler, PacksHandlers, PacksList, handler_
 use Rattle.code_read.specs.Tries.{handler_of}
 use Rattle.code_read.proofs.Lists.{at-old, at-new}
 use Rattle.code_put.specs.Fits.{catches_in}
-use Rattle.code_put.specs.Packs.{AreByFirstUse, PacksHandler, PacksHandlersOf}
-use Rattle.code_put.specs.Writing.{IsDistinct, IsListed, joined_keys, places_from}
+use Rattle.code_put.specs.Packs.{AreByFirstUse, PacksHandlersOf}
+use Rattle.code_put.specs.inner.Packs.{PacksHandler}
+use Rattle.code_put.specs.inner.Writing.{IsDistinct, IsListed, joined_keys, places_from}
 use Rattle.code_put.proofs.ListedLaws.{bytes-few}
 use Rattle.dex_base.proofs.ListFacts.{zip_length}
 use Rattle.std.proofs.lemmas.List.{take_all}

@@ -12,7 +12,8 @@ use Rattle.program_types.specs.Formed.{try_at}
 use Rattle.code_read.specs.Handlers.{Handler, PacksHandlers, handler_at}
 use Rattle.code_read.specs.Tries.{handler_of}
 use Rattle.code_read.specs.Places.{Rises}
-use Rattle.code_put.specs.Packs.{IsFirstUse, PacksHandler, PacksHandlersOf}
+use Rattle.code_put.specs.Packs.{IsFirstUse, PacksHandlersOf}
+use Rattle.code_put.specs.inner.Packs.{PacksHandler}
 use Rattle.code_put.proofs.DistinctLaws.{zip-left}
 use Rattle.code_put.proofs.HandlerOnce.{IsInjective, handler-once, two-parts}
 use Rattle.dex_insn.proofs.Mnemonics.{equal}

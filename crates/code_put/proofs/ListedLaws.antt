@@ -5,7 +5,7 @@ use Rattle.std.proofs.lemmas.List.{drop_more, length-map, drop_all}
 use Rattle.std.proofs.lemmas.Option.{slice_get-map, slice_get_within, get_or_from_slice_get}
 use Rattle.dex_base.specs.Grammar.{Appends}
 use Rattle.dex_base.specs.Leb128.{Spells, Shortest}
-use Rattle.code_put.specs.Writing.{joined_keys, places_from, IsListed}
+use Rattle.code_put.specs.inner.Writing.{joined_keys, places_from, IsListed}
 use Rattle.code_put.proofs.HandlerPacks.{alone}
 
 abbrev Held : Type 0

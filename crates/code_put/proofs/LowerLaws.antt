@@ -14,7 +14,7 @@ use Rattle.program_types.specs.Sizes.{insn_units}
 use Rattle.code_read.specs.Linked.{lead, payload_of}
 use Rattle.code_read.specs.Symbols.{linked, ints, ints_from}
 use Rattle.code_put.specs.Packs.{Lowers}
-use Rattle.code_put.specs.Writing.{PutInsn}
+use Rattle.code_put.specs.inner.Writing.{PutInsn}
 
 from-at : (b : List ℕ) (j n i : ℕ) → i < n → slice_get (ints_from b j n) i ≡ Some (int_at b (j + i))
 from-at b j zero i l = absurd (omega arith)

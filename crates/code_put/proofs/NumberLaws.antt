@@ -7,7 +7,7 @@ use Rattle.std.proofs.lemmas.Slice.Eq.{bytes_eq-Decides}
 use Rattle.std.proofs.lemmas.Option.{slice_get-map}
 use Rattle.std.proofs.lemmas.List.{length-map, map-append}
 use Rattle.indexmap.specs.IndexSet.{insert_key}
-use Rattle.code_put.specs.Writing.{IsHeldAs}
+use Rattle.code_put.specs.inner.Writing.{IsHeldAs}
 use Rattle.std.proofs.lemmas.Bool.{or_parts}
 
 abbrev Held : Type 0

@@ -3,7 +3,8 @@ use Rattle.std.proofs.Common.{◌≡◌, ℕ, ◌<◌, ◌++◌, List, [], lengt
 use Rattle.std.specs.List.{AllByRecursion}
 use Rattle.program_types.specs.Content.{Name, Code}
 use Rattle.program_types.specs.Sizes.{addresses_of, length_of}
-use Rattle.code_put.specs.Packs.{AreLowered, joined, padding, items_bytes, head_bytes, PutInsns, PacksHandlersOf, PacksCode}
+use Rattle.code_put.specs.Packs.{AreLowered, joined, padding, items_bytes, head_bytes, PacksHandlersOf, PacksCode}
+use Rattle.code_put.specs.inner.Packs.{PutInsns}
 
 regroup : (h j p t l : List ℕ) → (((h ++ j) ++ p) ++ t) ++ l ≡ h ++ (j ++ (p ++ (t ++ l)))
 regroup h j p t l = append_assoc ((h ++ j) ++ p) t l ∙ append_assoc (h ++ j) p (t ++ l) ∙ append_assoc h j (p ++ (t ++ l))

@@ -14,10 +14,12 @@ use Rattle.program_types.specs.Sizes.{addresses_of, length_of}
 use Rattle.code_read.specs.Places.{position, count_below}
 use Rattle.code_read.proofs.PlaceLaws.{count-is}
 use Rattle.code_read.specs.Item.{try_start, try_count, try_handler}
-use Rattle.code_read.specs.Handlers.{Handler, AddressBy, TypeBy, CatchBy, AllBy, PartsBy, SpellsHandlers, SpellsHandler, PacksHandlers, catches_of, handler_at}
+use Rattle.code_read.specs.Handlers.{Handler, AddressBy, TypeBy, CatchBy, AllBy, PartsBy, SpellsHandlers, PacksHandlers, catches_of, handler_at}
+use Rattle.code_read.specs.inner.Handlers.{SpellsHandler}
 use Rattle.code_read.specs.Tries.{TryHolds, SpellsTries}
 use Rattle.code_put.specs.Fits.{TryFits}
-use Rattle.code_put.specs.Packs.{PacksHandler, PacksHandlersOf, bound_of, covered, item_bytes, items_bytes}
+use Rattle.code_put.specs.Packs.{PacksHandlersOf, bound_of, covered, item_bytes, items_bytes}
+use Rattle.code_put.specs.inner.Packs.{PacksHandler}
 use Rattle.code_put.proofs.HandlerPacks.{position-own}
 use Rattle.code_put.proofs.FormLaws.{addresses-rise, length-addresses, address-low}
 

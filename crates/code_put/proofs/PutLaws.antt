@@ -13,10 +13,11 @@ use Rattle.std.specs.List.{AllByRecursion}
 use Rattle.code_read.specs.Walk.{raw_at}
 use Rattle.code_read.specs.Linked.{payload_of}
 use Rattle.code_read.proofs.Lists.{at-old, at-new}
-use Rattle.code_put.specs.Packs.{joined, Lowers, IsLowered, PutInsns}
+use Rattle.code_put.specs.Packs.{joined, Lowers, IsLowered}
+use Rattle.code_put.specs.inner.Packs.{PutInsns}
 use Rattle.program_code_rules.specs.Branches.{IsOrigin}
 use Rattle.code_put.specs.Fits.{IsEven, OffsetsFit, BranchFits, TargetsFit, distance_of}
-use Rattle.code_put.specs.Writing.{PutInsn}
+use Rattle.code_put.specs.inner.Writing.{PutInsn}
 
 joined-more : (rs : List Raw) (r : Raw) → joined (rs ++ r ∷ []) ≡ joined rs ++ written r
 joined-more [] r = append-nil (written r)

@@ -1,7 +1,7 @@
 -- Ranks are indices.
 use Rattle.std.proofs.Common.{ℕ, ◌<◌, ap, arith}
 use Rattle.dex_insn.specs.declared.opcode.IndexKind.TheVariants as kind
-use Rattle.code_read.specs.Symbols.{IsFunctional}
+use Rattle.code_read.specs.inner.Symbols.{IsFunctional}
 use Rattle.program_types.specs.Content.{Name, OfText, OfDesc, OfField, OfMethod}
 use Rattle.tables_names.specs.Closure.{Five, AreRising, NameRanks}
 use Rattle.code_put.specs.Fits.{HasIndexBelow}

@@ -33,15 +33,6 @@ ShortFits N k i = IfSome (short_name i) (λ which. IsOfKind k which → (index :
 abbrev pub HasIndexBelow : (ℕ → Name → Type 0) → ℕ → Name → Type 0
 HasIndexBelow N limit which = (i : ℕ) × (i < limit) × N i which
 
--- the name in the instruction, if it has one, fits its field
-abbrev pub NameFits : (ℕ → Name → Type 0) → Insn → Type 0
-NameFits N (made.I21c op a which) = HasIndexBelow N 65536 which
-NameFits N (made.I22c op a b which) = HasIndexBelow N 65536 which
-NameFits N (made.I31c op a which) = HasIndexBelow N 4294967296 which
-NameFits N (made.I35c op n regs which) = HasIndexBelow N 65536 which
-NameFits N (made.I3rc op n first which) = HasIndexBelow N 65536 which
-NameFits N _ = ⊤
-
 -- ---- offsets
 
 -- how far an instruction is from an address, in units

@@ -1,4 +1,3 @@
 pub mod Fits
 pub mod Packs
-pub mod Writing
-pub mod Laws
+pub mod inner

@@ -2,20 +2,18 @@
 -- Page: "Dalvik Executable format", "code_item", "try_item", "encoded_catch_handler_list" and "encoded_catch_handler".
 use Rattle.std.specs.Prelude.{ℕ, ◌≡◌, ◌+◌, ◌-◌, ◌*◌, ◌<◌, ◌≤◌, ◌%◌, ◌++◌, ◌==◌, if◌then◌else◌, List, [], ◌∷◌, length, map, min, slice_index, Some, true}
 use Rattle.std.specs.List.{AllByRecursion, AllZip, flat_map}
-use Rattle.dex_base.specs.Via.{Via}
-use Rattle.dex_base.specs.Leb128.{Spells, SpellsSigned, Shortest}
 use Rattle.dex_base.specs.Fields.{u16_bytes, u32_bytes}
 use Rattle.dex_insn.specs.Raw.{Raw, units, is_payload}
 use Rattle.dex_insn.specs.Written.{written, IsRaw}
-use Rattle.program_types.specs.Content.{Name, Catch, Insn, Code, Try}
+use Rattle.program_types.specs.Content.{Name, Insn, Code, Try}
 use Rattle.program_types.specs.Formed.{insn_at, try_at, insn_payload}
 use Rattle.program_types.specs.Sizes.{insn_units, addresses_of, length_of}
-use Rattle.code_read.specs.Places.{Rises, position}
+use Rattle.code_read.specs.Places.{Rises}
 use Rattle.code_read.specs.Walk.{raw_at}
 use Rattle.code_read.specs.Symbols.{Says}
 use Rattle.code_read.specs.Linked.{lead, payload_of}
 use Rattle.program_code_rules.specs.Branches.{IsOrigin}
-use Rattle.code_read.specs.Handlers.{Handler, CatchBy, HandlerBy, PacksHandlers, handler_at}
+use Rattle.code_read.specs.Handlers.{Handler, PacksHandlers, handler_at}
 use Rattle.code_read.specs.Tries.{handler_of}
 
 -- ---- instructions
@@ -44,25 +42,7 @@ pub record AreLowered (N : ℕ → Name → Type 0) (is : List Insn) (ss : List 
   pub count : length rs ≡ length is
   pub each : (k : ℕ) → k < length rs → IsLowered N is ss k (raw_at rs k)
 
--- What is written of the instructions is appended.
-pub record PutInsns (N : ℕ → Name → Type 0) (is : List Insn) (ss old new : List ℕ) : Type 0 where
-  pub raws : List Raw
-  pub lowered : AreLowered N is ss raws
-  pub is_new : new ≡ old ++ joined raws
-
 -- ---- handlers, by the shortest numbers
-
--- an instruction, by its address
-abbrev pub AddressAt : List ℕ → List ℕ → ℕ → Type 0
-AddressAt ss = Via (Shortest Spells) (λ address n. position ss address ≡ Some n)
-
--- A type and where its handler begins.
-abbrev pub PacksCatch : (ℕ → Name → Type 0) → List ℕ → List ℕ → Catch → Type 0
-PacksCatch = CatchBy (Shortest Spells) (Shortest SpellsSigned)
-
--- A handler: the count, then its parts.
-abbrev pub PacksHandler : (ℕ → Name → Type 0) → List ℕ → List ℕ → Handler → Type 0
-PacksHandler = HandlerBy (Shortest Spells) (Shortest SpellsSigned)
 
 -- Where the handlers of the tries begin.
 pub record AreOffsets (hs : List (ℕ × Handler)) (ts : List Try) (offs : List ℕ) : Type 0 where

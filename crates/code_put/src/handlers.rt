@@ -11,8 +11,9 @@ ghost use Rattle.program_types.specs.Formed.{TryFormed};
 ghost use Rattle.program_types.specs.Mentions.{names_of_try};
 ghost use Rattle.tables_names.specs.Closure.{Five, NameRanks};
 ghost use Rattle.code_read.specs.Tries.{handler_of};
-ghost use Rattle.code_put.specs.Packs.{AddressAt, PacksCatch, PacksHandler, PacksHandlersOf};
-ghost use Rattle.code_put.specs.Writing.{IsHeldAs, IsDistinct, IsDistinctOf, IsListed, joined_keys};
+ghost use Rattle.code_put.specs.Packs.{PacksHandlersOf};
+ghost use Rattle.code_put.specs.inner.Packs.{AddressAt, PacksCatch, PacksHandler};
+ghost use Rattle.code_put.specs.inner.Writing.{IsHeldAs, IsDistinct, IsDistinctOf, IsListed, joined_keys};
 ghost use Rattle.code_put.specs.Fits.{HasIndexBelow, catches_in};
 
 use crate::begins::Begins;

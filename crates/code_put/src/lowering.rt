@@ -14,7 +14,8 @@ ghost use Rattle.dex_insn.specs.Raw.{raw, units};
 ghost use Rattle.dex_insn.specs.Written.{IsRaw};
 ghost use Rattle.code_read.specs.Linked.{lead, payload_of};
 ghost use Rattle.code_read.specs.Symbols.{linked, Says};
-ghost use Rattle.code_put.specs.Fits.{HasIndexBelow, NameFits, BranchFits, distance_of};
+ghost use Rattle.code_put.specs.Fits.{HasIndexBelow, BranchFits, distance_of};
+ghost use Rattle.code_put.specs.inner.Fits.{NameFits};
 
 use crate::begins::Begins;
 use dex_insn::RawInsn;

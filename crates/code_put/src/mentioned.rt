@@ -1,8 +1,7 @@
 //! What instructions name: how many names, and their indices.
 
-ghost use Rattle.std.specs.Prelude.{◌≡◌, ◌≤◌, ◌∷◌, ◌++◌, List, [], IfOk, OnOk, IsOkUnless, length, map, option_map};
+ghost use Rattle.std.specs.Prelude.{◌≡◌, ◌≤◌, ◌∷◌, ◌++◌, List, [], IfOk, OnOk, length, map, option_map};
 ghost use Rattle.std.specs.List.{AllByRecursion, flat_map};
-ghost use Rattle.dex_base.specs.Fault.{memory};
 ghost use Rattle.program_types.specs.Content.{Name as Named};
 ghost use Rattle.program_types.specs.Mentions.{if_any, names_of_insn};
 ghost use Rattle.program_types.specs.View.{insn};
@@ -11,9 +10,8 @@ ghost use Rattle.tables_names.specs.Closure.{NameRanks};
 ghost use Rattle.tables_names.specs.Noted.{AreRanks};
 ghost use Rattle.code_put.specs.Fits.{HasIndexBelow};
 
-use dex_base::Fault;
 use program_types::{Insn, Name, name_of};
-use std::alloc::Global;
+use std::alloc::{AllocError, Global};
 use tables_names::Ranks;
 
 /// How many names an instruction has: one or none.
@@ -43,10 +41,9 @@ pub fn mentions_in(insns: &[Insn<'_>]) -> usize
 }
 
 /// Appends the index of a name.
-fn put_name(indices: &mut Vec<usize>, ranks: &Ranks<'_>, name: Name<'_>) -> Result<(), Fault>
+fn put_name(indices: &mut Vec<usize>, ranks: &Ranks<'_>, name: Name<'_>) -> Result<(), AllocError>
     requires { HasIndexBelow (NameRanks ranks.now) 4294967296 (view.name name) }
     ensures ok { OnOk result ((names : List Named) → AreRanks ranks.now names indices.old.items → AreRanks ranks.now (names ++ view.name name.entry ∷ []) indices.new.items) }
-    ensures memory { IsOkUnless result memory }
 {
     let Some(index) = ranks.index_of(name) else {
         unreachable!();
@@ -56,10 +53,9 @@ fn put_name(indices: &mut Vec<usize>, ranks: &Ranks<'_>, name: Name<'_>) -> Resu
 }
 
 /// Appends the index of what an instruction names, if it names anything.
-fn put_index(indices: &mut Vec<usize>, ranks: &Ranks<'_>, one: &Insn<'_>) -> Result<(), Fault>
+fn put_index(indices: &mut Vec<usize>, ranks: &Ranks<'_>, one: &Insn<'_>) -> Result<(), AllocError>
     requires { AllByRecursion (HasIndexBelow (NameRanks ranks.now) 4294967296) (names_of_insn (insn one.now)) }
     ensures ok { OnOk result ((names : List Named) → AreRanks ranks.now names indices.old.items → AreRanks ranks.now (names ++ names_of_insn (insn one.now)) indices.new.items) }
-    ensures memory { IsOkUnless result memory }
 {
     match name_of(one) {
         Some(name) => put_name(indices, ranks, name),
@@ -72,10 +68,9 @@ pub(crate) fn indices_of(
     alloc: Global,
     ranks: &Ranks<'_>,
     insns: &[Insn<'_>],
-) -> Result<Vec<usize>, Fault>
+) -> Result<Vec<usize>, AllocError>
     requires { AllByRecursion (HasIndexBelow (NameRanks ranks.now) 4294967296) (flat_map names_of_insn (map insn insns.now)) }
     ensures ok { IfOk result (λ indices. AreRanks ranks.now (flat_map names_of_insn (map insn insns.now)) indices.items) }
-    ensures memory { IsOkUnless result memory }
 {
     let mut indices = Vec::new(alloc);
     for one in insns {

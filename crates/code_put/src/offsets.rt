@@ -6,7 +6,7 @@ ghost use Rattle.program_types.specs.Formed.{insn_at, PayloadHolds};
 ghost use Rattle.program_types.specs.Operands.{IsOperand};
 ghost use Rattle.program_types.specs.View.{insn};
 ghost use Rattle.code_put.specs.Fits.{distance_of, BranchFits, TargetsFit, OffsetsFit, IsEven};
-ghost use Rattle.program_code_rules.specs.Branches.{AreOrigins};
+ghost use Rattle.program_code_rules.specs.inner.Branches.{AreOrigins};
 
 use program_types::{Insn, payload_of, targets_of};
 

@@ -12,7 +12,7 @@ use crate::begins::Begins;
 use crate::items::put_u32;
 use crate::lowering::distance;
 use dex_base::Fault;
-use std::alloc::Global;
+use std::alloc::{AllocError, Global};
 
 /// The numbers as bytes, four each, the low byte first.
 pub(crate) fn int_bytes(alloc: Global, numbers: &[i32]) -> Result<Vec<u8>, Fault>
@@ -33,12 +33,11 @@ pub(crate) fn distances(
     starts: &Begins<'_>,
     at: u32,
     targets: &[u32],
-) -> Result<Vec<i32>, Fault>
+) -> Result<Vec<i32>, AllocError>
     requires inside { AllByRecursion (λ to. to < length starts.now) targets.now }
     requires fits { AllByRecursion (λ to. FitsSigned w32 (distance_of starts.now at to)) targets.now }
     ensures ok { IfOk result (λ zs. map (lead starts.now at) zs.items ≡ targets.now) }
     ensures count { IfOk result (λ zs. length zs.items ≡ length targets.now) }
-    ensures memory { IsOkUnless result memory }
 {
     let mut all = Vec::with_capacity(alloc, targets.len())?;
     for to in targets {

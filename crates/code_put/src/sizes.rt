@@ -10,7 +10,7 @@ ghost use Rattle.program_types.specs.Operands.{IsOperand};
 
 use dex_base::Fault;
 use program_types::{Code, Insn};
-use std::alloc::Global;
+use std::alloc::{AllocError, Global};
 
 /// How many units an instruction takes: the first digit of its format's ID, or what the payload's format says.
 ///
@@ -48,12 +48,11 @@ pub(crate) struct Starts {
 }
 
 /// The addresses of instructions.
-pub(crate) fn starts_of(alloc: Global, insns: &[Insn<'_>]) -> Result<Starts, Fault>
+pub(crate) fn starts_of(alloc: Global, insns: &[Insn<'_>]) -> Result<Starts, AllocError>
     requires few { length insns.now ≤ 2147483647 }
     requires operands { (k : ℕ) → k < length insns.now → IsOperand (length insns.now) (insn_at (map insn insns.now) k) }
     ensures ok { IfOk result (λ all. all.starts.items ≡ addresses_of (map insn insns.now)) }
     ensures end { IfOk result (λ all. all.end ≡ length_of (map insn insns.now)) }
-    ensures memory { IsOkUnless result memory }
 {
     let mut starts = Vec::with_capacity(alloc, insns.len())?;
     let mut at: u64 = 0;

@@ -13,7 +13,7 @@ use Rattle.code_read.specs.Places.{Rises, target_at}
 use Rattle.code_read.specs.Walk.{Walks, starts, raw_at, address}
 use Rattle.code_read.specs.Symbols.{linked, name_in, ints}
 use Rattle.code_read.specs.Linked.{lead, payload_of, IsLinked, SpellsInsns}
-use Rattle.code_read.specs.ByAddress.{offsets_of, CountFrom, OffsetLeadsTo, LeadsByAddress, IsLinkedByAddress, SpellsInsnsByAddress}
+use Rattle.code_read.specs.inner.ByAddress.{offsets_of, CountFrom, OffsetLeadsTo, LeadsByAddress, IsLinkedByAddress, SpellsInsnsByAddress}
 use Rattle.code_read.proofs.Runs.{run-rises, length-of_starts}
 use Rattle.code_read.proofs.PlaceLaws.{target-there, target-to}
 use Rattle.code_read.proofs.LinkLaws.{kind-linked}

@@ -8,7 +8,7 @@ use Rattle.dex_container.specs.Where.{slice, IsSectionRest}
 use Rattle.dex_container.proofs.Framed.{IsSection-one}
 use Rattle.dex_container.proofs.Standing.{At-one}
 use Rattle.program_types.specs.Content.{Name, Code}
-use Rattle.code_read.specs.Symbols.{IsFunctional}
+use Rattle.code_read.specs.inner.Symbols.{IsFunctional}
 use Rattle.program_types.specs.Formed.{RegistersHold}
 use Rattle.code_read.specs.Code.{SpellsBody, BodyStands, SpellsCode, CodeStands}
 use Rattle.code_read.specs.Faults.{CodeBreaks, RegistersBreak, CodeOverruns}

@@ -19,7 +19,7 @@ use Rattle.program_types.specs.Kinds.{IsOfKind}
 use Rattle.tables_rows.specs.Names.{Names, NameIsAt}
 use Rattle.code_read.specs.Walk.{starts}
 use Rattle.code_read.specs.Linked.{SpellsInsns}
-use Rattle.code_read.specs.Symbols.{IsFunctional}
+use Rattle.code_read.specs.inner.Symbols.{IsFunctional}
 use Rattle.code_read.specs.Item.{insns_size, tries_of, registers_of, ins_of, outs_of, insns_bytes, items_of, units_end, tries_begin, list_begin, HasFixedParts}
 use Rattle.code_read.specs.Code.{SpellsBody, BodyStands, CodeStands}
 use Rattle.code_read.specs.Faults.{ItemBreaks, CodeBreaks, RegistersBreak, CodeOverruns}

@@ -25,7 +25,8 @@ use Rattle.code_read.specs.Linked.{SpellsInsns}
 use Rattle.code_read.proofs.PlaceLaws.{position-there}
 use Rattle.code_read.proofs.Runs.{run-at, table-of, run-few}
 use Rattle.code_read.specs.Item.{insns_size, tries_of, insns_bytes, items_of, list_begin, units_end, try_start, try_count}
-use Rattle.code_read.specs.Handlers.{Handler, catches_of, SpellsAddress, SpellsCatch, SpellsHandler, SpellsHandlers, handler_at}
+use Rattle.code_read.specs.Handlers.{Handler, catches_of, SpellsHandlers, handler_at}
+use Rattle.code_read.specs.inner.Handlers.{SpellsAddress, SpellsCatch, SpellsHandler}
 use Rattle.code_read.specs.Tries.{SpellsTries, handler_of}
 use Rattle.code_read.specs.Code.{SpellsBody, CodeStands}
 use Rattle.code_read.proofs.FaultLaws.{units-even}

@@ -6,16 +6,16 @@ use Rattle.dex_insn.proofs.Unique.{slice-length}
 use Rattle.program_types.specs.Content.{Name, Code, Insn, Try}
 use Rattle.code_read.specs.Walk.{starts}
 use Rattle.code_read.specs.InsnFaults.{InsnsBreak}
-use Rattle.code_read.specs.InsnReading.{ReadInsns}
+use Rattle.code_read.specs.inner.InsnReading.{ReadInsns}
 use Rattle.code_read.proofs.InsnsOnce.{walks-one}
 use Rattle.code_read.proofs.InsnFaultLaws.{insns-clear}
 use Rattle.code_read.specs.Linked.{SpellsInsns}
-use Rattle.code_read.specs.Symbols.{IsFunctional}
+use Rattle.code_read.specs.inner.Symbols.{IsFunctional}
 use Rattle.code_read.specs.Item.{tries_of, insns_size, units_end, tries_begin, list_begin, insns_bytes, items_of, HasFixedParts}
 use Rattle.code_read.specs.Tries.{SpellsTries, handler_of}
 use Rattle.program_types.specs.Formed.{try_at}
 use Rattle.code_read.specs.Faults.{HasHandlers, TriesBreak, ItemBreaks}
-use Rattle.code_read.specs.ItemReading.{IsCodeItem}
+use Rattle.code_read.specs.inner.ItemReading.{IsCodeItem}
 use Rattle.code_read.specs.declared.item.Item.{Item}
 use Rattle.code_read.proofs.ItemLaws.{ReadCode, begins_late}
 

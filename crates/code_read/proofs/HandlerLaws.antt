@@ -8,7 +8,7 @@ use Rattle.dex_base.proofs.Numbers.{spells_unique}
 use Rattle.dex_base.proofs.Signed.{signed_unique}
 use Rattle.program_types.specs.Content.{Catch, Name, OfDesc, Descriptor}
 use Rattle.code_read.specs.Places.{position}
-use Rattle.code_read.specs.Symbols.{IsFunctional}
+use Rattle.code_read.specs.inner.Symbols.{IsFunctional}
 use Rattle.dex_insn.specs.declared.opcode.IndexKind.TheVariants as kind
 use Rattle.code_read.specs.Handlers.{Handler, catches_of, AddressBy, TypeBy, CatchBy, AllBy, PartsBy, HandlerBy, ListBy, SpellsList}
 use Rattle.dex_base.proofs.ListFacts.{some_one}

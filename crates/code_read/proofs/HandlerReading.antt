@@ -12,8 +12,9 @@ use Rattle.dex_base.proofs.GrammarLaws.{Then-none_first, Many-none, Many-unique}
 use Rattle.dex_base.proofs.Numbers.{spells_unique}
 use Rattle.dex_base.proofs.Signed.{signed_unique}
 use Rattle.program_types.specs.Content.{Catch, Name}
-use Rattle.code_read.specs.Symbols.{IsFunctional}
-use Rattle.code_read.specs.Handlers.{Handler, catches_of, HasAll, AllBy, PartsBy, SpellsAddress, SpellsCatchType, SpellsCatch, SpellsHandler}
+use Rattle.code_read.specs.inner.Symbols.{IsFunctional}
+use Rattle.code_read.specs.Handlers.{Handler, catches_of, HasAll, AllBy, PartsBy}
+use Rattle.code_read.specs.inner.Handlers.{SpellsAddress, SpellsCatchType, SpellsCatch, SpellsHandler}
 use Rattle.code_read.proofs.HandlerLaws.{catch-unique}
 
 -- The catch-all, there exactly if the count isn't positive.

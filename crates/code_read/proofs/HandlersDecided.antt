@@ -14,8 +14,9 @@ use Rattle.dex_insn.specs.declared.opcode.IndexKind.TheVariants as kind
 use Rattle.program_types.specs.Content.{Name, OfDesc, Descriptor}
 use Rattle.program_types.specs.Kinds.{IsOfKind}
 use Rattle.code_read.specs.Places.{position}
-use Rattle.code_read.specs.Symbols.{IsFunctional}
-use Rattle.code_read.specs.Handlers.{Handler, catches_of, HasAll, SpellsAddress, SpellsCatchType, SpellsCatch, SpellsHandler, SpellsList}
+use Rattle.code_read.specs.inner.Symbols.{IsFunctional}
+use Rattle.code_read.specs.Handlers.{Handler, catches_of, HasAll, SpellsList}
+use Rattle.code_read.specs.inner.Handlers.{SpellsAddress, SpellsCatchType, SpellsCatch, SpellsHandler}
 use Rattle.code_read.proofs.HandlerLaws.{type-unique, catch-unique, parts-unique, handler-unique}
 use Rattle.code_read.proofs.HandlerReading.{SpellsCatchAll, SpellsParts, all-none, all-some}
 use Rattle.code_read.proofs.Deciding.{decide-then, decide-many, decide-via, decide-sleb, decide-there}

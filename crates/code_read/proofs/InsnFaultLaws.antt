@@ -7,7 +7,7 @@ use Rattle.program_types.specs.Formed.{PayloadHolds}
 use Rattle.program_code_rules.specs.First.{AllHold}
 use Rattle.program_code_rules.specs.Branches.{BranchLands, BranchMoves, SwitchLands}
 use Rattle.code_read.specs.Walk.{raw_at, starts}
-use Rattle.code_read.specs.Symbols.{IsFunctional}
+use Rattle.code_read.specs.inner.Symbols.{IsFunctional}
 use Rattle.code_read.specs.Linked.{NameHolds, AreLinked, KeepRules, SpellsInsns}
 use Rattle.code_read.specs.InsnFaults.{Breaks, LinkedBreak, RulesBreak, InsnsBreak}
 use Rattle.code_read.proofs.Runs.{no-walk-fault, length-of_starts}

@@ -15,7 +15,7 @@ use Rattle.code_read.specs.Walk.{Walks, starts, raw_at, address}
 use Rattle.code_read.specs.Symbols.{linked, Says, InsnHasName}
 use Rattle.code_read.specs.Linked.{lead, NameHolds, AreLinked, KeepRules, SpellsInsns}
 use Rattle.code_read.specs.InsnFaults.{Breaks, LinkedBreak, InsnsBreak}
-use Rattle.code_read.specs.InsnReading.{AreHalfLinked}
+use Rattle.code_read.specs.inner.InsnReading.{AreHalfLinked}
 use Rattle.code_read.proofs.LinkLaws.{kind-linked, all-linked}
 use Rattle.code_read.proofs.Runs.{length-of_starts}
 use Rattle.code_read.proofs.Deciding.{first-or-all, build}

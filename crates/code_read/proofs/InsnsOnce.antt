@@ -12,7 +12,8 @@ use Rattle.program_types.specs.Operands.{IsOfIndexKind}
 use Rattle.program_code_rules.specs.Branches.{IsOrigin}
 use Rattle.tables_rows.specs.Names.{Names, NameIsAt}
 use Rattle.code_read.specs.Walk.{Walks, starts, raw_at, address}
-use Rattle.code_read.specs.Symbols.{linked, Says, IndexStandsFor, name_in, IsFunctional}
+use Rattle.code_read.specs.Symbols.{linked, Says, IndexStandsFor, name_in}
+use Rattle.code_read.specs.inner.Symbols.{IsFunctional}
 use Rattle.code_read.specs.Linked.{lead, payload_of, AreLinked, SpellsInsns}
 use Rattle.code_read.proofs.Runs.{run-once}
 use Rattle.code_read.proofs.LinkLaws.{IsLike, kind-linked, wants-linked, reach-linked, own-origin, origin-like}

@@ -8,13 +8,13 @@ use Rattle.dex_insn.specs.Raw.{Raw}
 use Rattle.dex_insn.proofs.More.{slice-append}
 use Rattle.program_types.specs.Content.{Name, Code, Insn, Try}
 use Rattle.code_read.specs.Walk.{starts}
-use Rattle.code_read.specs.Symbols.{IsFunctional}
-use Rattle.code_read.specs.InsnReading.{ReadInsns}
+use Rattle.code_read.specs.inner.Symbols.{IsFunctional}
+use Rattle.code_read.specs.inner.InsnReading.{ReadInsns}
 use Rattle.code_read.specs.Item.{registers_of, ins_of, outs_of, tries_of, insns_size, units_end, tries_begin, list_begin, insns_bytes, items_of, HasFixedParts}
 use Rattle.code_read.specs.Linked.{SpellsInsns}
 use Rattle.code_read.specs.Tries.{SpellsTries}
 use Rattle.code_read.specs.Code.{SpellsBody}
-use Rattle.code_read.specs.ItemReading.{ReadTries, IsCodeItem}
+use Rattle.code_read.specs.inner.ItemReading.{ReadTries, IsCodeItem}
 use Rattle.code_read.specs.declared.item.Item.{Item}
 use Rattle.code_read.proofs.InsnsOnce.{walks-one, insns-one}
 use Rattle.code_read.proofs.TriesOnce.{tries-one}

@@ -11,11 +11,12 @@ use Rattle.program_types.specs.Content as made
 use Rattle.program_types.specs.Formed.{AreAlike, IsSwitch, insn_at, insn_payload, insn_wants, insn_reach, insn_registers, RefersToPayload}
 use Rattle.program_types.specs.Sizes.{insn_units, addresses_of, starts_from}
 use Rattle.program_types.specs.declared.payload.Payload.{Payload}
-use Rattle.program_code_rules.specs.Branches.{IsOrigin, AreOrigins}
+use Rattle.program_code_rules.specs.Branches.{IsOrigin}
+use Rattle.program_code_rules.specs.inner.Branches.{AreOrigins}
 use Rattle.code_read.specs.Walk.{starts, raw_at, address}
 use Rattle.code_read.specs.Symbols.{linked, ints, ints_from, name_in, Says, InsnNames, InsnHasName}
 use Rattle.code_read.specs.Linked.{lead, payload_of, AreLinked}
-use Rattle.code_read.specs.InsnReading.{IsHalfLinked, AreHalfLinked}
+use Rattle.code_read.specs.inner.InsnReading.{IsHalfLinked, AreHalfLinked}
 
 pub at_raw : (xs : List RawInsn) (k : ℕ) → raw_at (map raw.raw xs) k ≡ raw.raw (get_or xs k (held.I10x 0))
 unfolding raw_at raw.raw

@@ -9,12 +9,13 @@ use Rattle.dex_base.proofs.PlacedLaws.{Placed-push, Placed-each}
 use Rattle.dex_base.proofs.Numbers.{spells_unique, some_byte}
 use Rattle.dex_base.proofs.Signed.{signed_unique}
 use Rattle.program_types.specs.Content.{Name}
-use Rattle.code_read.specs.Symbols.{IsFunctional}
+use Rattle.code_read.specs.inner.Symbols.{IsFunctional}
 use Rattle.code_read.specs.Places.{Rises}
-use Rattle.code_read.specs.Handlers.{Handler, SpellsHandler, SpellsList}
-use Rattle.code_read.specs.HandlerViews.{handler}
+use Rattle.code_read.specs.Handlers.{Handler, SpellsList}
+use Rattle.code_read.specs.inner.Handlers.{SpellsHandler}
+use Rattle.code_read.specs.inner.HandlerViews.{handler}
 use Rattle.code_read.specs.declared.handlers.Caught.{Caught}
-use Rattle.code_read.specs.ItemReading.{ReadList}
+use Rattle.code_read.specs.inner.ItemReading.{ReadList}
 use Rattle.code_read.proofs.HandlerLaws.{handler-unique}
 
 -- After the count stand these handlers, at these offsets from the list's begin, and what is left follows.

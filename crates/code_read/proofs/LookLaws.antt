@@ -12,14 +12,15 @@ use Rattle.dex_insn.specs.Raw as raw
 use Rattle.dex_insn.specs.Raw.{Raw, units}
 use Rattle.program_types.specs.Content.{Name, Insn}
 use Rattle.program_types.specs.Formed.{AreAmong, insn_at, insn_branch, insn_short_branch}
-use Rattle.program_code_rules.specs.Branches.{BranchStays}
+use Rattle.program_code_rules.specs.inner.Branches.{BranchStays}
 use Rattle.program_code_rules.specs.First.{AllHold}
-use Rattle.code_read.specs.Walk.{Run, IsTable, raw_at, address, starts}
+use Rattle.code_read.specs.Walk.{Run, raw_at, address, starts}
+use Rattle.code_read.specs.inner.Walk.{IsTable}
 use Rattle.code_read.specs.Places.{target_at}
 use Rattle.code_read.specs.Symbols.{linked, Says}
 use Rattle.code_read.specs.Linked.{lead}
-use Rattle.code_read.specs.Plain.{ArePlain}
-use Rattle.code_read.specs.Looking.{branch_offset, IsLooked, IsBegun, LeadIsMarked, AreMarked, IsPassed}
+use Rattle.code_read.specs.inner.Plain.{ArePlain}
+use Rattle.code_read.specs.inner.Looking.{branch_offset, IsLooked, IsBegun, LeadIsMarked, AreMarked, IsPassed}
 use Rattle.code_read.proofs.InsnsDecided.{half}
 use Rattle.code_read.proofs.LinkLaws.{registers-linked}
 use Rattle.code_read.proofs.PlaceLaws.{target-to}

@@ -12,7 +12,8 @@ use Rattle.tables_rows.specs.Stands.{HasRow}
 use Rattle.code_read.specs.Walk.{raw_at}
 use Rattle.code_read.specs.Symbols.{name_in}
 use Rattle.code_read.specs.Linked.{SpellsInsns}
-use Rattle.code_read.specs.Handlers.{Handler, SpellsCatch, SpellsHandler, SpellsHandlers, handler_at}
+use Rattle.code_read.specs.Handlers.{Handler, SpellsHandlers, handler_at}
+use Rattle.code_read.specs.inner.Handlers.{SpellsCatch, SpellsHandler}
 use Rattle.code_read.specs.Tries.{SpellsTries, handler_of}
 use Rattle.code_read.specs.Code.{SpellsBody, CodeStands}
 use Rattle.code_read.proofs.SaidLaws.{names-said}

@@ -13,7 +13,7 @@ use Rattle.program_types.specs.Formed.{insn_at, insn_payload, insn_branch, insn_
 use Rattle.program_code_rules.specs.First.{IsFirstBroken, AllHold}
 use Rattle.program_code_rules.specs.Branches.{BranchLands, BranchMoves, BranchHolds}
 use Rattle.code_read.specs.Walk.{IsWalkFault, starts}
-use Rattle.code_read.specs.Symbols.{IsFunctional}
+use Rattle.code_read.specs.inner.Symbols.{IsFunctional}
 use Rattle.code_read.specs.InsnFaults.{Breaks, LinkedBreak, RulesBreak, InsnsBreak}
 use Rattle.code_read.proofs.Runs.{run-reaches, no-walk-fault, length-of_starts}
 use Rattle.code_read.proofs.InsnsOnce.{walks-one, linked-one}

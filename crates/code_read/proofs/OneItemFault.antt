@@ -9,7 +9,7 @@ use Rattle.dex_insn.specs.Raw.{Raw}
 use Rattle.program_types.specs.Content.{Name, Code}
 use Rattle.program_types.specs.Sizes.{addresses_of}
 use Rattle.code_read.specs.Walk.{starts}
-use Rattle.code_read.specs.Symbols.{IsFunctional}
+use Rattle.code_read.specs.inner.Symbols.{IsFunctional}
 use Rattle.code_read.specs.Registers.{AmongAt}
 use Rattle.code_read.proofs.InsnFaultLaws.{insns-clear}
 use Rattle.code_read.proofs.InsnsOnce.{walks-one}

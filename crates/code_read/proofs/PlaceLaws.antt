@@ -3,7 +3,8 @@ use Rattle.std.proofs.Common.{◌≡◌, ◌≢◌, ℕ, ◌+◌, ◌<◌, ◌�
 use Rattle.std.specs.Prelude.{option_map}
 use Rattle.std.proofs.lemmas.Bool.{cases_lt}
 use Rattle.std.proofs.lemmas.Bool.Decides.{nat_tests}
-use Rattle.code_read.specs.Places.{Rises, position, position_at, target_at, count_below, IsCountBelow}
+use Rattle.code_read.specs.Places.{Rises, position, position_at, target_at, count_below}
+use Rattle.code_read.specs.inner.Places.{IsCountBelow}
 use Rattle.std.proofs.lemmas.Int.{ints}
 
 pub count-is : (ss : List ℕ) (x n : ℕ) → n ≤ length ss → ((k : ℕ) → k < n → get_or ss k 0 < x) → ((k : ℕ) → n ≤ k → k < length ss → x ≤ get_or ss k 0) → n ≡ count_below x ss

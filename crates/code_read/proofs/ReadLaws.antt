@@ -8,12 +8,13 @@ use Rattle.dex_insn.specs.declared.raw.RawInsn.{RawInsn}
 use Rattle.dex_insn.specs.declared.raw.RawInsn.TheVariants as held
 use Rattle.program_types.specs.Content.{Name, Insn}
 use Rattle.program_types.specs.Formed.{insn_at, insn_payload}
-use Rattle.program_code_rules.specs.Branches.{AreOrigins}
-use Rattle.code_read.specs.Walk.{starts, raw_at, IsTable}
+use Rattle.program_code_rules.specs.inner.Branches.{AreOrigins}
+use Rattle.code_read.specs.Walk.{starts, raw_at}
+use Rattle.code_read.specs.inner.Walk.{IsTable}
 use Rattle.code_read.specs.Symbols.{Says}
 use Rattle.code_read.specs.Linked.{lead, payload_of, NameHolds, AreLinked}
 use Rattle.code_read.specs.InsnFaults.{Breaks}
-use Rattle.code_read.specs.InsnReading.{IsHalfLinked, AreHalfLinked}
+use Rattle.code_read.specs.inner.InsnReading.{IsHalfLinked, AreHalfLinked}
 use Rattle.code_read.proofs.Lists.{EachSoFar}
 use Rattle.code_read.proofs.LinkLaws.{at_raw, kind-linked, half-named, own-origin, all-linked}
 

@@ -5,7 +5,8 @@ use Rattle.dex_insn.specs.RawInsns.{InsnStands}
 use Rattle.dex_base.specs.declared.fault.Fault.{Fault}
 use Rattle.dex_insn.specs.declared.raw.RawInsn.{RawInsn}
 use Rattle.dex_insn.proofs.StandingLaws.{stands-whole, one-stands, stands-clear}
-use Rattle.code_read.specs.Walk.{Run, Walks, starts, raw_at, address, IsWalkFault, IsTable}
+use Rattle.code_read.specs.Walk.{Run, Walks, starts, raw_at, address, IsWalkFault}
+use Rattle.code_read.specs.inner.Walk.{IsTable}
 use Rattle.program_types.specs.Sizes.{starts_from}
 use Rattle.std.proofs.lemmas.List.{length-map}
 

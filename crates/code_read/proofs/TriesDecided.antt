@@ -6,12 +6,12 @@ use Rattle.dex_base.proofs.Deciding.{decide_like, decide_both, decide_lt, decide
 use Rattle.program_types.specs.Content.{Name, Try}
 use Rattle.code_read.specs.Places.{position, count_below}
 use Rattle.program_code_rules.specs.First.{AllHold}
-use Rattle.code_read.specs.Symbols.{IsFunctional}
+use Rattle.code_read.specs.inner.Symbols.{IsFunctional}
 use Rattle.code_read.specs.Item.{try_start, try_count, try_handler}
 use Rattle.code_read.specs.Handlers.{Handler, handler_at}
 use Rattle.code_read.specs.Tries.{TryHolds, SpellsTry}
 use Rattle.code_read.specs.Faults.{HasHandlers, TriesBreak, list_fault, try_fault}
-use Rattle.code_read.specs.ItemReading.{ReadTries}
+use Rattle.code_read.specs.inner.ItemReading.{ReadTries}
 use Rattle.code_read.proofs.HandlerLaws.{SpellsList-unique}
 use Rattle.code_read.proofs.TryLaws.{no-tries}
 use Rattle.code_read.proofs.Deciding.{first-or-all, decide-all-below, build, decide-there}

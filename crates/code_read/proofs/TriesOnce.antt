@@ -2,7 +2,7 @@
 use Rattle.std.proofs.Common.{◌≡◌, ℕ, ◌++◌, List, [], sym, ◌∙◌, arith, zero, suc, None, subst}
 use Rattle.program_types.specs.Content.{Name, Try}
 use Rattle.program_types.specs.Formed.{try_at}
-use Rattle.code_read.specs.Symbols.{IsFunctional}
+use Rattle.code_read.specs.inner.Symbols.{IsFunctional}
 use Rattle.code_read.specs.Handlers.{Handler, SpellsHandlers}
 use Rattle.code_read.specs.Tries.{SpellsTry, SpellsTries, handler_of}
 use Rattle.code_read.proofs.HandlerLaws.{SpellsList-unique}

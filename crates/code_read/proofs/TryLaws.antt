@@ -4,7 +4,7 @@ use Rattle.std.specs.Prelude.{option_map, slice_get, Result, Ok, Err, IfErr}
 use Rattle.dex_base.specs.declared.fault.Fault.{Fault}
 use Rattle.dex_base.specs.Grammar.{NoneBegins}
 use Rattle.program_types.specs.Content.{Name, Try}
-use Rattle.code_read.specs.Symbols.{IsFunctional}
+use Rattle.code_read.specs.inner.Symbols.{IsFunctional}
 use Rattle.code_read.specs.Places.{position}
 use Rattle.program_code_rules.specs.First.{AllHold}
 use Rattle.code_read.specs.Item.{try_handler}
@@ -12,7 +12,7 @@ use Rattle.code_read.specs.Handlers.{Handler, SpellsList, handler_at}
 use Rattle.code_read.specs.Tries.{TryHolds, handler_of}
 use Rattle.program_types.specs.Formed.{try_at}
 use Rattle.code_read.specs.Faults.{TriesBreak, list_fault}
-use Rattle.code_read.specs.ItemReading.{ReadTries, ReadList, TakesTry, TakesTries, NoHandler}
+use Rattle.code_read.specs.inner.ItemReading.{ReadTries, ReadList, TakesTry, TakesTries, NoHandler}
 use Rattle.code_read.proofs.PlaceLaws.{map-suc}
 use Rattle.code_read.proofs.HandlerLaws.{SpellsList-unique}
 use Rattle.std.proofs.lemmas.Bool.{cases_lt}
@@ -20,7 +20,7 @@ use Rattle.std.proofs.lemmas.List.{map-append}
 use Rattle.program_types.specs.View.{try}
 use Rattle.program_types.specs.declared.code.Try.{Try as Held}
 use Rattle.code_read.proofs.Lists.{at-old, at-new}
-use Rattle.code_read.specs.HandlerViews.{handler}
+use Rattle.code_read.specs.inner.HandlerViews.{handler}
 use Rattle.code_read.specs.declared.handlers.Caught.{Caught}
 
 -- the offsets, and the handlers

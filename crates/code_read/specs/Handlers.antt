@@ -58,22 +58,6 @@ module _ (U : List ℕ → ℕ → Type 0) (S : List ℕ → ℤ → Type 0) (N 
     pub count : U front (length hs)
     pub each : Placed HandlerBy (length front) back hs
 
--- all spellings of numbers are read
-abbrev pub SpellsAddress : (ℕ → Name → Type 0) → List ℕ → List ℕ → ℕ → Type 0
-SpellsAddress = AddressBy Spells SpellsSigned
-
--- The type that a catch names.
-abbrev pub SpellsCatchType : (ℕ → Name → Type 0) → List ℕ → List ℕ → Descriptor → Type 0
-SpellsCatchType = TypeBy Spells SpellsSigned
-
--- A type and where its handler begins.
-abbrev pub SpellsCatch : (ℕ → Name → Type 0) → List ℕ → List ℕ → Catch → Type 0
-SpellsCatch = CatchBy Spells SpellsSigned
-
--- A handler: the count, then its parts.
-abbrev pub SpellsHandler : (ℕ → Name → Type 0) → List ℕ → List ℕ → Handler → Type 0
-SpellsHandler = HandlerBy Spells SpellsSigned
-
 -- The list of handlers, each with its offset.
 abbrev pub SpellsList : (ℕ → Name → Type 0) → List ℕ → List ℕ → List (ℕ × Handler) → Type 0
 SpellsList = ListBy Spells SpellsSigned

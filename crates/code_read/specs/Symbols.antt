@@ -1,13 +1,11 @@
 -- What a raw instruction says: an index stands for a name, and an offset leads to an instruction.
 -- Page: "Dalvik bytecode": string@, type@, field@ and method@ indices, and "Dalvik Executable instruction formats": the letters
 -- c and t of a format's ID.
-use Rattle.std.specs.Prelude.{ℕ, ℤ, Bool, true, false, ◌≡◌, zero, suc, ◌+◌, ◌/◌, List, [], ◌∷◌, length, map, ⊤}
+use Rattle.std.specs.Prelude.{ℕ, ℤ, ◌≡◌, zero, suc, ◌+◌, ◌/◌, List, [], ◌∷◌, length, map, ⊤}
 use Rattle.dex_insn.specs.Raw as raw
 use Rattle.dex_insn.specs.Raw.{Raw}
 use Rattle.dex_insn.specs.Fields.{int_at}
 use Rattle.dex_insn.specs.Opcodes.{index_kind_of}
-use Rattle.dex_insn.specs.declared.opcode.IndexKind.{IndexKind}
-use Rattle.program_types.specs.Kinds.{IsOfKind}
 use Rattle.program_types.specs.Operands.{IsOfIndexKind}
 use Rattle.program_types.specs.Content.{Name, OfText, Insn}
 use Rattle.program_types.specs.Content as made
@@ -18,10 +16,6 @@ use Rattle.program_types.specs.Content as made
 pub record IndexStandsFor (N : ℕ → Name → Type 0) (op i : ℕ) (which : Name) : Type 0 where
   pub kind : IsOfIndexKind (index_kind_of op) which
   pub stands : N i which
-
--- In each table an index stands for one name.
-abbrev pub IsFunctional : (ℕ → Name → Type 0) → Type 0
-IsFunctional N = (kind : IndexKind) (i : ℕ) (m n : Name) → IsOfKind kind m → IsOfKind kind n → N i m → N i n → m ≡ n
 
 -- index i of an instruction with this opcode stands for some name
 abbrev pub SomeName : (ℕ → Name → Type 0) → ℕ → ℕ → Type 0
@@ -66,25 +60,6 @@ unfoldable pub ints : List ℕ → List ℤ
 ints bytes = ints_from bytes 0 (length bytes / 4)
 
 -- ---- both
-
--- it has an offset: the letter t of its format
-unfoldable pub has_offset : Raw → Bool
-has_offset (raw.I10t op offset) = true
-has_offset (raw.I20t op offset) = true
-has_offset (raw.I21t op a offset) = true
-has_offset (raw.I22t op a b offset) = true
-has_offset (raw.I30t op offset) = true
-has_offset (raw.I31t op a offset) = true
-has_offset _ = false
-
--- it has an index: the letter c of its format
-unfoldable pub has_index : Raw → Bool
-has_index (raw.I21c op a index) = true
-has_index (raw.I22c op a b index) = true
-has_index (raw.I31c op a index) = true
-has_index (raw.I35c op n regs index) = true
-has_index (raw.I3rc op n first index) = true
-has_index _ = false
 
 -- the symbolic instruction with this name for its index, where T says which instruction an offset leads to
 unfoldable pub linked : (ℤ → ℕ) → Name → Raw → Insn

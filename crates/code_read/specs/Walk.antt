@@ -1,13 +1,12 @@
 -- The instructions of a code, end to end, and the unit at which each begins.
 -- Page: "Dalvik Executable format", "code_item": insns; "Dalvik bytecode": addresses are in 16-bit units from the first one.
-use Rattle.std.specs.Prelude.{ℕ, ◌≡◌, ◌+◌, ◌*◌, ◌/◌, ◌<◌, ◌≤◌, List, [], ◌∷◌, length, map, slice_index, slice_index_or}
+use Rattle.std.specs.Prelude.{ℕ, ◌≡◌, ◌+◌, ◌*◌, ◌/◌, ◌<◌, List, [], ◌∷◌, length, map, slice_index, slice_index_or}
 use Rattle.dex_base.specs.declared.fault.Fault.{Fault}
 use Rattle.dex_insn.specs.Raw as raw
 use Rattle.dex_insn.specs.Raw.{Raw, units}
 use Rattle.dex_insn.specs.RawInsns.{InsnStands}
 use Rattle.dex_insn.specs.Flaws.{IsFaultAt}
 use Rattle.program_types.specs.Sizes.{starts_from}
-use Rattle.code_read.specs.Places.{Rises}
 
 -- the instructions stand end to end from unit `at` to unit `end`
 abbrev pub Run : List ℕ → ℕ → List Raw → ℕ → Type 0
@@ -29,13 +28,6 @@ raw_at rs k = slice_index_or rs k (raw.I10x 0)
 -- the address of instruction k
 abbrev pub address : List Raw → ℕ → ℕ
 address rs k = slice_index (starts rs) k
-
--- the table of the instructions' addresses
-pub record IsTable (begins : List ℕ) (rs : List Raw) : Type 0 where
-  pub is : begins ≡ starts rs
-  pub rises : Rises begins
-  pub few : length begins ≤ 4294967295
-  pub count : length begins ≡ length rs
 
 -- After the instructions so far stands none, for this reason; the first unit is at the place `base`.
 pub record IsWalkFault (us : List ℕ) (base : ℕ) (fault : Fault) : Type 0 where

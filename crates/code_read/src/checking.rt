@@ -1,16 +1,16 @@
 //! The instructions of a code, looked at and not kept.
 
-ghost use Rattle.std.specs.Prelude.{◌≡◌, ◌≢◌, ◌^◌, ◌<◌, ◌≤◌, ◌%◌, length, IfOk, IfErr, IfSome, IsOkUnless};
+ghost use Rattle.std.specs.Prelude.{◌≡◌, ◌≢◌, ◌^◌, ◌<◌, ◌≤◌, ◌%◌, length, IfOk, IfErr, IfSome};
 ghost use Rattle.dex_base.specs.Fault.{memory};
 ghost use Rattle.tables_rows.specs.Names.{NameIsAt};
 ghost use Rattle.code_read.specs.InsnFaults.{InsnsBreak};
-ghost use Rattle.code_read.specs.InsnChecking.{AreChecked};
+ghost use Rattle.code_read.specs.inner.InsnChecking.{AreChecked};
 
 use crate::insns::read_insns;
 use crate::plain::{are_plain, starts_of};
 use bumpalo::Bump;
 use dex_base::Fault;
-use std::alloc::Global;
+use std::alloc::{AllocError, Global};
 use tables_rows::Tables;
 
 /// What is known of instructions that keep all rules but, maybe, that of registers.
@@ -28,11 +28,10 @@ fn check_plain(
     tables: &Tables<'_>,
     units: &[u8],
     registers: u16,
-) -> Result<Option<Checked>, Fault>
+) -> Result<Option<Checked>, AllocError>
     requires even { length units.now % 2 ≡ 0 }
     requires short { length units.now ≤ 8589934590 }
     ensures ok { IfOk result (λ o. IfSome o (λ c. AreChecked (NameIsAt tables.now) units.now c.starts.items registers c.past)) }
-    ensures memory { IsOkUnless result memory }
 {
     let Some(starts) = starts_of(alloc, units)? else {
         return Ok(None);

@@ -14,7 +14,7 @@ ghost use Rattle.tables_rows.specs.Names.{Names, AreNamesOf, NameIsAt};
 ghost use Rattle.tables_rows.specs.Stands.{NameStands};
 ghost use Rattle.code_read.specs.Code.{CodeStands};
 ghost use Rattle.code_read.specs.Faults.{CodeBreaks, CodeOverruns};
-ghost use Rattle.code_read.specs.FileCodes.{CodeIsDecided, CodesHaveRows};
+ghost use Rattle.code_read.specs.inner.FileCodes.{CodeIsDecided, CodesHaveRows};
 
 /// With the tables of a file, a code or a fault stands by their names exactly if it does by the file's.
 pub fn codes_carry_over()

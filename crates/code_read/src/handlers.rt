@@ -7,9 +7,9 @@ ghost use Rattle.dex_base.specs.Leb128.{Spells, SpellsSigned};
 ghost use Rattle.program_types.specs.View.{desc, catch};
 ghost use Rattle.tables_rows.specs.Names.{NameIsAt};
 ghost use Rattle.code_read.specs.Places.{Rises};
-ghost use Rattle.code_read.specs.Handlers.{SpellsAddress, SpellsCatchType, SpellsCatch, SpellsHandler};
+ghost use Rattle.code_read.specs.inner.Handlers.{SpellsAddress, SpellsCatchType, SpellsCatch, SpellsHandler};
 ghost use Rattle.code_read.specs.Faults.{list_fault};
-ghost use Rattle.code_read.specs.HandlerViews.{handler};
+ghost use Rattle.code_read.specs.inner.HandlerViews.{handler};
 
 use crate::places::number_at;
 use bumpalo::Bump;

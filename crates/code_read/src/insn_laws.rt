@@ -6,7 +6,7 @@ ghost use Rattle.dex_insn.specs.Registers.{named_registers};
 ghost use Rattle.program_types.specs.Content.{Name, Code, Insn};
 ghost use Rattle.program_types.specs.Formed.{insn_registers};
 ghost use Rattle.tables_rows.specs.Names.{Names, NameIsAt};
-ghost use Rattle.code_read.specs.ByAddress.{LeadsByAddress, SpellsInsnsByAddress};
+ghost use Rattle.code_read.specs.inner.ByAddress.{LeadsByAddress, SpellsInsnsByAddress};
 ghost use Rattle.code_read.specs.Code.{SpellsCode};
 ghost use Rattle.code_read.specs.InsnFaults.{InsnsBreak};
 ghost use Rattle.code_read.specs.Linked.{SpellsInsns};

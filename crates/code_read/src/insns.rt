@@ -1,20 +1,21 @@
 //! The instructions of a code, stage by stage.
 
-ghost use Rattle.std.specs.Prelude.{◌≡◌, ◌≢◌, ◌^◌, ◌<◌, ◌≤◌, ◌%◌, ◌+◌, ◌*◌, length, map, slice_index, None, IfOk, IfErr, IfNone, IfSome, IsOkUnless, OnOk};
+ghost use Rattle.std.specs.Prelude.{◌≡◌, ◌≢◌, ◌^◌, ◌<◌, ◌≤◌, ◌%◌, ◌+◌, ◌*◌, length, map, slice_index, None, IfOk, IfErr, IfNone, IfSome, OnOk};
 ghost use Rattle.dex_base.specs.Fault.{memory};
 ghost use Rattle.program_types.specs.Sizes.{addresses_of};
 ghost use Rattle.program_types.specs.View.{insn};
-ghost use Rattle.program_code_rules.specs.Branches.{AreOrigins};
+ghost use Rattle.program_code_rules.specs.inner.Branches.{AreOrigins};
 ghost use Rattle.program_code_rules.specs.First.{AllHold};
 ghost use Rattle.tables_rows.specs.Names.{NameIsAt};
 ghost use Rattle.dex_insn.specs.Raw.{raw};
-ghost use Rattle.code_read.specs.Walk.{IsTable, raw_at};
+ghost use Rattle.code_read.specs.Walk.{raw_at};
+ghost use Rattle.code_read.specs.inner.Walk.{IsTable};
 ghost use Rattle.code_read.specs.Symbols.{Says};
 ghost use Rattle.code_read.specs.Linked.{lead, NameHolds, AreLinked, KeepRules};
 ghost use Rattle.code_read.specs.InsnFaults.{Breaks, LinkedBreak, InsnsBreak};
 ghost use Rattle.code_read.specs.Registers.{AmongAt, IsPast};
-ghost use Rattle.code_read.specs.InsnReading.{IsHalfLinked, AreHalfLinked, ReadInsns};
-ghost use Rattle.code_read.specs.Plain.{ArePlain};
+ghost use Rattle.code_read.specs.inner.InsnReading.{IsHalfLinked, AreHalfLinked, ReadInsns};
+ghost use Rattle.code_read.specs.inner.Plain.{ArePlain};
 
 use crate::plain::{insns_at, starts_of};
 use crate::symbols::link;
@@ -28,7 +29,7 @@ use program_code_rules::{
     branch_lands, first_bad_branch, first_bad_switch, first_bad_use, first_past, origins_of,
 };
 use program_types::Insn;
-use std::alloc::Global;
+use std::alloc::{AllocError, Global};
 use tables_rows::Tables;
 
 /// The instructions of a code, and the unit at which each begins.
@@ -99,12 +100,11 @@ fn link_payloads<'a>(
     insns: &[RawInsn<'_>],
     starts: &[u32],
     origins: &[u32],
-) -> Result<(), Fault>
+) -> Result<(), AllocError>
     requires table { IsTable starts.now (map raw insns.now) }
     requires half { AreHalfLinked (NameIsAt tables.now) (map raw insns.now) (map insn half.old) }
     requires origins { AreOrigins (map insn half.old) origins.now }
     ensures ok { OnOk result (AreLinked (NameIsAt tables.now) (map raw insns.now) (map insn half.new)) }
-    ensures memory { IsOkUnless result memory }
 {
     for k in 0..insns.len() {
         let one = &insns[k];
@@ -166,11 +166,10 @@ fn read_plain<'a>(
     tables: &Tables<'a>,
     units: &[u8],
     registers: u16,
-) -> Result<Option<Insns<'a>>, Fault>
+) -> Result<Option<Insns<'a>>, AllocError>
     requires even { length units.now % 2 ≡ 0 }
     requires short { length units.now ≤ 8589934590 }
     ensures ok { IfOk result (λ o. IfSome o (λ i. ArePlain (NameIsAt tables.now) units.now i.starts.items registers (map insn i.insns.now) × (i.past ≡ None))) }
-    ensures memory { IsOkUnless result memory }
 {
     let Some(starts) = starts_of(alloc, units)? else {
         return Ok(None);

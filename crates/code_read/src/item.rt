@@ -2,7 +2,7 @@
 
 ghost use Rattle.std.specs.Prelude.{◌<◌, ◌^◌, IfSome, IfNone};
 ghost use Rattle.code_read.specs.Item.{HasFixedParts};
-ghost use Rattle.code_read.specs.ItemReading.{IsCodeItem};
+ghost use Rattle.code_read.specs.inner.ItemReading.{IsCodeItem};
 
 use dex_base::{u16_at, u32_at};
 

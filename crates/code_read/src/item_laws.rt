@@ -8,7 +8,7 @@ ghost use Rattle.code_read.specs.Faults.{CodeBreaks, CodeOverruns};
 ghost use Rattle.dex_container.specs.Frame.{IsFramed};
 ghost use Rattle.program_types.specs.Content.{Name, Code};
 ghost use Rattle.tables_rows.specs.Names.{Names, NameIsAt};
-ghost use Rattle.code_read.specs.Symbols.{IsFunctional};
+ghost use Rattle.code_read.specs.inner.Symbols.{IsFunctional};
 
 /// In tables of names an index stands for one name of a kind; so no code item begins another one, and it spells one code.
 pub fn code_is_prefix_unique()

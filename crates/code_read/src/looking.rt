@@ -1,23 +1,22 @@
 //! The instructions of a code that has neither tries nor anything to do with payloads, looked at in one walk and not kept. Where branches lead
 //! is asked when all instructions are known: of each unit it is marked whether an instruction begins there and whether a branch leads to it.
 
-ghost use Rattle.std.specs.Prelude.{◌≡◌, ◌≢◌, pos, ◌+ℤ◌, ◌<◌, ◌≤◌, ◌*◌, ◌%◌, ℕ, length, slice_index, slice_set, replicate, IfOk, IfSome, IsOkUnless, IsTrue};
+ghost use Rattle.std.specs.Prelude.{◌≡◌, ◌≢◌, pos, ◌+ℤ◌, ◌<◌, ◌≤◌, ◌*◌, ◌%◌, ℕ, length, slice_index, slice_set, replicate, IfOk, IfSome, IsTrue};
 ghost use Rattle.std.specs.Int.RustNames.{bit_or};
-ghost use Rattle.dex_base.specs.Fault.{memory};
 ghost use Rattle.program_types.specs.Content as content;
 ghost use Rattle.tables_rows.specs.Names.{NameIsAt};
 ghost use Rattle.dex_insn.specs.Raw.{raw, Raw};
 ghost use Rattle.dex_insn.specs.RawInsns.{InsnStands};
-ghost use Rattle.code_read.specs.Plain.{ArePlain};
-ghost use Rattle.code_read.specs.Looking.{branch_offset, IsLooked, LeadIsMarked, IsPassed};
+ghost use Rattle.code_read.specs.inner.Plain.{ArePlain};
+ghost use Rattle.code_read.specs.inner.Looking.{branch_offset, IsLooked, LeadIsMarked, IsPassed};
 
 use crate::places::unit_at;
 use crate::plain::is_plain;
 use crate::symbols::link;
 use bumpalo::Bump;
-use dex_base::Fault;
 use dex_insn::{RawInsn, Take, size_of, take_insn};
 use program_code_rules::insn_is_among;
+use std::alloc::AllocError;
 use tables_rows::Tables;
 
 /// An instruction begins at the unit.
@@ -35,7 +34,7 @@ struct Looked {
 
 /// How far a branch leads, in units.
 #[inline(always)]
-#[tactic(auto, unfolding(crate::specs::Looking::branch_offset, dex_insn::specs::Raw::raw))]
+#[tactic(auto, unfolding(crate::specs::inner::Looking::branch_offset, dex_insn::specs::Raw::raw))]
 fn branch_offset(one: &RawInsn<'_>) -> Option<i32>
     ensures { result ≡ branch_offset (raw one.now) }
 {
@@ -157,11 +156,10 @@ fn look_over(look: Look<'_, '_>, marks: &mut [u8], units: &[u8]) -> bool
 }
 
 /// No mark for so many units.
-fn no_marks(arena: &Bump, count: usize) -> Result<Vec<u8, &Bump>, Fault>
+fn no_marks(arena: &Bump, count: usize) -> Result<Vec<u8, &Bump>, AllocError>
     ensures ok { IfOk result (λ marks. marks.items ≡ replicate count 0) }
-    ensures memory { IsOkUnless result memory }
 {
-    Ok(vec![in arena; 0u8; count]?)
+    vec![in arena; 0u8; count]
 }
 
 /// Whether the units are instructions of a code of so many registers that have nothing to do with payloads and break no rule. No of others
@@ -171,11 +169,10 @@ pub(crate) fn are_clear(
     tables: &Tables<'_>,
     units: &[u8],
     registers: u16,
-) -> Result<bool, Fault>
+) -> Result<bool, AllocError>
     requires even { length units.now % 2 ≡ 0 }
     requires short { length units.now ≤ 8589934590 }
     ensures ok { IfOk result (λ clear. IsTrue clear → (begins : _) × (is : _) × ArePlain (NameIsAt tables.now) units.now begins registers is) }
-    ensures memory { IsOkUnless result memory }
 {
     let look = Look { tables, registers };
     let mut marks = no_marks(arena, units.len() / 2)?;

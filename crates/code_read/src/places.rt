@@ -2,7 +2,8 @@
 
 ghost use Rattle.std.specs.Prelude.{◌≡◌, ◌≤◌, length, pos, ◌+ℤ◌, ◌<ℤ◌, IfNone, IfSome};
 ghost use Rattle.code_read.specs.Linked.{lead};
-ghost use Rattle.code_read.specs.Places.{Rises, IsCountBelow, count_below, position, target_at};
+ghost use Rattle.code_read.specs.Places.{Rises, count_below, position, target_at};
+ghost use Rattle.code_read.specs.inner.Places.{IsCountBelow};
 
 /// Where the addresses that are not below `x` begin.
 fn split(starts: &[u32], x: u64) -> usize

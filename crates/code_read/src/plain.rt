@@ -1,24 +1,22 @@
 //! The instructions of a code that has nothing to do with payloads, as nearly all have none: each is read and resolved at once.
 
-ghost use Rattle.std.specs.Prelude.{◌≡◌, ◌<◌, ◌≤◌, ◌%◌, length, map, IfOk, IfSome, IsOkUnless, IsTrue};
-ghost use Rattle.dex_base.specs.Fault.{memory};
+ghost use Rattle.std.specs.Prelude.{◌≡◌, ◌<◌, ◌≤◌, ◌%◌, length, map, IfOk, IfSome, IsTrue};
 ghost use Rattle.program_types.specs.View.{insn};
 ghost use Rattle.tables_rows.specs.Names.{NameIsAt};
 ghost use Rattle.dex_insn.specs.Raw as spelled;
 ghost use Rattle.dex_insn.specs.Raw.{raw, Raw};
 ghost use Rattle.dex_insn.specs.RawInsns.{InsnStands};
 ghost use Rattle.code_read.specs.Places.{Rises};
-ghost use Rattle.code_read.specs.Plain.{is_plain, SaysAtOnce, ArePlain};
+ghost use Rattle.code_read.specs.inner.Plain.{is_plain, SaysAtOnce, ArePlain};
 
 use crate::symbols::link;
 use crate::walking::MOST_AT_ONCE;
 use bumpalo::Bump;
 use bumpalo::collections::into_bump_slice;
-use dex_base::Fault;
 use dex_insn::{Format, RawInsn, Take, format_of, size_of, take_insn};
 use program_code_rules::{branch_stays, insn_is_among};
 use program_types::Insn;
-use std::alloc::Global;
+use std::alloc::{AllocError, Global};
 use tables_rows::Tables;
 
 /// An instruction, and how many units it has.
@@ -30,7 +28,7 @@ struct Seen<'a> {
 
 /// Whether an instruction neither is a payload nor refers to one.
 #[inline(always)]
-#[tactic(auto, unfolding(crate::specs::Plain::is_plain, dex_insn::specs::Raw::raw))]
+#[tactic(auto, unfolding(crate::specs::inner::Plain::is_plain, dex_insn::specs::Raw::raw))]
 pub(crate) fn is_plain(one: &RawInsn<'_>) -> bool
     ensures { result ≡ is_plain (raw one.now) }
 {
@@ -111,22 +109,16 @@ fn units_of(op: u8) -> Option<u64>
     ensures { IfSome result (λ n. (0 < n) × (n ≤ 5)) }
 {
     match format_of(op) {
-        Some(Format::F10x | Format::F12x | Format::F11n | Format::F11x | Format::F10t) => Some(1),
-        Some(
-            Format::F30t | Format::F32x | Format::F31i | Format::F31c | Format::F35c | Format::F3rc,
-        ) => Some(3),
-        Some(Format::F51l) => Some(5),
         Some(Format::F31t) | None => None,
-        Some(_) => Some(2),
+        Some(format) => Some(format.units() as u64),
     }
 }
 
 /// The units at which instructions begin, by their opcodes alone. None where an opcode is unused or refers to a payload.
-pub(crate) fn starts_of(alloc: Global, units: &[u8]) -> Result<Option<Vec<u32>>, Fault>
+pub(crate) fn starts_of(alloc: Global, units: &[u8]) -> Result<Option<Vec<u32>>, AllocError>
     requires even { length units.now % 2 ≡ 0 }
     requires short { length units.now ≤ 8589934590 }
     ensures rises { IfOk result (λ o. IfSome o (λ starts. Rises starts.items × (length starts.items ≤ 4294967295))) }
-    ensures memory { IsOkUnless result memory }
 {
     let room = (units.len() / 4).min(MOST_AT_ONCE);
     let mut starts = Vec::with_capacity(alloc, room)?;
@@ -149,12 +141,11 @@ pub(crate) fn insns_at<'a>(
     starts: &[u32],
     units: &[u8],
     registers: u16,
-) -> Result<Option<&'a [Insn<'a>]>, Fault>
+) -> Result<Option<&'a [Insn<'a>]>, AllocError>
     requires even { length units.now % 2 ≡ 0 }
     requires short { length units.now ≤ 8589934590 }
     requires rises { Rises starts.now × (length starts.now ≤ 4294967295) }
     ensures ok { IfOk result (λ o. IfSome o (λ is. ArePlain (NameIsAt tables.now) units.now starts.now registers (map insn is.now))) }
-    ensures memory { IsOkUnless result memory }
 {
     let mut found = Vec::with_capacity(arena, starts.len())?;
     let mut at: u64 = 0;

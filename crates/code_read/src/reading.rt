@@ -1,15 +1,15 @@
 //! Reading a code item.
 
-ghost use Rattle.std.specs.Prelude.{◌≡◌, ◌≢◌, ℕ, ◌≤◌, ◌<◌, ◌+◌, ◌*◌, ◌%◌, ◌^◌, ◌⊎◌, IsTrue, length, map, IfOk, IfErr, IfSome, IfNone, IsOkUnless, Some, None};
+ghost use Rattle.std.specs.Prelude.{◌≡◌, ◌≢◌, ℕ, ◌≤◌, ◌<◌, ◌+◌, ◌*◌, ◌%◌, ◌^◌, ◌⊎◌, IsTrue, length, map, IfOk, IfErr, IfSome, IfNone, Some, None};
 ghost use Rattle.dex_base.specs.Fault.{memory};
 ghost use Rattle.program_types.specs.Content as content;
 ghost use Rattle.program_types.specs.View.{code, insn, try};
 ghost use Rattle.tables_rows.specs.Names.{NameIsAt};
 ghost use Rattle.program_types.specs.Formed.{RegistersHold};
-ghost use Rattle.code_read.specs.InsnChecking.{AreChecked};
+ghost use Rattle.code_read.specs.inner.InsnChecking.{AreChecked};
 ghost use Rattle.code_read.specs.InsnFaults.{InsnsBreak};
-ghost use Rattle.code_read.specs.Plain.{ArePlain};
-ghost use Rattle.code_read.specs.ItemChecking.{HoldsItem, HoldsBody};
+ghost use Rattle.code_read.specs.inner.Plain.{ArePlain};
+ghost use Rattle.code_read.specs.inner.ItemChecking.{HoldsItem, HoldsBody};
 ghost use Rattle.code_read.specs.Code.{BodyStands, CodeStands};
 ghost use Rattle.code_read.specs.Faults.{ItemBreaks, CodeBreaks, RegistersBreak, CodeOverruns};
 
@@ -22,7 +22,7 @@ use bumpalo::Bump;
 use dex_base::{Fault, fault};
 use dex_container::{Sections, bytes_from, section_of};
 use program_types::{Code, Insn, Try};
-use std::alloc::Global;
+use std::alloc::{AllocError, Global};
 use tables_rows::Tables;
 
 /// The kind of the section of code items (TYPE_CODE_ITEM).
@@ -95,12 +95,11 @@ fn code_of<'a>(item: &Item<'_>, insns: &'a [Insn<'a>], tries: &'a [Try<'a>]) -> 
 }
 
 /// Whether nothing but the ins of an item has to be looked at any more: it has no tries, and its instructions break no rule.
-fn is_clear(arena: &Bump, tables: &Tables<'_>, item: &Item<'_>) -> Result<bool, Fault>
+fn is_clear(arena: &Bump, tables: &Tables<'_>, item: &Item<'_>) -> Result<bool, AllocError>
     requires even { length item.now.units.now % 2 ≡ 0 }
     requires short { length item.now.units.now ≤ 8589934590 }
     ensures ok { IfOk result (λ clear. IsTrue clear → (item.now.tries ≡ 0)
         × ((begins : _) × (is : _) × ArePlain (NameIsAt tables.now) item.now.units.now begins item.now.registers is)) }
-    ensures memory { IsOkUnless result memory }
 {
     if item.tries != 0 {
         return Ok(false);

@@ -9,7 +9,8 @@ ghost use Rattle.tables_rows.specs.Names.{NameIsAt};
 ghost use Rattle.dex_insn.specs.Raw.{raw, is_payload};
 ghost use Rattle.code_read.specs.Linked.{lead};
 ghost use Rattle.code_read.specs.Places.{Rises};
-ghost use Rattle.code_read.specs.Symbols.{linked, has_offset, has_index, Says, InsnHasName};
+ghost use Rattle.code_read.specs.Symbols.{linked, Says, InsnHasName};
+ghost use Rattle.code_read.specs.inner.Symbols.{has_offset, has_index};
 
 use crate::names::named;
 use crate::places::lead;
@@ -20,7 +21,7 @@ use tables_rows::Tables;
 /// The instruction whose offset leads to instruction `to`.
 #[inline(always)]
 #[rattlefmt::skip]
-#[tactic(auto, unfolding(crate::specs::Symbols::linked, crate::specs::Symbols::has_offset, dex_insn::specs::Raw::raw))]
+#[tactic(auto, unfolding(crate::specs::Symbols::linked, crate::specs::inner::Symbols::has_offset, dex_insn::specs::Raw::raw))]
 fn leading<'a>(one: &RawInsn<'_>, to: u32) -> Insn<'a>
     requires { has_offset (raw one.now) ≡ true }
     ensures { linked (λ _. to) (OfText []) (raw one.now) ≡ insn result }
@@ -39,7 +40,7 @@ fn leading<'a>(one: &RawInsn<'_>, to: u32) -> Insn<'a>
 /// The instruction whose index stands for the name.
 #[inline(always)]
 #[rattlefmt::skip]
-#[tactic(auto, unfolding(crate::specs::Symbols::linked, crate::specs::Symbols::has_index, dex_insn::specs::Raw::raw))]
+#[tactic(auto, unfolding(crate::specs::Symbols::linked, crate::specs::inner::Symbols::has_index, dex_insn::specs::Raw::raw))]
 fn naming<'a>(one: &RawInsn<'_>, name: Name<'a>) -> Insn<'a>
     requires { has_index (raw one.now) ≡ true }
     ensures { linked (λ _. 0) (view.name name.entry) (raw one.now) ≡ insn result }
@@ -57,7 +58,7 @@ fn naming<'a>(one: &RawInsn<'_>, name: Name<'a>) -> Insn<'a>
 /// An instruction that has neither: the same operands.
 #[inline(always)]
 #[rattlefmt::skip]
-#[tactic(auto, unfolding(crate::specs::Symbols::linked, crate::specs::Symbols::has_offset, crate::specs::Symbols::has_index, dex_insn::specs::Raw::is_payload, dex_insn::specs::Raw::raw))]
+#[tactic(auto, unfolding(crate::specs::Symbols::linked, crate::specs::inner::Symbols::has_offset, crate::specs::inner::Symbols::has_index, dex_insn::specs::Raw::is_payload, dex_insn::specs::Raw::raw))]
 fn plain<'a>(one: &RawInsn<'_>) -> Insn<'a>
     requires plain { is_payload (raw one.now) ≡ false }
     requires offset { has_offset (raw one.now) ≡ false }
@@ -85,7 +86,7 @@ fn plain<'a>(one: &RawInsn<'_>) -> Insn<'a>
 /// The symbolic instruction, whose offset counts from the address `base`. None only where its index has no row.
 #[inline(always)]
 #[rattlefmt::skip]
-#[tactic(auto, unfolding(crate::specs::Symbols::linked, crate::specs::Symbols::has_offset, crate::specs::Symbols::has_index, dex_insn::specs::Raw::is_payload, dex_insn::specs::Raw::raw))]
+#[tactic(auto, unfolding(crate::specs::Symbols::linked, crate::specs::inner::Symbols::has_offset, crate::specs::inner::Symbols::has_index, dex_insn::specs::Raw::is_payload, dex_insn::specs::Raw::raw))]
 pub(crate) fn link<'a>(tables: &Tables<'a>, starts: &[u32], base: u32, one: &RawInsn<'_>) -> Option<Insn<'a>>
     requires rises { Rises starts.now }
     requires few { length starts.now ≤ 4294967295 }

@@ -1,7 +1,6 @@
 //! The payloads of switches and arrays.
 
-ghost use Rattle.std.specs.Prelude.{◌≡◌, ◌≤◌, ◌+◌, ◌*◌, length, map, IfOk, IsOkUnless, true};
-ghost use Rattle.dex_base.specs.Fault.{memory};
+ghost use Rattle.std.specs.Prelude.{◌≡◌, ◌≤◌, ◌+◌, ◌*◌, length, map, IfOk, true};
 ghost use Rattle.dex_insn.specs.Fields.{int_at};
 ghost use Rattle.dex_insn.specs.Raw.{raw, is_payload};
 ghost use Rattle.program_types.specs.Formed.{insn_payload};
@@ -15,9 +14,9 @@ use crate::places::lead;
 use bumpalo::Bump;
 use bumpalo::collections::into_bump_slice;
 use byteorder::{ByteOrder, LittleEndian};
-use dex_base::Fault;
 use dex_insn::RawInsn;
 use program_types::Insn;
+use std::alloc::AllocError;
 use tables_rows::Tables;
 
 /// Whether an instruction is a payload.
@@ -46,11 +45,10 @@ fn read_targets<'a>(
     starts: &[u32],
     base: u32,
     offsets: &[u8],
-) -> Result<&'a [u32], Fault>
+) -> Result<&'a [u32], AllocError>
     requires rises { Rises starts.now }
     requires few { length starts.now ≤ 4294967295 }
     ensures ok { IfOk result (λ found. found.now ≡ map (lead starts.now base) (ints offsets.now)) }
-    ensures memory { IsOkUnless result memory }
 {
     let n = offsets.len() / 4;
     let mut all = Vec::with_capacity(arena, n)?;
@@ -61,9 +59,8 @@ fn read_targets<'a>(
 }
 
 /// The numbers in the bytes, four bytes each.
-fn read_ints<'a>(arena: &'a Bump, bytes: &[u8]) -> Result<&'a [i32], Fault>
+fn read_ints<'a>(arena: &'a Bump, bytes: &[u8]) -> Result<&'a [i32], AllocError>
     ensures ok { IfOk result (λ found. found.now ≡ ints bytes.now) }
-    ensures memory { IsOkUnless result memory }
 {
     let n = bytes.len() / 4;
     let mut all = Vec::with_capacity(arena, n)?;
@@ -104,12 +101,11 @@ pub(crate) fn link_payload<'a>(
     starts: &[u32],
     base: u32,
     one: &RawInsn<'_>,
-) -> Result<Insn<'a>, Fault>
+) -> Result<Insn<'a>, AllocError>
     requires rises { Rises starts.now }
     requires few { length starts.now ≤ 4294967295 }
     requires payload { is_payload (raw one.now) ≡ true }
     ensures ok { IfOk result (λ i. Says (NameIsAt tables.now) (lead starts.now base) (raw one.now) (insn i)) }
-    ensures memory { IsOkUnless result memory }
 {
     // Only for the proof: what holds of each value of its type.
     let _tables = tables;

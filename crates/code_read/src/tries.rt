@@ -10,9 +10,9 @@ ghost use Rattle.program_code_rules.specs.First.{AllHold, IsFirstBroken};
 ghost use Rattle.code_read.specs.Tries.{TryHolds};
 ghost use Rattle.code_read.specs.Item.{try_start, try_count, try_handler};
 ghost use Rattle.code_read.specs.Handlers.{SpellsList};
-ghost use Rattle.code_read.specs.HandlerViews.{handler};
+ghost use Rattle.code_read.specs.inner.HandlerViews.{handler};
 ghost use Rattle.code_read.specs.Faults.{TriesBreak, list_fault, try_fault};
-ghost use Rattle.code_read.specs.ItemReading.{ReadTries, ReadList, TakesTry, TakesTries, NoHandler};
+ghost use Rattle.code_read.specs.inner.ItemReading.{ReadTries, ReadList, TakesTry, TakesTries, NoHandler};
 
 use crate::handlers::{Caught, read_handler, read_number};
 use crate::item::Item;

@@ -3,7 +3,8 @@
 ghost use Rattle.std.specs.Prelude.{◌≡◌, ◌*◌, ◌%◌, ◌^◌, ◌<◌, ◌≤◌, ◌≢◌, length, map, IfOk, IfErr};
 ghost use Rattle.dex_base.specs.Fault.{memory};
 ghost use Rattle.dex_insn.specs.Raw.{raw};
-ghost use Rattle.code_read.specs.Walk.{Walks, IsTable, IsWalkFault};
+ghost use Rattle.code_read.specs.Walk.{Walks, IsWalkFault};
+ghost use Rattle.code_read.specs.inner.Walk.{IsTable};
 
 use dex_base::Fault;
 use dex_insn::{RawInsn, read_insn, size_of};

@@ -3,8 +3,9 @@ use Rattle.std.proofs.Common.{◌≡◌, ℕ, zero, suc, ◌+◌, ◌-◌, ◌<�
 use Rattle.std.proofs.Math.Seq.{take-add}
 use Rattle.std.proofs.lemmas.Bool.{cases_order}
 use Rattle.std.proofs.lemmas.List.{length-append, length-drop, take-append-drop, append_cancel_left, drop_more, drop-drop, get_or-drop, get_or-take, get_or-replicate, get_or-append_right, get_or_append_left, length-replicate, take_more, take_all, length-take-le, append-nil, drop_at}
-use Rattle.dex_base.specs.Descriptor.{IsSimpleName, Joins, IsArray, IsClass, IsElement, IsFieldType, IsDescriptor, HasFront, NoFront, IsPrefixFree}
-use Rattle.dex_base.specs.Names.{IsRun, IsClassTail, IsDepth}
+use Rattle.dex_base.specs.Descriptor.{IsSimpleName, Joins, IsArray, IsClass, IsElement, IsFieldType, IsDescriptor, NoFront, IsPrefixFree}
+use Rattle.dex_base.specs.inner.Descriptor.{HasFront}
+use Rattle.dex_base.specs.inner.Names.{IsRun, IsClassTail, IsDepth}
 use Rattle.dex_base.proofs.NameUnits.{element_not_open, primitive_not_class}
 use Rattle.dex_base.proofs.NameLaws.{none_at_stop, run_simple, run_whole}
 

@@ -3,7 +3,8 @@ use Rattle.std.proofs.Common.{◌≡◌, ◌≢◌, ℕ, ◌+◌, ◌<◌, ◌==
 use Rattle.std.proofs.lemmas.Bool.Decides.{nat_tests}
 use Rattle.std.proofs.lemmas.List.{at_drop_more}
 use Rattle.dex_base.specs.declared.fault_names.Row.{Row}
-use Rattle.dex_base.specs.Fault.{row_number, column_text}
+use Rattle.dex_base.specs.Fault.{column_text}
+use Rattle.dex_base.specs.inner.Fault.{row_number}
 
 one : (n m : ℕ) (a b : List ℕ) → m ≡ n → (if n == m then a else b) ≡ a
 one n m a b e = grind (arith, nat_tests)

@@ -7,7 +7,7 @@ use Rattle.std.proofs.lemmas.Simd.{map-map, mask_l-mod, length-chunk, zip2_splat
 use Rattle.std.specs.Int.Count.{count_trailing_zeros}
 use Rattle.std.specs.Simd.Lanes.{chunk, zip2, mask_l, top}
 use Rattle.dex_base.specs.Descriptor.{IsNamePoint}
-use Rattle.dex_base.specs.Names.{AreLowPoints}
+use Rattle.dex_base.specs.inner.Names.{AreLowPoints}
 use Rattle.dex_base.proofs.LowPoints.{is_low, is_low-decides}
 
 -- ---- what a lane says

@@ -5,7 +5,7 @@ use Rattle.std.proofs.lemmas.List.{length-append, take-append-drop, length-take-
 use Rattle.std.specs.List.{flat_map, AllByRecursion}
 use Rattle.dex_base.specs.Grammar.{Begins, NoneBegins, IsPrefixUnique, Each}
 use Rattle.dex_base.specs.Descriptor.{IsNamePoint, point_units, IsSimpleName, IsMemberName}
-use Rattle.dex_base.specs.Names.{SpellsPoint, AreLowPoints, HasPoint, IsRun}
+use Rattle.dex_base.specs.inner.Names.{SpellsPoint, AreLowPoints, HasPoint, IsRun}
 use Rattle.dex_base.proofs.GrammarLaws.{Each-none, Each-more, Each-next, Each-unique}
 use Rattle.dex_base.proofs.UnitLaws.{take_one, take_two}
 

@@ -4,7 +4,7 @@ use Rattle.std.specs.Prelude.{codes, slice_index}
 use Rattle.std.proofs.lemmas.List.{take_at, drop_at, length-replicate}
 use Rattle.std.proofs.lemmas.Bool.{cases_eq}
 use Rattle.dex_base.specs.Grammar.{Takes, Each}
-use Rattle.dex_base.specs.Names.{SpellsPoint}
+use Rattle.dex_base.specs.inner.Names.{SpellsPoint}
 use Rattle.dex_base.specs.Descriptor.{IsWithin, IsNamePoint, point_units, IsSimpleName, IsMemberName, Joins, IsClassName, IsClass, IsPrimitive, IsElement, IsFieldType, IsDescriptor, IsArray}
 use Rattle.dex_base.proofs.NameLaws.{point_some, point_front, point_unique, each_is, each_from, simple_some}
 use Rattle.dex_base.proofs.TakesLaws.{Takes-length, Takes-unique}

@@ -7,7 +7,7 @@ use Rattle.std.proofs.Math.Nat.{pow-suc, pow-le-pow_right}
 use Rattle.dex_base.specs.Grammar.{NoneBegins, Appends, IsPrefixUnique}
 use Rattle.dex_base.proofs.Sequences.{low_first_below}
 use Rattle.dex_base.specs.Leb128.{IsSequence, low_first, Spells, Shortest}
-use Rattle.dex_base.specs.Sequence.{IsWhole, IsWidth, sequence_of}
+use Rattle.dex_base.specs.inner.Sequence.{IsWhole, IsWidth, sequence_of}
 
 pub sequence_unique : (a b x y : List ℕ) → IsSequence a → IsSequence b → a ++ x ≡ b ++ y → a ≡ b
 sequence_unique [] b x y p q e = absurd p

@@ -4,7 +4,7 @@ use Rattle.std.proofs.Math.Nat.{pow-suc, pow-le-pow_right}
 use Rattle.std.proofs.lemmas.Nat.{mul-le}
 use Rattle.std.proofs.lemmas.List.{take_more, length-take-le}
 use Rattle.dex_base.specs.Leb128.{IsSequence, low_first}
-use Rattle.dex_base.specs.Sequence.{IsWhole}
+use Rattle.dex_base.specs.inner.Sequence.{IsWhole}
 
 -- each byte has its top bit set, so a sequence goes on after them
 abbrev pub IsOpen : List ℕ → Type 0

@@ -4,7 +4,7 @@ use Rattle.std.proofs.lemmas.Int.{ints}
 use Rattle.std.proofs.lemmas.List.{length-take-le, get_or-take}
 use Rattle.dex_base.specs.Grammar.{NoneBegins, Appends, IsPrefixUnique}
 use Rattle.dex_base.specs.Leb128.{IsSequence, low_first, signed_low_first, SpellsSigned, Shortest}
-use Rattle.dex_base.specs.Sequence.{IsWhole, IsSignedWidth, sequence_of}
+use Rattle.dex_base.specs.inner.Sequence.{IsWhole, IsSignedWidth, sequence_of}
 use Rattle.dex_base.proofs.Numbers.{sequence_unique, whole_is, length-sequence_of, IsSequence-sequence_of, low_first-sequence_of, wider, some_byte}
 use Rattle.dex_base.proofs.Sequences.{low_first_below}
 use Rattle.std.proofs.lemmas.Bool.{cases_lt, cond_below, cond_above}

@@ -4,7 +4,7 @@ use Rattle.std.proofs.lemmas.Bool.{cases_lt, lt-ltb, le-ltb, ne_eqb}
 use Rattle.std.proofs.lemmas.List.{length-append, length-take-le}
 use Rattle.dex_base.specs.Grammar.{Begins, NoneBegins, Appends, IsPrefixUnique, Each, Many}
 use Rattle.dex_base.specs.Mutf8.{unit_bytes, SpellsUnit}
-use Rattle.dex_base.specs.Names.{HasUnit}
+use Rattle.dex_base.specs.inner.Names.{HasUnit}
 
 -- ---- the bytes by the range of the unit
 

@@ -1,6 +1,6 @@
 -- Names and type descriptors, as lists of UTF-16 units: "Dalvik Executable format", section "String syntax"
 -- (SimpleName, MemberName, FullClassName, TypeDescriptor), in version 035.
-use Rattle.std.specs.Prelude.{◌≡◌, ◌≢◌, ℕ, ◌+◌, ◌-◌, ◌/◌, ◌%◌, ◌≤◌, ◌⊎◌, List, [], ◌∷◌, ◌++◌, length, take, replicate, slice_index, codes, if◌then◌else◌, nat_lt}
+use Rattle.std.specs.Prelude.{◌≡◌, ◌≢◌, ℕ, ◌+◌, ◌-◌, ◌/◌, ◌%◌, ◌≤◌, ◌⊎◌, List, [], ◌∷◌, ◌++◌, replicate, slice_index, codes, if◌then◌else◌, nat_lt}
 use Rattle.std.specs.List.{flat_map, AllByRecursion}
 
 -- From one number to another, both included.
@@ -63,10 +63,6 @@ abbrev pub IsArray : List ℕ → Type 0
 IsArray units = IsDescriptor units × (slice_index units 0 ≡ 91)
 
 -- ---- such a text at the front of units
-
--- The first `len` units are such a text.
-abbrev pub HasFront : (List ℕ → Type 0) → List ℕ → ℕ → Type 0
-HasFront IsText units len = (len ≤ length units) × IsText (take len units)
 
 -- No front of the units is such a text.
 abbrev pub NoFront : (List ℕ → Type 0) → List ℕ → Type 0

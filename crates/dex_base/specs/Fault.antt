@@ -2,9 +2,7 @@
 use Rattle.std.specs.Prelude.{ℕ, List, ◌∷◌, map, ◌++◌, ◌==◌, if◌then◌else◌, codes}
 use Rattle.std.specs.Fmt.{decimal}
 use Rattle.dex_base.specs.declared.fault.Fault.{Fault}
-use Rattle.dex_base.specs.declared.fault_names.Row.{Row}
 use Rattle.dex_base.specs.declared.fault_names.TheConstants.{FAULTS}
-use Rattle.std.specs.Borrow.{Bor}
 
 -- out of memory
 abbrev pub memory : Fault
@@ -17,18 +15,6 @@ unknown = codes "Unknown"
 -- the sentence of a number that has none
 abbrev pub no_fault : List ℕ
 no_fault = codes "no fault has this number"
-
--- the number in a row
-abbrev pub row_number : Row (Bor (List ℕ)) → ℕ
-row_number row = row.number
-
--- the name in a row
-abbrev pub row_name : Row (Bor (List ℕ)) → List ℕ
-row_name row = row.name.now
-
--- the sentence in a row
-abbrev pub row_sentence : Row (Bor (List ℕ)) → List ℕ
-row_sentence row = row.says.now
 
 -- all numbers of the table
 unfoldable pub numbers : List ℕ

@@ -4,10 +4,9 @@ pub mod Fault
 pub mod Fields
 pub mod Grammar
 pub mod Leb128
-pub mod Sequence
 pub mod Words
 pub mod Deciding
 pub mod Via
 pub mod Descriptor
 pub mod Mutf8
-pub mod Names
+pub mod inner

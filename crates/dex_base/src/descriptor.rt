@@ -2,8 +2,9 @@
 //! units, and the tests ask whether it is all of them.
 
 ghost use Rattle.std.specs.Prelude.{◌≡◌, ℕ, ◌<◌, ◌≤◌, ◌++◌, ◌↔◌, List, length, take, IsTrue, IfSome, IfNone};
-ghost use Rattle.dex_base.specs.Descriptor.{IsClass, IsPrimitive, IsElement, IsFieldType, IsDescriptor, IsArray, HasFront, NoFront};
-ghost use Rattle.dex_base.specs.Names.{IsClassTail, IsDepth};
+ghost use Rattle.dex_base.specs.Descriptor.{IsClass, IsPrimitive, IsElement, IsFieldType, IsDescriptor, IsArray, NoFront};
+ghost use Rattle.dex_base.specs.inner.Descriptor.{HasFront};
+ghost use Rattle.dex_base.specs.inner.Names.{IsClassTail, IsDepth};
 
 use crate::simple_name::name_run;
 
@@ -50,13 +51,9 @@ fn class_length(units: &[u16]) -> Option<usize>
     ensures found { IfSome result (λ n. HasFront IsClass units.now n) }
     ensures none { IfNone result (NoFront IsClass units.now) }
 {
-    if units.len() == 0 {
+    let [CLASS, tail @ ..] = units else {
         return None;
-    }
-    if units[0] != CLASS {
-        return None;
-    }
-    let (_, tail) = units.split_at(1);
+    };
     let length = class_tail_length(tail)?;
     Some(1 + length)
 }
@@ -74,13 +71,10 @@ fn element_length(units: &[u16]) -> Option<usize>
     ensures found { IfSome result (λ n. HasFront IsElement units.now n) }
     ensures none { IfNone result (NoFront IsElement units.now) }
 {
-    if units.len() == 0 {
-        return None;
+    match units {
+        [first, ..] if is_primitive(*first) => Some(1),
+        _ => class_length(units),
     }
-    if is_primitive(units[0]) {
-        return Some(1);
-    }
-    class_length(units)
 }
 
 /// The number of `[` at the front.
@@ -118,13 +112,10 @@ pub fn descriptor_length(units: &[u16]) -> Option<usize>
     ensures found { IfSome result (λ n. IsDescriptor (take n units.now)) }
     ensures none { IfNone result (NoFront IsDescriptor units.now) }
 {
-    if units.len() == 0 {
-        return None;
+    match units {
+        [VOID, ..] => Some(1),
+        _ => field_length(units),
     }
-    if units[0] == VOID {
-        return Some(1);
-    }
-    field_length(units)
 }
 
 /// Whether the units are a type descriptor: `V`, or 0 to 255 `[` before a primitive type or a class (TypeDescriptor).
@@ -169,11 +160,5 @@ pub fn is_class(units: &[u16]) -> bool
 pub fn is_array(units: &[u16]) -> bool
     ensures { IsTrue result ↔ IsArray units.now }
 {
-    if units.len() == 0 {
-        return false;
-    }
-    if units[0] != ARRAY {
-        return false;
-    }
-    is_descriptor(units)
+    matches!(units, [ARRAY, ..]) && is_descriptor(units)
 }

@@ -1,6 +1,7 @@
 //! The number, the name and the sentence of each fault, in one table, and what is read from it.
 ghost use Rattle.std.specs.Prelude.{◌≡◌, map};
-ghost use Rattle.dex_base.specs.Fault.{fault_name, row_number, row_name, row_sentence, fault_sentence, column_text, unknown, no_fault};
+ghost use Rattle.dex_base.specs.Fault.{fault_name, fault_sentence, column_text, unknown, no_fault};
+ghost use Rattle.dex_base.specs.inner.Fault.{row_number, row_name, row_sentence};
 
 use crate::fault;
 use crate::fault::Fault;

@@ -4,9 +4,10 @@ ghost use Rattle.std.specs.Prelude.{◌≡◌, ℕ, ◌+◌, ◌*◌, ◌^◌, �
 ghost use Rattle.dex_base.specs.Grammar.{Begins, NoneBegins, Appends};
 ghost use Rattle.dex_base.specs.Leb128.{IsSequence, low_first, Spells, SpellsSigned, Shortest};
 ghost use Rattle.dex_base.specs.Fault.{memory};
-ghost use Rattle.dex_base.specs.Sequence.{IsWhole, NoSequence, IsWidth, IsSignedWidth, sequence_of};
+ghost use Rattle.dex_base.specs.inner.Sequence.{IsWhole, NoSequence, IsWidth, IsSignedWidth, sequence_of};
 
 use crate::fault::Fault;
+use std::alloc::AllocError;
 
 /// The bytes of a number before its range and its sign are looked at.
 #[derive(Clone, Copy)]
@@ -100,12 +101,11 @@ pub fn read_sleb(bytes: &[u8]) -> Option<(i32, usize)>
 }
 
 /// Appends the sequence of so many bytes, seven bits each.
-fn put_sequence(out: &mut Vec<u8>, length: usize, n: u64) -> Result<(), Fault>
+fn put_sequence(out: &mut Vec<u8>, length: usize, n: u64) -> Result<(), AllocError>
     requires some { (0 < length) × (length ≤ 5) }
     requires fits { n < 128 ^ length }
     ensures ok { OnOk result (out.new.items ≡ out.old.items ++ sequence_of length n) }
     ensures err { OnErr result (out.new.items ≡ out.old.items) }
-    ensures memory { IsOkUnless result memory }
     ensures len { vec_len out.new ≤ vec_len out.old + length }
     ensures capacity { vec_capacity out.old ≤ vec_capacity out.new }
     ensures room { vec_len out.old + length ≤ vec_capacity out.old → IsOk result }
@@ -168,7 +168,7 @@ pub fn put_uleb(out: &mut Vec<u8>, n: u32) -> Result<(), Fault>
     ensures capacity { vec_capacity out.old ≤ vec_capacity out.new }
     ensures room { vec_len out.old + 5 ≤ vec_capacity out.old → IsOk result }
 {
-    put_sequence(out, uleb_length(n), n as u64)
+    Ok(put_sequence(out, uleb_length(n), n as u64)?)
 }
 
 /// A length, and the number whose bits stand in so many bytes, seven a byte.
@@ -244,5 +244,5 @@ pub fn put_sleb(out: &mut Vec<u8>, n: i32) -> Result<(), Fault>
     ensures room { vec_len out.old + 5 ≤ vec_capacity out.old → IsOk result }
 {
     let width = sleb_width(n);
-    put_sequence(out, width.length, width.bits)
+    Ok(put_sequence(out, width.length, width.bits)?)
 }

@@ -4,7 +4,7 @@
 ghost use Rattle.std.specs.Prelude.{◌≡◌, ℕ, ◌^◌, ◌<◌, ◌≤◌, ◌+◌, ◌*◌, ◌++◌, List, length, slice_index, IsTrue, EachIndex, IfOk, IfSome, IfNone, OnOk, OnErr, IsOk, IsOkUnless, vec_len, vec_capacity};
 ghost use Rattle.dex_base.specs.Grammar.{Begins, NoneBegins, Appends, Many, Counted};
 ghost use Rattle.dex_base.specs.Mutf8.{SpellsUnit, SpellsText, PacksText, mutf8_length, unit_bytes};
-ghost use Rattle.dex_base.specs.Names.{HasUnit};
+ghost use Rattle.dex_base.specs.inner.Names.{HasUnit};
 ghost use Rattle.dex_base.specs.Leb128.{Spells, Shortest};
 ghost use Rattle.dex_base.specs.Fault.{memory};
 
@@ -13,7 +13,7 @@ use crate::leb128::{put_uleb, read_uleb};
 use crate::width::widen;
 use bumpalo::Bump;
 use bumpalo::collections::into_bump_slice;
-use std::alloc::Global;
+use std::alloc::{AllocError, Global};
 
 /// The unit at the front, and how many bytes it takes, seen byte by byte.
 fn unit_at(bytes: &[u8]) -> Option<(u16, usize)>
@@ -73,9 +73,8 @@ fn are_single(bytes: &[u8]) -> bool
 }
 
 /// Units of a byte each.
-fn single_units<'a>(arena: &'a Bump, bytes: &[u8]) -> Result<Vec<u16, &'a Bump>, Fault>
+fn single_units<'a>(arena: &'a Bump, bytes: &[u8]) -> Result<Vec<u16, &'a Bump>, AllocError>
     ensures ok { IfOk result (λ units. units.items ≡ bytes.now) }
-    ensures memory { IsOkUnless result memory }
 {
     let mut units = Vec::with_capacity(arena, bytes.len())?;
     units.resize(bytes.len(), 0)?;
@@ -88,10 +87,9 @@ fn read_each<'a>(
     arena: &'a Bump,
     bytes: &[u8],
     count: u32,
-) -> Result<Option<(Vec<u16, &'a Bump>, usize)>, Fault>
+) -> Result<Option<(Vec<u16, &'a Bump>, usize)>, AllocError>
     ensures found { IfOk result (λ r. IfSome r (λ f. Begins (Many SpellsUnit count) bytes.now f.0.items f.1)) }
     ensures none { IfOk result (λ r. IfNone r (NoneBegins (Many SpellsUnit count) bytes.now)) }
-    ensures memory { IsOkUnless result memory }
 {
     let mut units = Vec::with_capacity(arena, count as usize)?;
     let mut at = 0;
@@ -110,10 +108,9 @@ fn read_units<'a>(
     arena: &'a Bump,
     bytes: &[u8],
     count: u32,
-) -> Result<Option<(Vec<u16, &'a Bump>, usize)>, Fault>
+) -> Result<Option<(Vec<u16, &'a Bump>, usize)>, AllocError>
     ensures found { IfOk result (λ r. IfSome r (λ f. Begins (Many SpellsUnit count) bytes.now f.0.items f.1)) }
     ensures none { IfOk result (λ r. IfNone r (NoneBegins (Many SpellsUnit count) bytes.now)) }
-    ensures memory { IsOkUnless result memory }
 {
     if bytes.len() < count as usize {
         return Ok(None);

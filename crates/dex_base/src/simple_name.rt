@@ -4,7 +4,7 @@
 ghost use Rattle.std.specs.Prelude.{◌≡◌, ℕ, ◌+◌, ◌<◌, ◌≤◌, [], ◌∷◌, ◌++◌, ◌↔◌, List, length, IsTrue, IfSome, IfNone};
 ghost use Rattle.dex_base.specs.Grammar.{Begins, NoneBegins, Each};
 ghost use Rattle.dex_base.specs.Descriptor.{IsNamePoint, IsSimpleName, IsMemberName};
-ghost use Rattle.dex_base.specs.Names.{HasPoint, SpellsPoint, AreLowPoints, IsRun};
+ghost use Rattle.dex_base.specs.inner.Names.{HasPoint, SpellsPoint, AreLowPoints, IsRun};
 
 use std::simd::prelude::*;
 
@@ -163,17 +163,10 @@ fn between_angles(units: &[u16]) -> Option<&[u16]>
     ensures found { IfSome result (λ inner. units.now ≡ 60 ∷ inner.now ++ 62 ∷ []) }
     ensures none { IfNone result ((inner : List ℕ) → units.now ≡ 60 ∷ inner ++ 62 ∷ [] → ⊥) }
 {
-    let length = units.len();
-    if length < 2 {
-        return None;
+    match units {
+        [LESS, inner @ .., GREATER] => Some(inner),
+        _ => None,
     }
-    if units[0] != LESS {
-        return None;
-    }
-    if units[length - 1] != GREATER {
-        return None;
-    }
-    Some(&units[1..length - 1])
 }
 
 /// Whether the units are the name of a field or a method: a simple name, or one between `<` and `>` (MemberName).

@@ -9,7 +9,8 @@ use Rattle.dex_base.proofs.AdlerSums.{adler32-fits}
 use Rattle.dex_base.proofs.FieldBounds.{u32_at-bytes, u32_at-append, length-u32_bytes, u32_at-drop, u32_at-take, u16_at-take}
 use Rattle.sha1.specs.Sha1.{sha1, digest_bytes, hash_after, padded_message}
 use Rattle.dex_container.specs.Frame.{HasChecksum, HasSignature, HasMagic, HasVersion}
-use Rattle.dex_container.specs.Closed.{with_signature, SetsSums}
+use Rattle.dex_container.specs.Closed.{SetsSums}
+use Rattle.dex_container.specs.inner.Closed.{with_signature}
 use Rattle.dex_base.proofs.ListFacts.{rest_is}
 
 -- the bytes before 8 stay, then the checksum of all after it

@@ -1,11 +1,6 @@
 -- A file whose signature and checksum are filled in (Dalvik Executable format, "header_item").
-use Rattle.std.specs.Prelude.{◌≡◌, ℕ, ◌++◌, List, take, drop}
+use Rattle.std.specs.Prelude.{◌≡◌, ℕ, List, take, drop}
 use Rattle.dex_container.specs.Frame.{SumsHold}
-use Rattle.sha1.specs.Sha1.{sha1}
-
--- the bytes from 12 on: the signature of all after it, and these
-unfoldable pub with_signature : List ℕ → List ℕ
-with_signature b = sha1 (drop 32 b) ++ drop 32 b
 
 -- The checksum and the signature hold, and no other byte has changed.
 pub record SetsSums (old new : List ℕ) : Type 0 where

@@ -71,11 +71,6 @@ abbrev pub IsKind : ℕ → Type 0
 IsKind kind =
     (kind ≤ 6) ⊎ (((0x1000 ≤ kind) × (kind ≤ 0x1003)) ⊎ (((0x2000 ≤ kind) × (kind ≤ 0x2006)) ⊎ (kind ≡ 0xF000)))
 
--- The map's entries can be read.
-pub record MapIsReadable (b : List ℕ) : Type 0 where
-  pub long : 112 ≤ length b
-  pub room : map_end b ≤ length b
-
 -- What stands at entry i ends before this: the place that the next entry names.
 abbrev pub EndsBeforeNext : List ℕ → ℕ → ℕ → Type 0
 EndsBeforeNext b i end = i + 1 < entry_count b → end ≤ place_at b (i + 1)

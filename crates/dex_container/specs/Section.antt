@@ -24,7 +24,3 @@ method_ids = 4
 -- the classes
 abbrev pub class_defs : ℕ
 class_defs = 5
-
--- the data section
-abbrev pub data_section : ℕ
-data_section = 6

@@ -1,6 +1,7 @@
 //! The signature and the checksum of a finished file.
 ghost use Rattle.std.specs.Prelude.{◌≡◌, ◌≤◌, ◌++◌, length, take};
-ghost use Rattle.dex_container.specs.Closed.{with_signature, SetsSums};
+ghost use Rattle.dex_container.specs.Closed.{SetsSums};
+ghost use Rattle.dex_container.specs.inner.Closed.{with_signature};
 
 use crate::header_item::{CHECKSUM, FILE_SIZE, SIGNATURE};
 use dex_base::{adler32, put_u32_at};

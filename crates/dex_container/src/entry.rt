@@ -1,7 +1,8 @@
 //! The rules of one entry of the map.
 ghost use Rattle.std.specs.Prelude.{◌≡◌, ◌≢◌, ℕ, ◌+◌, ◌<◌, ◌≤◌, ◌↔◌, length, IsTrue};
 ghost use Rattle.dex_container.specs.Layout.{entry_count, kind_at, place_at};
-ghost use Rattle.dex_container.specs.Frame.{HeaderHolds, SectionsHold, MapIsReadable, IsKind, EndsBeforeNext, HeaderEntryHolds, TableEntryHolds, MapEntryHolds, DataEntryHolds, EntryHolds};
+ghost use Rattle.dex_container.specs.Frame.{HeaderHolds, SectionsHold, IsKind, EndsBeforeNext, HeaderEntryHolds, TableEntryHolds, MapEntryHolds, DataEntryHolds, EntryHolds};
+ghost use Rattle.dex_container.specs.inner.Frame.{MapIsReadable};
 
 use crate::fields::{
     data_begin, entry_count, items_at, kind_at, map_place, offset_of, place_at, row_bytes, size_of,

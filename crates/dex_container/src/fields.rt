@@ -1,7 +1,7 @@
 //! The fields of the header and of the entries of the map, each where Layout says.
 ghost use Rattle.std.specs.Prelude.{◌≡◌, ◌+◌, ◌<◌, ◌≤◌, length};
 ghost use Rattle.dex_container.specs.Layout.{row_bytes, size_field, size_of, offset_of, data_begin, map_place, entry_place, entry_count, kind_at, items_at, place_at};
-ghost use Rattle.dex_container.specs.Frame.{MapIsReadable};
+ghost use Rattle.dex_container.specs.inner.Frame.{MapIsReadable};
 
 use crate::header_item::{DATA, MAP_OFF, STRING_IDS_SIZE};
 use dex_base::{u16_at, u32_at};

@@ -1,7 +1,8 @@
 //! The map, and its faults.
 ghost use Rattle.std.specs.Prelude.{◌≡◌, ℕ, ◌+◌, ◌<◌, ◌≤◌, ◌↔◌, length, IsTrue, OnOk, IfErr, MatchOption};
 ghost use Rattle.dex_container.specs.Layout.{entry_count, kind_at};
-ghost use Rattle.dex_container.specs.Frame.{HeaderHolds, SumsHold, SectionsHold, MapIsReadable, MapIsPlaced, EntryHolds, EntriesHold, HasKind, MapHolds};
+ghost use Rattle.dex_container.specs.Frame.{HeaderHolds, SumsHold, SectionsHold, MapIsPlaced, EntryHolds, EntriesHold, HasKind, MapHolds};
+ghost use Rattle.dex_container.specs.inner.Frame.{MapIsReadable};
 ghost use Rattle.dex_container.specs.Faults.{IsFrameFault};
 
 use crate::entry::entry_holds;

@@ -2,7 +2,7 @@
 use Rattle.std.proofs.Common.{◌≡◌, ◌≢◌, ℕ, zero, suc, ◌+◌, Bool, true, ◌&&◌, ◌==◌, refl, get_or, List, [], ◌∷◌, sym, ◌∙◌, arith}
 use Rattle.std.proofs.lemmas.Bool.Decides.{nat_tests}
 use Rattle.dex_insn.specs.Mnemonics.{mnemonics, IsNamed}
-use Rattle.dex_insn.specs.Named.{candidate}
+use Rattle.dex_insn.specs.inner.Named.{candidate}
 use Rattle.std.proofs.lemmas.Bool.{and_parts}
 
 -- each text, the first of which is row n, has the slot of its row

@@ -1,13 +1,6 @@
 -- The mnemonics of the table ("Dalvik bytecode", "Summary of bytecode set").
-use Rattle.std.specs.Prelude.{ℕ, ◌≡◌, ◌≢◌, Bool, ◌&&◌, ◌||◌, ◌==◌, nat_le, List, [], map, get_or, Option, Some, None}
-use Rattle.std.specs.Borrow.{Bor}
-use Rattle.dex_insn.specs.declared.opcode.Opcode.{Opcode}
+use Rattle.std.specs.Prelude.{ℕ, ◌≡◌, ◌≢◌, Bool, ◌&&◌, ◌||◌, ◌==◌, nat_le, List, [], map, get_or, Some, None}
 use Rattle.dex_insn.specs.declared.opcodes.TheConstants.{OPCODES}
-
--- the mnemonic in a row
-abbrev pub mnemonic_in : Option (Opcode (Bor (List ℕ))) → List ℕ
-mnemonic_in None = []
-mnemonic_in (Some r) = r.mnemonic.now
 
 -- the column of the table; a text of a constant lies at no place in memory, so its rows aren't those that mnemonic_in takes
 unfoldable pub mnemonics : List (List ℕ)

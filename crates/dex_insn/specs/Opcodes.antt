@@ -3,7 +3,7 @@ use Rattle.std.specs.Prelude.{ℕ, Bool, true, false, List, map, get_or, Option,
 use Rattle.dex_insn.specs.declared.opcode.Opcode.{Opcode}
 use Rattle.dex_insn.specs.declared.opcode.IndexKind.{IndexKind}
 use Rattle.dex_insn.specs.declared.opcode.Format.{Format}
-use Rattle.dex_insn.specs.declared.opcode.Format.TheVariants.{F10x, F12x, F11n, F11x, F10t, F20t, F22x, F21t, F21s, F21h, F21c, F23x, F22b, F22t, F22s, F22c, F30t, F32x, F31i, F31t, F31c, F35c, F3rc, F51l}
+use Rattle.dex_insn.specs.declared.opcode.Format.TheVariants.{F10x, F12x, F11n, F11x, F10t, F21c, F22c, F30t, F32x, F31i, F31t, F31c, F35c, F3rc, F51l}
 use Rattle.dex_insn.specs.declared.opcodes.TheConstants.{OPCODES}
 
 -- the format in a row
@@ -39,17 +39,6 @@ units_of F12x = 1
 units_of F11n = 1
 units_of F11x = 1
 units_of F10t = 1
-units_of F20t = 2
-units_of F22x = 2
-units_of F21t = 2
-units_of F21s = 2
-units_of F21h = 2
-units_of F21c = 2
-units_of F23x = 2
-units_of F22b = 2
-units_of F22t = 2
-units_of F22s = 2
-units_of F22c = 2
 units_of F30t = 3
 units_of F32x = 3
 units_of F31i = 3
@@ -58,6 +47,7 @@ units_of F31c = 3
 units_of F35c = 3
 units_of F3rc = 3
 units_of F51l = 5
+units_of _ = 2
 
 -- the format has an index: the letter of its ID is c
 abbrev pub format_has_index : Format → Bool

@@ -2,7 +2,8 @@
 
 ghost use Rattle.std.specs.Prelude.{◌≡◌, ◌<◌, length, map, get_or, [], None};
 ghost use Rattle.dex_insn.specs.Opcodes.{format_in, format_of, index_kind_in, index_kind_of};
-ghost use Rattle.dex_insn.specs.Mnemonics.{mnemonic_in, mnemonic_of};
+ghost use Rattle.dex_insn.specs.Mnemonics.{mnemonic_of};
+ghost use Rattle.dex_insn.specs.inner.Mnemonics.{mnemonic_in};
 
 use crate::opcode::{Format, IndexKind, Opcode};
 use crate::opcodes::OPCODES;

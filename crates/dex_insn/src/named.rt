@@ -3,7 +3,7 @@
 
 ghost use Rattle.std.specs.Prelude.{ℕ, ◌≡◌, IfSome, IfNone};
 ghost use Rattle.dex_insn.specs.Mnemonics.{IsNamed};
-ghost use Rattle.dex_insn.specs.Named.{hash_from, candidate};
+ghost use Rattle.dex_insn.specs.inner.Named.{hash_from, candidate};
 
 use crate::columns::mnemonic_of;
 
@@ -49,7 +49,7 @@ fn hash_of(text: &[u8]) -> u16
 }
 
 /// The one opcode that can have this mnemonic.
-#[tactic(auto, unfolding(crate::specs::Named::candidate))]
+#[tactic(auto, unfolding(crate::specs::inner::Named::candidate))]
 fn candidate(text: &[u8]) -> u8
     ensures { result ≡ candidate text.now }
 {

@@ -19,7 +19,13 @@ impl Format {
     ghost use Rattle.dex_insn.specs.Opcodes.{units_of};
 
     /// How many 16-bit units an instruction of the format has: the first digit of its ID.
-    pub(crate) fn units(self) -> usize
+    ///
+    /// ```
+    /// use dex_insn::Format;
+    ///
+    /// assert_eq!(rt; Format::F31t.units(), 3);
+    /// ```
+    pub fn units(self) -> usize
         ensures { result ≡ units_of self }
     {
         match self {

@@ -14,7 +14,8 @@ use Rattle.program_types.specs.Mentions.{NamesHold, AllNamesHold}
 use Rattle.dex_value.specs.Named.{IsRanked}
 use Rattle.dex_value.specs.Counts.{CountsFit, AllCountsFit}
 use Rattle.dex_value.specs.Wide.{wide_value, wide_values}
-use Rattle.dex_value.specs.Writing.{UnsignedAs, HighAs, IndexAs}
+use Rattle.dex_value.specs.Writing.{UnsignedAs}
+use Rattle.dex_value.specs.inner.Writing.{HighAs, IndexAs}
 use Rattle.dex_value.proofs.Lists.{count_of-values, each-values, values-each}
 use Rattle.program_types.proofs.Nesting.{from, from_next}
 

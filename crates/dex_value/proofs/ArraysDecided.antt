@@ -21,7 +21,7 @@ use Rattle.dex_container.proofs.PlacesDecided.{HasSection, decide_section, found
 use Rattle.dex_value.specs.Spelling.{unsigned_of, signed_of, high_of, value_type_of, SpellsArray}
 use Rattle.dex_value.specs.Standing.{Shallow}
 use Rattle.dex_value.specs.Faults.{widest_of, IsSizedHead, IsNameOfType, OwnBreaks, NextBreaks, ValueBreaks, ArrayBreaks, values_fault, kind_fault, depth_fault}
-use Rattle.dex_value.specs.Reading.{ValueStands}
+use Rattle.dex_value.specs.inner.Reading.{ValueStands}
 use Rattle.dex_value.proofs.Taking.{takes_sized, takes_alone, takes_array, takes_static, takes_deep, takes_many, own_breaks}
 use Rattle.dex_base.specs.Fields.{AreBytes}
 use Rattle.dex_value.specs.FileArrays.{ArrayIsDecided}

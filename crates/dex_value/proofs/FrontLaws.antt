@@ -12,7 +12,7 @@ use Rattle.dex_value.specs.Spelling.{unsigned_of, signed_of, high_of, After, Spe
 use Rattle.dex_value.specs.Standing.{Shallow}
 use Rattle.dex_value.specs.Unique.{IsFunctionalByType}
 use Rattle.dex_value.specs.Faults.{IsNameOfType}
-use Rattle.dex_value.specs.Reading.{ValueStands}
+use Rattle.dex_value.specs.inner.Reading.{ValueStands}
 use Rattle.dex_value.proofs.Lists.{length-listed, each-listed}
 use Rattle.dex_value.proofs.Fronts.{SizedFront, ArrayFront, LoneFront, BareNull, BareFalse, BareTrue, Front, front}
 use Rattle.program_types.proofs.Nesting.{listed, values-listed}

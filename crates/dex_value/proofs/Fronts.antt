@@ -3,7 +3,7 @@ use Rattle.std.proofs.Common.{◌≡◌, ℕ, ◌+◌, ◌*◌, ◌-◌, ◌<◌
 use Rattle.program_types.specs.Content.{Name, OfText, OfDesc, OfField, OfMethod, Value, Byte, Short, Char, Int, Long, Float, Double, Named, Enum, Array, Null, Boolean, Values}
 use Rattle.dex_value.specs.Spelling.{Sized, After, SpellsValue, SpellsValues, count_of}
 use Rattle.dex_value.specs.Faults.{widest_of}
-use Rattle.dex_value.specs.Reading.{ValueStands}
+use Rattle.dex_value.specs.inner.Reading.{ValueStands}
 
 pub record SizedFront (N : ℕ → Name → Type 0) (bytes : List ℕ) (v : Value) : Type 0 where
   pub type : ℕ

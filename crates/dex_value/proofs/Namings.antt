@@ -2,7 +2,8 @@
 use Rattle.std.proofs.Common.{ℕ, List, sym, ap, ◌∙◌, arith}
 use Rattle.program_types.specs.Content.{Name, OfText, OfDesc, OfField, OfMethod, Value, Named, Enum}
 use Rattle.tables_rows.specs.Names.{Names, NameIsAt}
-use Rattle.dex_value.specs.Reading.{IsNumber, ValueStands}
+use Rattle.dex_value.specs.Reading.{IsNumber}
+use Rattle.dex_value.specs.inner.Reading.{ValueStands}
 use Rattle.dex_value.specs.Unique.{IsFunctionalByType}
 use Rattle.dex_base.proofs.ListFacts.{some_inj}
 

@@ -13,7 +13,8 @@ use Rattle.byteorder.specs.Endian.{twos_complement, little_number, little_bytes}
 use Rattle.byteorder.specs.Numbers.{little_from-lt, little_number-reads_back, length-bytes_low_first}
 use Rattle.dex_base.specs.Leb128.{Shortest}
 use Rattle.dex_value.specs.Spelling.{Sized, unsigned_of, signed_of, high_of}
-use Rattle.dex_value.specs.Writing.{IsNumberWidth, IsHighWidth, magnitude_of, sized, SignedAs, UnsignedAs, HighAs}
+use Rattle.dex_value.specs.Writing.{UnsignedAs}
+use Rattle.dex_value.specs.inner.Writing.{IsNumberWidth, IsHighWidth, magnitude_of, sized, SignedAs, HighAs}
 use Rattle.dex_value.proofs.Ranges.{power_most, power_some}
 
 -- a number of at least 256 ^ j doesn't fit j bytes

@@ -14,7 +14,7 @@ use Rattle.dex_value.specs.Spelling.{unsigned_of, SpellsValue, SpellsArray, coun
 use Rattle.dex_value.specs.Standing.{Shallow}
 use Rattle.dex_value.specs.Unique.{IsFunctionalByType}
 use Rattle.dex_value.specs.Faults.{widest_of, IsSizedHead, IsLoneHead, IsUnknown, IsTooDeep, IsEnded, IsCut, HasNoCount, IsNameOfType, NamesNothing, OwnBreaks, NextBreaks, InsideBreaks, ValueBreaks, ArrayBreaks}
-use Rattle.dex_value.specs.Reading.{ValueStands}
+use Rattle.dex_value.specs.inner.Reading.{ValueStands}
 use Rattle.dex_value.proofs.Lists.{each-shallow}
 use Rattle.dex_value.proofs.Fronts.{SizedFront, ArrayFront, Front, front}
 use Rattle.dex_value.proofs.FrontLaws.{cons_head, first_of_lone, sized_not_array, array_depth, array_each, shallow_unique}

@@ -11,7 +11,7 @@ use Rattle.program_types.specs.Depth.{depth}
 use Rattle.dex_value.specs.Spelling.{SpellsValue, SpellsArray}
 use Rattle.dex_value.specs.Standing.{Shallow}
 use Rattle.dex_value.specs.Faults.{widest_of, OwnBreaks, ValueBreaks}
-use Rattle.dex_value.specs.Reading.{ValueStands}
+use Rattle.dex_value.specs.inner.Reading.{ValueStands}
 use Rattle.dex_value.proofs.Lists.{each-values, each-depth, each-deep, each-spelled, count_of-values}
 use Rattle.dex_value.proofs.Fronts.{stands_spells}
 

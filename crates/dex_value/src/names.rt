@@ -7,7 +7,8 @@ ghost use Rattle.program_types.specs.Kinds.{IsOfKind};
 ghost use Rattle.tables_rows.specs.Names.{NameIsAt};
 ghost use Rattle.dex_value.specs.Spelling.{unsigned_of};
 ghost use Rattle.dex_value.specs.Faults.{IsNameOfType};
-ghost use Rattle.dex_value.specs.Reading.{name_code, table_of_type, IsName, ValueStands};
+ghost use Rattle.dex_value.specs.Reading.{name_code, table_of_type};
+ghost use Rattle.dex_value.specs.inner.Reading.{IsName, ValueStands};
 
 use crate::numbers::unsigned;
 use crate::types::{NameType, name_kind};

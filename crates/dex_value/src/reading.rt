@@ -5,7 +5,7 @@ ghost use Rattle.dex_base.specs.Grammar.{Takes, Many};
 ghost use Rattle.program_types.specs.Content as content;
 ghost use Rattle.program_types.specs.View.{value};
 ghost use Rattle.tables_rows.specs.Names.{NameIsAt};
-ghost use Rattle.dex_value.specs.Reading.{TakesArray};
+ghost use Rattle.dex_value.specs.inner.Reading.{TakesArray};
 ghost use Rattle.dex_value.specs.Standing.{Shallow, ArrayStands};
 ghost use Rattle.dex_value.specs.Faults.{IsLoneHead, OwnBreaks, ValueBreaks, NextBreaks, ArrayBreaks, ArrayBreaksAt, values_fault, kind_fault, depth_fault};
 
@@ -16,12 +16,9 @@ use crate::types::{SizedType, sized_type, widest};
 use bumpalo::Bump;
 use dex_base::{Fault, fault, read_uleb};
 use dex_container::{Sections, bytes_from, kind, section_of};
-use program_types::Value;
+use program_types::{MOST_DEPTH, Value};
 use std::alloc::Global;
 use tables_rows::Tables;
-
-/// How deep an array value may lie.
-const DEPTH: u32 = 64;
 
 /// The head of an array: its type, without an argument.
 const ARRAY: u8 = 0x1c;
@@ -196,7 +193,7 @@ fn read_rest<K: Keep>(
         return Err(Fault::at(fault::TOO_MANY_VALUES, u64::from(span.off)));
     }
     let (_, left) = bytes.split_at(length);
-    let (many, _) = read_values(keep, span, DEPTH, count, left)?;
+    let (many, _) = read_values(keep, span, MOST_DEPTH, count, left)?;
     Ok((count, many))
 }
 

@@ -1,6 +1,6 @@
 //! The fewest bytes that a number takes.
 ghost use Rattle.std.specs.Prelude.{◌≡◌, ◌+◌, ◌*◌, ◌^◌, ◌<◌, ◌≤◌};
-ghost use Rattle.dex_value.specs.Writing.{IsNumberWidth, IsHighWidth, magnitude_of};
+ghost use Rattle.dex_value.specs.inner.Writing.{IsNumberWidth, IsHighWidth, magnitude_of};
 
 /// The fewest bytes that hold the number, one at least.
 pub(crate) fn unsigned_width(n: u64) -> usize

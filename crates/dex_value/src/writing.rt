@@ -12,7 +12,8 @@ ghost use Rattle.dex_value.specs.Spelling.{SpellsValue, SpellsArray};
 ghost use Rattle.program_types.specs.Mentions.{NamesHold, AllNamesHold};
 ghost use Rattle.dex_value.specs.Named.{IsRanked, IsPlain};
 ghost use Rattle.dex_value.specs.Counts.{CountsFit, AllCountsFit, ArrayFits};
-ghost use Rattle.dex_value.specs.Writing.{SignedAs, UnsignedAs, HighAs, IndexAs, magnitude_of, sized};
+ghost use Rattle.dex_value.specs.Writing.{UnsignedAs};
+ghost use Rattle.dex_value.specs.inner.Writing.{SignedAs, HighAs, IndexAs, magnitude_of, sized};
 
 use crate::widths::{high_width, signed_width, unsigned_width};
 use byteorder::{ByteOrder, LittleEndian};

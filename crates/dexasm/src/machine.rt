@@ -1,6 +1,6 @@
 //! The machine's files: each call is one or two of the system's.
 ghost use Rattle.std.specs.Prelude.{◌≡◌, [], false, None};
-ghost use Rattle.dexasm_world.specs.State.{unknown_files};
+ghost use Rattle.dexasm_world.specs.inner.State.{unknown_files};
 
 use dexasm_world::{Dress, Handle, Look, NotMade, NotReplaced, Reading, Refusal, World};
 use std::alloc::Global;

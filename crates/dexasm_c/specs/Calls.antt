@@ -1,5 +1,5 @@
 -- What a call leaves in its caller's memory, by how it ended. `old` and `new` are the caller's buffer before and after.
-use Rattle.std.specs.Prelude.{◌≡◌, ◌≢◌, ℕ, ◌<◌, ◌≤◌, List, ◌++◌, length, drop}
+use Rattle.std.specs.Prelude.{◌≡◌, ℕ, ◌<◌, ◌≤◌, List, ◌++◌, length, drop}
 use Rattle.dex_base.specs.Fault.{memory}
 use Rattle.dex_base.specs.declared.fault.Fault.{Fault}
 use Rattle.dexasm_job.specs.declared.job.Job.{Job}
@@ -24,12 +24,6 @@ Puts Answered made old new needed =
     (length made ≤ length old) × (new ≡ made ++ drop (length made) old) × (needed ≡ length made)
 Puts TooSmall made old new needed = (length old < length made) × (new ≡ old) × (needed ≡ length made)
 Puts _ made old new needed = ⊥
-
--- A fault is told: out of memory, or another one.
-abbrev pub Tells : Ending → Fault → CFault → Type 0
-Tells Refused fault tells = (fault.code ≢ 255) × (told tells ≡ fault)
-Tells Memory fault tells = (fault.code ≡ 255) × (told tells ≡ memory)
-Tells _ fault tells = ⊥
 
 -- The job's answer to the given bytes is put, or its length is told where it is too long; or the job refuses them with the fault that
 -- is told, or had not enough memory, and the buffer is as it was.

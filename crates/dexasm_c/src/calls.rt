@@ -1,5 +1,6 @@
 //! What the calls do, with the ending as a word.
-ghost use Rattle.dexasm_c.specs.Calls.{Checks, Ends, Puts, Tells};
+ghost use Rattle.dexasm_c.specs.Calls.{Checks, Ends, Puts};
+ghost use Rattle.dexasm_c.specs.inner.Calls.{Tells};
 
 use crate::ending::{CFault, Ending};
 use dex_base::Fault;

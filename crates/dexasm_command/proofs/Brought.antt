@@ -9,12 +9,12 @@ use Rattle.dexasm_run.specs.declared.error.RunFault.{RunFault}
 use Rattle.dexasm_run.specs.declared.error.RunFault.TheVariants.{Refused, Input, Output, Memory}
 use Rattle.dexasm_world.specs.State.{Path, Files}
 use Rattle.dexasm_command.specs.Carried.{Around, AnswersFile, AnswersFrom, IsUnreadable}
-use Rattle.dexasm_command.specs.Running.{Brings, IsUnread, RunsOn, RunsOnFile}
+use Rattle.dexasm_command.specs.inner.Running.{BringsToOut, FailsToRead, RunsOn, RunsOnFile}
 use Rattle.dexasm_command.proofs.Handing.{goes_to}
 
 -- the answer was made, and brought to OUT, or put on standard output
 pub brought : (job : Job) (out : Option (Bor Path)) (had left : Option (List ℕ)) (failed : Bool) (a b : Around) (made : Vec ℕ Global) (answer : List ℕ) (r : Result (Unit {0}) RunFault)
-    → RunsOn job out had left failed a.taken b.taken b.output_failed (Ok made) → answer ≡ made.items → Brings (a.known ≡ true) a.files b.files out answer r
+    → RunsOn job out had left failed a.taken b.taken b.output_failed (Ok made) → answer ≡ made.items → BringsToOut (a.known ≡ true) a.files b.files out answer r
     → AnswersFrom job out had left failed a b r
 brought job None had left failed a b made answer (Ok x) run same h = (h.0, run)
 brought job None had left failed a b made answer (Err fault) run same h = absurd (let e = h.1 in cc)
@@ -40,7 +40,7 @@ failed_by (Ok x) fault h = absurd h
 failed_by (Err e) fault h = ap (λ x. Err x) h
 
 -- what an answer to be delivered failed by, the whole run fails by
-as_told : (known : Type 0) (f : Files) (path : Path) (fault : RunFault) → IsUnread {T = Vec ℕ Global} known f path (Err fault) → IsUnread {T = Unit {0}} known f path (Err fault)
+as_told : (known : Type 0) (f : Files) (path : Path) (fault : RunFault) → FailsToRead {T = Vec ℕ Global} known f path (Err fault) → FailsToRead {T = Unit {0}} known f path (Err fault)
 as_told known f path (Refused fault) h = absurd (elim h [ inl t ↦ (let e = t.0 in cc) | inr t ↦ (let e = t in cc) ])
 as_told known f path Input h = elim h [ inl t ↦ inl (refl, t.1) | inr t ↦ absurd (let e = t in cc) ]
 as_told known f path Output h = absurd (elim h [ inl t ↦ (let e = t.0 in cc) | inr t ↦ (let e = t in cc) ])
@@ -57,7 +57,7 @@ file_unmade job path out a b fault run same unread = elim run [
 
 pub file_brought : (job : Job) (path : Path) (out : Option (Bor Path)) (a b : Around) (made : Vec ℕ Global) (answer : List ℕ) (r : Result (Unit {0}) RunFault)
     → RunsOnFile (a.known ≡ true) a.files path job out a.taken b.taken b.output_failed (Ok made) → answer ≡ made.items
-    → Brings (a.known ≡ true) a.files b.files out answer r → b.left ≡ a.left → AnswersFile job path out a b r
+    → BringsToOut (a.known ≡ true) a.files b.files out answer r → b.left ≡ a.left → AnswersFile job path out a b r
 file_brought job path out a b made answer r run same h unread = elim run [
   | inl u ↦ absurd (elim u.0 [ inl t ↦ (let e = t.0 in cc) | inr t ↦ (let e = t in cc) ])
   | inr w ↦ (unread, w.0, w.1, brought job out (Some w.0) (Some []) false a b made answer r w.2 same h)

@@ -7,7 +7,8 @@ use Rattle.dexasm_run.specs.Runs.{IsAllGiven}
 use Rattle.dexasm_run.specs.declared.error.RunFault.{RunFault}
 use Rattle.dexasm_run.specs.declared.error.RunFault.TheVariants.{Refused, Input, Output, Memory}
 use Rattle.dexasm_world.specs.State.{Path, Files}
-use Rattle.dexasm_command.specs.Carried.{GoesTo, HandsOver}
+use Rattle.dexasm_command.specs.Carried.{GoesTo}
+use Rattle.dexasm_command.specs.inner.Carried.{HandsOver}
 
 -- known bytes are all that they give
 pub all_known : (given : List ℕ) → IsAllGiven (Some given) (Some []) given

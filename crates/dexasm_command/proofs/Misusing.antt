@@ -4,7 +4,7 @@ use Rattle.clap.specs.Words.{IsAmong, fault_of}
 use Rattle.clap.specs.declared.error.kind.ErrorKind.{ErrorKind}
 use Rattle.clap.specs.declared.error.kind.ErrorKind.TheVariants.{DisplayHelp, DisplayVersion, OutOfMemory}
 use Rattle.dexasm_plan.specs.Commands.{dexasm}
-use Rattle.dexasm_command.specs.Told.{Misuses}
+use Rattle.dexasm_command.specs.inner.Told.{Misuses}
 use Rattle.dexasm_command.specs.Served.{CommandRun, Serves}
 
 -- the kind of what was answered is one of the words', where it isn't want of memory

@@ -9,10 +9,11 @@ use Rattle.dexasm_run.specs.Runs.{IsAllGiven, MatchRun}
 use Rattle.dexasm_run.specs.declared.error.RunFault.{RunFault}
 use Rattle.dexasm_run.specs.declared.error.RunFault.TheVariants.{Refused, Input, Output, Memory}
 use Rattle.dexasm_world.specs.State.{Path, Files, place_of}
-use Rattle.dexasm_world.specs.Looks.{Gives, IsBarredAt, IsHeld, RefusedFor}
+use Rattle.dexasm_world.specs.Looks.{IsBarredAt, IsHeld, RefusedFor}
+use Rattle.dexasm_world.specs.inner.Looks.{Gives}
 use Rattle.dexasm_world.specs.declared.world.Refusal.{Refusal}
 use Rattle.dexasm_world.specs.declared.world.Refusal.TheVariants.{Missing, Memory as NoMemory, Other}
-use Rattle.dexasm_command.specs.Running.{IsUnread, RunsOn, RunsOnFile, failure_of, told}
+use Rattle.dexasm_command.specs.inner.Running.{FailsToRead, RunsOn, RunsOnFile, failure_of, file_outcome}
 use Rattle.dexasm_command.proofs.Handing.{all_known}
 
 -- all that a known reader gives is what it had
@@ -30,7 +31,7 @@ held false f path had left given gives all k = absurd (let e = k in cc)
 
 -- a read of it was refused
 unread : (known : Type 0) (f : Files) (path place : Path) (refusal : Refusal) → (known → place ≡ place_of f path) → (known → RefusedFor refusal (IsBarredAt f place))
-    → IsUnread {T = Vec ℕ Global} known f path (Err (failure_of refusal))
+    → FailsToRead {T = Vec ℕ Global} known f path (Err (failure_of refusal))
 unread known f path place NoMemory here why = inr refl
 unread known f path place Missing here why = inl (refl, λ k. inr (subst (IsBarredAt f) (here k) (why k)))
 unread known f path place Other here why = inl (refl, λ k. inr (subst (IsBarredAt f) (here k) (why k)))
@@ -39,7 +40,7 @@ pub on_file : (known : Bool) (f : Files) (path place : Path) (job : Job) (out : 
     (made : Result (Vec ℕ Global) RunFault) (refusal : Option Refusal) → (known ≡ true → Gives f path had × (place ≡ place_of f path))
     → RunsOn job out (cond known had None) left failed taken takes output_failed made
     → MatchRun made ⊤ (λ _. ⊤) ((why : Refusal) × (refusal ≡ Some why) × (known ≡ true → RefusedFor why (IsBarredAt f place))) ⊤ ⊤
-    → RunsOnFile (known ≡ true) f path job out taken takes output_failed (told made refusal)
+    → RunsOnFile (known ≡ true) f path job out taken takes output_failed (file_outcome made refusal)
 on_file known f path place job None had left failed taken takes output_failed (Ok made) refusal opened h why =
     inr (h.0, held known f path had left h.0 (λ k. (opened k).0) h.2, (h.0, h.1, all_known h.0, h.3, h.4))
 on_file known f path place job None had left failed taken takes output_failed (Err (Refused fault)) refusal opened h why =

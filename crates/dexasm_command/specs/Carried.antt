@@ -42,15 +42,6 @@ ToOutput job had left failed a b result = (b.files ≡ a.files) × MatchRun resu
     ((b.output_failed ≡ true) × BeginsAnswer job had left a.taken b.taken)
     (Keeps a.taken b.taken)
 
--- An answer is brought to OUT, or there is a cause why it isn't, unless memory ran out.
-abbrev pub HandsOver : {T : Type 0} → Type 0 → Files → Files → Path → List ℕ → Result T RunFault → Type 0
-HandsOver known f g out answer result = MatchRun result
-    (known → Passes f g (IsSafe f out answer) × IsDelivered f out answer g.now × IsTidy f out g)
-    (λ fault. ⊥)
-    ⊥
-    (known → Passes f g (IsSafe f out answer) × CauseAt out f g × IsGivenUp f out answer g)
-    (known → Passes f g (IsSafe f out answer) × IsGivenUp f out answer g)
-
 -- The answer goes to OUT. Before it is whole no file is touched.
 abbrev pub GoesTo : {T : Type 0} → Job → Option (List ℕ) → Option (List ℕ) → Bool → Type 0 → Files → Files → Path → Result T RunFault → Type 0
 GoesTo job had left failed known f g out result = MatchRun result

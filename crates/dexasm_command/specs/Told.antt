@@ -1,8 +1,6 @@
 -- What is told of a failure.
-use Rattle.std.specs.Prelude.{◌≡◌, ◌≢◌, ◌⊎◌, ℕ, Bool, true, false, List, [], ◌∷◌, ◌++◌, Option, codes, take, Result, Ok, Err}
+use Rattle.std.specs.Prelude.{◌≡◌, ◌⊎◌, ℕ, Bool, true, false, List, [], ◌∷◌, ◌++◌, Option, codes, take, Result, Ok, Err}
 use Rattle.std.specs.Io.KnownBytes.{Appends, Keeps}
-use Rattle.clap.specs.declared.error.kind.ErrorKind.{ErrorKind}
-use Rattle.clap.specs.declared.error.kind.ErrorKind.TheVariants.{DisplayHelp, DisplayVersion, OutOfMemory}
 use Rattle.dex_base.specs.Fault.{fault_sentence}
 use Rattle.dexasm_run.specs.Status.{error_line, exit_status}
 use Rattle.dexasm_run.specs.declared.error.RunFault.{RunFault}
@@ -31,12 +29,6 @@ pub record IsText (terminal : Bool) (fault : RunFault) (text : List ℕ) : Type 
   pub is : IsMore terminal fault more
   pub whole : text ≡ error_line fault ++ 10 ∷ more
 
--- what a terminal is told is added to the text
-pub record AddsMore (fault : RunFault) (old new : List ℕ) : Type 0 where
-  pub more : List ℕ
-  pub is : IsMore true fault more
-  pub added : new ≡ old ++ more
-
 -- the text of a failure has been put, or a front of it where the sink failed
 pub record PutsFault (terminal : Bool) (fault : RunFault) (held holds : Option (List ℕ)) (failed : Bool) : Type 0 where
   pub text : List ℕ
@@ -62,10 +54,3 @@ Shows terminal held holds failed said says errors_failed text status =
     (Appends held holds text × (status ≡ 0) × Keeps said says)
     ⊎ ((failed ≡ true) × (n : ℕ) × Appends held holds (take n text)
     × (TellsFault terminal Output said says errors_failed status ⊎ TellsFault terminal Memory said says errors_failed status))
-
--- what comes of words that are no job: help or the version is shown, or the words are wrong, or memory ran out
-abbrev pub Misuses : Bool → ErrorKind → Option (List ℕ) → Option (List ℕ) → Bool → Option (List ℕ) → Option (List ℕ) → Bool → ℕ → Type 0
-Misuses terminal kind held holds failed said says errors_failed status =
-    (((kind ≡ DisplayHelp) ⊎ (kind ≡ DisplayVersion)) × (text : List ℕ) × Shows terminal held holds failed said says errors_failed text status)
-    ⊎ ((kind ≢ DisplayHelp) × (kind ≢ DisplayVersion) × (kind ≢ OutOfMemory) × Keeps held holds × (status ≡ 2))
-    ⊎ (Keeps held holds × TellsFault terminal Memory said says errors_failed status)

@@ -2,8 +2,9 @@
 //! or to OUT when it is whole.
 ghost use Rattle.std.specs.Prelude.{◌≡◌, false, true, ⊤};
 ghost use Rattle.dexasm_run.specs.Runs.{MatchRun};
-ghost use Rattle.dexasm_command.specs.Carried.{CarriesOut, HandsOver, around};
-ghost use Rattle.dexasm_command.specs.Running.{Brings, RunsOn, RunsOnFile, failure_of, told};
+ghost use Rattle.dexasm_command.specs.Carried.{CarriesOut, around};
+ghost use Rattle.dexasm_command.specs.inner.Carried.{HandsOver};
+ghost use Rattle.dexasm_command.specs.inner.Running.{BringsToOut, RunsOn, RunsOnFile, failure_of, file_outcome};
 
 use crate::file_source::FileSource;
 use dex_base::Seed;
@@ -92,12 +93,15 @@ fn run_on_file<W: World, O: Sink>(
     };
     let mut given = FileSource::new(world, reader);
     let made = run_on(alloc, seed, job, &mut given, out, output);
-    told(made, given.refusal)
+    file_outcome(made, given.refusal)
 }
 
 /// What has come of a run on FILE, of which a read was refused, or none.
-fn told(made: Result<Vec<u8>, RunFault>, refusal: Option<Refusal>) -> Result<Vec<u8>, RunFault>
-    ensures { result ≡ told made refusal }
+fn file_outcome(
+    made: Result<Vec<u8>, RunFault>,
+    refusal: Option<Refusal>,
+) -> Result<Vec<u8>, RunFault>
+    ensures { result ≡ file_outcome made refusal }
 {
     match (made, refusal) {
         (Err(RunFault::Input), Some(refusal)) => Err(failure_of(refusal)),
@@ -122,7 +126,7 @@ fn bring<W: World>(
     out: Option<&str>,
     world: &mut W,
 ) -> Result<(), RunFault>
-    ensures { Brings (W.is_known ≡ true) (W.files world.old) (W.files world.new) out.entry answer.now result }
+    ensures { BringsToOut (W.is_known ≡ true) (W.files world.old) (W.files world.new) out.entry answer.now result }
 {
     match out {
         None => Ok(()),

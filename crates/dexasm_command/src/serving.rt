@@ -2,7 +2,8 @@
 ghost use Rattle.std.specs.Prelude.{◌≡◌, false, true, Result, Option};
 ghost use Rattle.clap.specs.Words.{kind_of};
 ghost use Rattle.dexasm_plan.specs.Plans.{texts_of};
-ghost use Rattle.dexasm_command.specs.Told.{EndsTold, Misuses, PutsLine, Shows, terminal_line};
+ghost use Rattle.dexasm_command.specs.Told.{EndsTold, PutsLine, Shows, terminal_line};
+ghost use Rattle.dexasm_command.specs.inner.Told.{Misuses};
 ghost use Rattle.dexasm_command.specs.Carried.{around};
 ghost use Rattle.dexasm_command.specs.Served.{Serves};
 

@@ -1,7 +1,8 @@
 //! A failure, told.
 ghost use Rattle.std.specs.Prelude.{◌≡◌, ◌⊎◌, ◌++◌, List, ℕ, IfOk, OnOk, string_bytes};
 ghost use Rattle.dexasm_run.specs.declared.error.RunFault.TheVariants.{Memory};
-ghost use Rattle.dexasm_command.specs.Told.{AddsMore, IsText, TellsFault, more_line};
+ghost use Rattle.dexasm_command.specs.Told.{IsText, TellsFault, more_line};
+ghost use Rattle.dexasm_command.specs.inner.Told.{AddsMore};
 
 use dex_base::fault_sentence;
 use dexasm_run::{RunFault, Sink, line_text, status, write_all};

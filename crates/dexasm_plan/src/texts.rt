@@ -33,7 +33,7 @@ Annotations and debug information are ignored. The format is Dalvik Executable, 
 Example: dexasm check classes.dex";
 
 /// The subcommand list: what it does.
-pub(crate) const LIST: &str = "Prints the program of a .dex file as a listing";
+pub(crate) const LIST: &str = "Disassembles: prints the program of a .dex file as a listing";
 
 /// More on it.
 pub(crate) const LIST_MORE: &str = "\
@@ -45,7 +45,7 @@ breaks a rule of its format (Dalvik Executable, version 035) is refused.
 Example: dexasm list classes.dex --output classes.txt";
 
 /// The subcommand assemble: what it does.
-pub(crate) const ASSEMBLE: &str = "Turns a listing into a .dex file";
+pub(crate) const ASSEMBLE: &str = "Assembles: turns a listing into a .dex file";
 
 /// More on it.
 pub(crate) const ASSEMBLE_MORE: &str = "\

@@ -12,6 +12,6 @@ moved_none (Ok n) piece = (n == 0) && nat_lt 0 (length piece)
 moved_none (Err e) piece = false
 
 -- how many bytes a call moved, where it didn't fail
-abbrev pub count_of : {E : Type 0} → Result ℕ E → Option ℕ
-count_of (Ok n) = Some n
-count_of (Err e) = None
+abbrev pub moved_by : {E : Type 0} → Result ℕ E → Option ℕ
+moved_by (Ok n) = Some n
+moved_by (Err e) = None

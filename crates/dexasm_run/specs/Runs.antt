@@ -1,6 +1,5 @@
 -- What a run leaves, by how it ended.
-use Rattle.std.specs.Prelude.{◌≡◌, ℕ, Bool, true, ◌≤◌, List, Option, ⊤, Result, Ok, Err, take, length, Vec}
-use Rattle.std.specs.Global.{Global}
+use Rattle.std.specs.Prelude.{◌≡◌, ℕ, Bool, true, ◌≤◌, List, Option, Result, Ok, Err, take, length}
 use Rattle.std.specs.Io.KnownBytes.{Appends, Consumes, IsAtEnd}
 use Rattle.dexasm_job.specs.declared.job.Job.{Job}
 use Rattle.dex_base.specs.declared.fault.Fault.{Fault}
@@ -36,13 +35,6 @@ abbrev pub BeginsAnswer : Job → Option (List ℕ) → Option (List ℕ) → Op
 BeginsAnswer job had left held holds = (given : List ℕ) × (made : List ℕ) × (n : ℕ)
     × IsAllGiven had left given × Answer job given made × (n ≤ length made)
     × Appends held holds (take n made)
-
--- reading to the end: the bytes given, or why not
-abbrev pub ReadsAll : Option (List ℕ) → Option (List ℕ) → Bool → Bool → Result (Vec ℕ Global) RunFault → Type 0
-ReadsAll old new failed ended (Ok given) = IsAllGiven old new given.items × (ended ≡ true)
-ReadsAll old new failed ended (Err Memory) = ⊤
-ReadsAll old new failed ended (Err Input) = failed ≡ true
-ReadsAll old new failed ended (Err _) = ⊥
 
 -- putting it all, or a beginning of it where the sink failed
 abbrev pub WritesAll : {T : Type 0} → Option (List ℕ) → Option (List ℕ) → Bool → List ℕ → Result T RunFault → Type 0

@@ -1,5 +1,6 @@
 //! Laws of answers and outcomes, each the contract of a function that does nothing else.
-ghost use Rattle.dexasm_run.specs.Once.{ListedAndAssembledIsStripped, OneAnswer, OneOutcome};
+ghost use Rattle.dexasm_run.specs.Once.{OneAnswer, OneOutcome};
+ghost use Rattle.dexasm_run.specs.inner.Once.{ListedAndAssembledIsStripped};
 
 /// A job has one answer to the bytes that it is given.
 pub fn one_answer()

@@ -1,7 +1,8 @@
 //! One run of a job: read all, answer, write all.
 ghost use Rattle.std.specs.Prelude.{◌≡◌, ◌<◌, vec_len, true, false, ⊤, IfOk, length, take};
 ghost use Rattle.std.specs.Io.KnownBytes.{Keeps};
-ghost use Rattle.dexasm_run.specs.Runs.{Answers, BeginsAnswer, MatchRun, Refuses, ReadsAll, WritesAll};
+ghost use Rattle.dexasm_run.specs.Runs.{Answers, BeginsAnswer, MatchRun, Refuses, WritesAll};
+ghost use Rattle.dexasm_run.specs.inner.Runs.{ReadsAll};
 
 use crate::answers::answer_owned;
 use crate::error::RunFault;
@@ -146,7 +147,7 @@ fn gather<R: Source>(alloc: Global, input: &mut R, piece: &mut [u8]) -> Result<V
 ///
 /// let mut output = Watched::new(Vec::new(alloc));
 /// assert!(rt; write_all(b"ok", &mut output).is_ok());
-/// assert_eq!(rt; output.into_inner().as_slice(), b"ok");
+/// assert_eq!(rt; output.into_inner().as_slice(), b"ok".as_slice());
 /// ```
 pub fn write_all<W: Sink>(made: &[u8], output: &mut W) -> Result<(), RunFault>
     ensures { WritesAll (W.contents output.old) (W.contents output.new) (W.failed output.new) made.now result }

@@ -2,7 +2,7 @@
 ghost use Rattle.std.specs.Prelude.{◌≡◌, ◌||◌, ℕ, Bool, List, Option, ⊤};
 ghost use Rattle.std.specs.Io.{WritesAtMost};
 ghost use Rattle.std.specs.Io.KnownBytes.{WriteAppends};
-ghost use Rattle.dexasm_run.specs.Ends.{call_failed, count_of, moved_none};
+ghost use Rattle.dexasm_run.specs.Ends.{call_failed, moved_by, moved_none};
 ghost use Rattle.dexasm_run.specs.Watching.{watched_failed, watched_inner};
 
 use crate::watched::Watched;
@@ -46,7 +46,7 @@ pub trait Writer {
     fn write_piece(&mut self, piece: &[u8]) -> io::Result<usize>
         ensures bound { WritesAtMost result piece.now }
         ensures bytes { WriteAppends (held self.old) (held self.new) result piece.now }
-        ensures did { writes self.old self.new piece.now (count_of result) };
+        ensures did { writes self.old self.new piece.now (moved_by result) };
 }
 
 impl<W: Write> Writer for W {
@@ -68,7 +68,7 @@ impl<W: Writer> Sink for Watched<W> {
         ensures bound { WritesAtMost result piece.now }
         ensures bytes { WriteAppends (W.held (watched_inner self.old)) (W.held (watched_inner self.new)) result piece.now }
         ensures failed { watched_failed self.new ≡ (watched_failed self.old || (call_failed result || moved_none result piece.now)) }
-        ensures asked { W.writes (watched_inner self.old) (watched_inner self.new) piece.now (count_of result) }
+        ensures asked { W.writes (watched_inner self.old) (watched_inner self.new) piece.now (moved_by result) }
     {
         let taken = self.inner.write_piece(piece);
         match &taken {

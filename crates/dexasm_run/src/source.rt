@@ -2,7 +2,7 @@
 ghost use Rattle.std.specs.Prelude.{◌≡◌, ◌||◌, ℕ, Bool, List, Option, ⊤, IfErr, OnOk};
 ghost use Rattle.std.specs.Io.{ReadsAtMost};
 ghost use Rattle.std.specs.Io.KnownBytes.{ReadConsumes};
-ghost use Rattle.dexasm_run.specs.Ends.{call_failed, count_of, moved_none};
+ghost use Rattle.dexasm_run.specs.Ends.{call_failed, moved_by, moved_none};
 ghost use Rattle.dexasm_run.specs.Watching.{watched_ended, watched_failed, watched_inner};
 
 use crate::watched::Watched;
@@ -60,7 +60,7 @@ pub trait Reader {
     fn read_piece(&mut self, piece: &mut [u8]) -> io::Result<usize>
         ensures bound { ReadsAtMost result piece.new }
         ensures bytes { ReadConsumes (left self.old) (left self.new) result piece.new }
-        ensures did { reads self.old self.new piece.new (count_of result) };
+        ensures did { reads self.old self.new piece.new (moved_by result) };
 }
 
 impl<R: Read> Reader for R {
@@ -85,7 +85,7 @@ impl<R: Reader> Source for Watched<R> {
         ensures bytes { ReadConsumes (R.left (watched_inner self.old)) (R.left (watched_inner self.new)) result piece.new }
         ensures failed { watched_failed self.new ≡ (watched_failed self.old || call_failed result) }
         ensures ended { watched_ended self.new ≡ (watched_ended self.old || moved_none result piece.old) }
-        ensures asked { R.reads (watched_inner self.old) (watched_inner self.new) piece.new (count_of result) }
+        ensures asked { R.reads (watched_inner self.old) (watched_inner self.new) piece.new (moved_by result) }
     {
         let taken = self.inner.read_piece(piece);
         match &taken {

@@ -2,9 +2,10 @@
 use Rattle.std.proofs.Common.{◌≡◌, ◌≢◌, ◌⊎◌, inl, inr, ℕ, List, [], ◌++◌, Option, Some, None, IsSome, subst, refl, sym, ◌∙◌, ap}
 use Rattle.std.specs.Option.{IfSome, IsSomeAnd}
 use Rattle.dexasm_world.specs.State.{Path, Paths, FileState, Stored, Files, IsThere, Passes, place_of}
-use Rattle.dexasm_world.specs.Steps.{TouchesOnly, private_mode}
+use Rattle.dexasm_world.specs.Steps.{private_mode}
+use Rattle.dexasm_world.specs.inner.Steps.{TouchesOnly}
 use Rattle.dexasm_world.specs.Safe.{KeepsFile, HasAnswer, IsWholeAt, IsNarrow}
-use Rattle.dexasm_world.specs.Parts.{IsStill, Fills, Stores, Dresses, HasPartFile, HasFullPart, Brings, HasBrought}
+use Rattle.dexasm_world.specs.inner.Parts.{IsStill, Fills, Stores, Dresses, HasPartFile, HasFullPart, Brings, HasBrought}
 use Rattle.dexasm_world.specs.declared.world.Dress.{Dress}
 use Rattle.dexasm_world.proofs.Passing.{weaker, then}
 use Rattle.dexasm_world.proofs.Installing.{IsFine, brings, carry_part}

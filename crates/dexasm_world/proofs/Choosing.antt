@@ -5,11 +5,12 @@ use Rattle.std.specs.Bool.{Decides}
 use Rattle.std.specs.Str.{bytes_eq}
 use Rattle.std.proofs.lemmas.Slice.Eq.{bytes_eq-Decides}
 use Rattle.dexasm_world.specs.State.{Path, Paths, FileState, Stored, Files, Passes, place_of}
-use Rattle.dexasm_world.specs.Steps.{Same, Made, MadeAs, private_mode}
+use Rattle.dexasm_world.specs.Steps.{private_mode}
+use Rattle.dexasm_world.specs.inner.Steps.{Same, Made, MadeAs}
 use Rattle.dexasm_world.specs.Safe.{part_path, name_count, target_of, IsTaken, IsNarrow, IsPartPlace, IsAsBefore, KeepsFile, IsAlone, HasRoomBeside, CanGive, IsSafe, IsDelivered}
 use Rattle.std.specs.Option.{IsSomeAnd}
 use Rattle.dexasm_world.specs.declared.world.Dress.{Dress}
-use Rattle.dexasm_world.specs.Parts.{HasPartFile, Overwrites, HoldsBytes, Dresses, Brings, HasBrought}
+use Rattle.dexasm_world.specs.inner.Parts.{HasPartFile, Overwrites, HoldsBytes, Dresses, Brings, HasBrought}
 use Rattle.std.proofs.lemmas.Bool.{cases_order}
 use Rattle.dexasm_world.proofs.Passing.{goes_on}
 use Rattle.dexasm_world.proofs.Installing.{carry_file}

@@ -1,9 +1,9 @@
 -- An answer that stands beside OUT is written over it.
 use Rattle.std.proofs.Common.{◌≡◌, ◌≢◌, ◌⊎◌, inl, inr, ℕ, List, Some, None, true, subst, refl, sym, ◌∙◌, ap}
 use Rattle.dexasm_world.specs.State.{Path, FileState, Stored, Files, Passes, place_of}
-use Rattle.dexasm_world.specs.Steps.{Same, Removed}
+use Rattle.dexasm_world.specs.inner.Steps.{Same, Removed}
 use Rattle.dexasm_world.specs.Safe.{HasAnswer, IsNarrow}
-use Rattle.dexasm_world.specs.Parts.{Overwrites, HoldsBytes, HasPartFile, HasFullPart, Brings}
+use Rattle.dexasm_world.specs.inner.Parts.{Overwrites, HoldsBytes, HasPartFile, HasFullPart, Brings}
 use Rattle.dexasm_world.proofs.Passing.{weaker, goes_on, removed_on}
 use Rattle.dexasm_world.proofs.States.{same_state}
 

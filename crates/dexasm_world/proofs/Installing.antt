@@ -2,10 +2,10 @@
 use Rattle.std.specs.Prelude.{⊤}
 use Rattle.std.proofs.Common.{◌≡◌, ◌≢◌, ◌⊎◌, inl, inr, ℕ, List, Some, true, subst, refl, sym, ◌∙◌}
 use Rattle.dexasm_world.specs.State.{Path, Paths, FileState, Files, IsThere, Passes, place_of}
-use Rattle.dexasm_world.specs.Steps.{Same, Moved, Removed}
-use Rattle.dexasm_world.specs.Looks.{CanReplace}
+use Rattle.dexasm_world.specs.inner.Steps.{Same, Moved, Removed}
+use Rattle.dexasm_world.specs.inner.Looks.{CanReplace}
 use Rattle.dexasm_world.specs.Safe.{KeepsFile, IsWholeAt, IsNarrow}
-use Rattle.dexasm_world.specs.Parts.{HasPartFile, HasFullPart, Brings, HasBrought}
+use Rattle.dexasm_world.specs.inner.Parts.{HasPartFile, HasFullPart, Brings, HasBrought}
 use Rattle.dexasm_world.proofs.Passing.{weaker, goes_on, removed_on}
 use Rattle.dexasm_world.proofs.States.{same_state}
 use Rattle.dexasm_world.proofs.Copying.{answer_carries, part_at_first, narrow_part, narrow_gone}

@@ -2,10 +2,10 @@
 use Rattle.std.proofs.Common.{◌<◌, ◌≡◌, ◌⊎◌, inl, inr, ℕ, List, Option, IsSome, is_some, true, false, subst, refl, sym, ◌∙◌, ap}
 use Rattle.std.specs.Prelude.{Result}
 use Rattle.dexasm_world.specs.State.{Path, FileState, Files, Passes, place_of}
-use Rattle.dexasm_world.specs.Steps.{Same}
-use Rattle.dexasm_world.specs.Looks.{IsLinkTarget, LeadsNowhere}
+use Rattle.dexasm_world.specs.inner.Steps.{Same}
+use Rattle.dexasm_world.specs.inner.Looks.{IsLinkTarget, LeadsNowhere}
 use Rattle.dexasm_world.specs.Safe.{part_path, target_of, IsTaken, IsNarrow, IsPartPlace, HasAnswer, IsWholeAt, HasRoomBeside, CanGive, IsSafe, IsDelivered}
-use Rattle.dexasm_world.specs.Parts.{Overwrites, HoldsBytes}
+use Rattle.dexasm_world.specs.inner.Parts.{Overwrites, HoldsBytes}
 use Rattle.dexasm_world.proofs.Passing.{stays, weaker}
 use Rattle.dexasm_world.specs.Looks.{HasCauseAt, IsBarred, NoneIsFree}
 use Rattle.dexasm_world.specs.declared.world.Refusal.{Refusal}

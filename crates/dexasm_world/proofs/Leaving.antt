@@ -2,10 +2,10 @@
 use Rattle.std.specs.Prelude.{Result, OnOk, OnErr}
 use Rattle.std.proofs.Common.{false, true, ◌≡◌, ◌≢◌, ◌⊎◌, ◌<◌, ◌≤◌, inl, inr, ℕ, List, None, Ok, Err, arith, subst, sym, ◌∙◌, ap}
 use Rattle.dexasm_world.specs.State.{Path, Paths, FileState, Files, Passes, place_of}
-use Rattle.dexasm_world.specs.Steps.{Same, Removed}
+use Rattle.dexasm_world.specs.inner.Steps.{Same, Removed}
 use Rattle.dexasm_world.specs.Safe.{IsPartPlace, HasAnswer, CanGive, IsTidy, StandsBeside, Leaves}
-use Rattle.dexasm_world.specs.Looks.{IsLinkTarget}
-use Rattle.dexasm_world.specs.Parts.{Brings, IsGone, LeavesPart}
+use Rattle.dexasm_world.specs.inner.Looks.{IsLinkTarget}
+use Rattle.dexasm_world.specs.inner.Parts.{Brings, IsGone, LeavesPart}
 use Rattle.dexasm_world.specs.declared.world.Refusal.{Refusal}
 use Rattle.dexasm_world.proofs.Passing.{leads_on, plain_on}
 use Rattle.dexasm_world.proofs.Bringing.{brings_since, carry_answer}

@@ -7,8 +7,9 @@ use Rattle.std.proofs.lemmas.Slice.Eq.{bytes_eq-Decides}
 use Rattle.std.proofs.lemmas.Bool.Decides.{Decides-eqb}
 use Rattle.std.proofs.lemmas.List.Elements.{All-nil, All-cons}
 use Rattle.dexasm_world.specs.State.{Path, FileState, Stored, Files, place_of}
-use Rattle.dexasm_world.specs.Steps.{Same, TouchesOnly, Made, MadeAs, private_mode, Wrote, Emptied, Dressed, Kept, Moved, Removed, Begun}
-use Rattle.dexasm_world.specs.Possible.{MayLead, CanMake, CanDress, CanAppend, CanKeep, CanMove, CanRemove, CanBegin, CanFail}
+use Rattle.dexasm_world.specs.Steps.{private_mode}
+use Rattle.dexasm_world.specs.inner.Steps.{Same, TouchesOnly, Made, MadeAs, Wrote, Emptied, Dressed, Kept, Moved, Removed, Begun}
+use Rattle.dexasm_world.specs.inner.Possible.{MayLead, CanMake, CanDress, CanAppend, CanKeep, CanMove, CanRemove, CanBegin, CanFail}
 
 module _ {A : Type 0} (x y : A) where
   if_is : (r : Bool) (P : Type 0) → Decides r P → P → (if r then x else y) ≡ x

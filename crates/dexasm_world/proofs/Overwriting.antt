@@ -1,8 +1,8 @@
 -- What is written over what a path leads to.
 use Rattle.std.proofs.Common.{◌≡◌, ◌⊎◌, inl, inr, ℕ, List, [], subst}
 use Rattle.dexasm_world.specs.State.{Path, Files, Passes}
-use Rattle.dexasm_world.specs.Steps.{Same, Wrote, Begun}
-use Rattle.dexasm_world.specs.Parts.{Overwrites}
+use Rattle.dexasm_world.specs.inner.Steps.{Same, Wrote, Begun}
+use Rattle.dexasm_world.specs.inner.Parts.{Overwrites}
 use Rattle.dexasm_world.proofs.Passing.{weaker, goes_on}
 use Rattle.dexasm_world.proofs.Stepping.{IsFront}
 use Rattle.dexasm_world.proofs.States.{TouchesPlace, begins, touches_on, overwrites, nothing_overwritten}

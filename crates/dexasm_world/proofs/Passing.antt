@@ -2,7 +2,7 @@
 use Rattle.std.proofs.Common.{Bool, true, ◌≡◌, ◌⊎◌, refl, sym, ◌∙◌, ap, subst, [], ◌∷◌, ◌++◌, append_assoc, arith}
 use Rattle.std.proofs.lemmas.List.Elements.{All-nil, All-append, All-weaker}
 use Rattle.dexasm_world.specs.State.{Path, Paths, Files, Passes, FileState, place_of}
-use Rattle.dexasm_world.specs.Steps.{Same, Removed}
+use Rattle.dexasm_world.specs.inner.Steps.{Same, Removed}
 
 -- nothing was called
 pub stays : (f : Files) (P : FileState → Type 0) → P f.now → Passes f f P

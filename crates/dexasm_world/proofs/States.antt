@@ -1,8 +1,8 @@
 -- What is touched since a moment.
 use Rattle.std.proofs.Common.{◌≡◌, ◌≢◌, ◌⊎◌, inl, inr, ℕ, None, Some, sym, ◌∙◌, ap}
 use Rattle.dexasm_world.specs.State.{Path, FileState}
-use Rattle.dexasm_world.specs.Steps.{Same, TouchesOnly, Begun}
-use Rattle.dexasm_world.specs.Parts.{Overwrites}
+use Rattle.dexasm_world.specs.inner.Steps.{Same, TouchesOnly, Begun}
+use Rattle.dexasm_world.specs.inner.Parts.{Overwrites}
 
 -- two moments with the same names and files are one
 pub same_state : (s t : FileState) → Same s t → t ≡ s

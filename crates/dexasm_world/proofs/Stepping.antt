@@ -2,7 +2,7 @@
 use Rattle.std.proofs.Common.{◌≡◌, ℕ, subst, ◌+◌, ◌≤◌, refl, sym, ◌∙◌, ap, List, [], ◌++◌, append_assoc, append-nil, take, drop, length, length-drop, arith}
 use Rattle.std.proofs.Math.Seq.{take-add}
 use Rattle.dexasm_world.specs.State.{FileState, Files, Passes}
-use Rattle.dexasm_world.specs.Steps.{TouchesOnly, Wrote}
+use Rattle.dexasm_world.specs.inner.Steps.{TouchesOnly, Wrote}
 use Rattle.dexasm_world.proofs.Passing.{goes_on}
 
 pub touches_nothing : (n : ℕ) (s : FileState) → TouchesOnly n s s

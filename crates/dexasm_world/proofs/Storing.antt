@@ -2,8 +2,8 @@
 use Rattle.std.proofs.Common.{◌≡◌, ◌⊎◌, inl, inr, ℕ, List, [], Option, Some, None, subst, sym, ◌∙◌, ap}
 use Rattle.std.specs.Option.{IfSome}
 use Rattle.dexasm_world.specs.State.{FileState, Stored, Files, Passes}
-use Rattle.dexasm_world.specs.Steps.{Same, TouchesOnly, Wrote, Dressed}
-use Rattle.dexasm_world.specs.Parts.{IsStill, Fills}
+use Rattle.dexasm_world.specs.inner.Steps.{Same, TouchesOnly, Wrote, Dressed}
+use Rattle.dexasm_world.specs.inner.Parts.{IsStill, Fills}
 use Rattle.dexasm_world.specs.declared.world.Dress.{Dress}
 use Rattle.dexasm_world.proofs.Passing.{weaker, goes_on}
 use Rattle.dexasm_world.proofs.Stepping.{IsFront, touches_then}

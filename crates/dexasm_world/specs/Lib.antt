@@ -2,5 +2,4 @@ pub mod State
 pub mod Steps
 pub mod Safe
 pub mod Looks
-pub mod Parts
-pub mod Possible
+pub mod inner

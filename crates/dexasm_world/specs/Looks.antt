@@ -1,70 +1,14 @@
 -- What is told of a name.
-use Rattle.std.specs.Prelude.{◌≡◌, ◌≢◌, ◌⊎◌, ◌<◌, ℕ, true, false, List, Option, Some, None, IsSome, ⊤, Result, Ok, Err}
-use Rattle.dexasm_world.specs.State.{Path, FileState, Files, place_of}
-use Rattle.dexasm_world.specs.Steps.{Same}
+use Rattle.std.specs.Prelude.{◌≡◌, ◌⊎◌, ◌<◌, ℕ, true, false, List, Some, None, ⊤, Result, Ok, Err}
+use Rattle.dexasm_world.specs.State.{Path, Files, place_of}
 use Rattle.dexasm_world.specs.Safe.{part_path, name_count, target_of, IsTaken}
-use Rattle.dexasm_world.specs.declared.world.Look.{Look}
-use Rattle.dexasm_world.specs.declared.world.Look.TheVariants.{Link, Alone, Shared, Device}
 use Rattle.dexasm_world.specs.declared.world.Refusal.{Refusal}
-use Rattle.dexasm_world.specs.declared.world.Refusal.TheVariants.{Missing, Memory}
-use Rattle.dexasm_world.specs.declared.world.NotMade.{NotMade}
-use Rattle.dexasm_world.specs.declared.world.NotMade.TheVariants.{Taken, Closed, Failed as MakingFailed}
-use Rattle.dexasm_world.specs.declared.world.NotReplaced.{NotReplaced}
-use Rattle.dexasm_world.specs.declared.world.NotReplaced.TheVariants.{Fixed, Failed as ReplacingFailed}
-
--- a file of this mode stands here, and at no other place
-pub record StandsAlone (s : FileState) (place : Path) (mode : ℕ) : Type 0 where
-  pub number : ℕ
-  pub here : s.stands place ≡ Some number
-  pub has : (s.file number).mode ≡ mode
-  pub only : (p : Path) → s.stands p ≡ Some number → p ≡ place
-
--- a file of this mode stands here, and at another place too
-pub record StandsTwice (s : FileState) (place : Path) (mode : ℕ) : Type 0 where
-  pub number : ℕ
-  pub here : s.stands place ≡ Some number
-  pub has : (s.file number).mode ≡ mode
-  pub other : Path
-  pub there : s.stands other ≡ Some number
-  pub two : other ≢ place
-
--- what is told of a name is so
-abbrev pub Looks : Files → Path → Result Look Refusal → Type 0
-Looks f path (Ok Link) = f.paths.is_plain path ≡ false
-Looks f path (Ok (Alone dress)) = (f.paths.is_plain path ≡ true) × StandsAlone f.now (place_of f path) dress.mode
-Looks f path (Ok (Shared dress)) = (f.paths.is_plain path ≡ true) × StandsTwice f.now (place_of f path) dress.mode
-Looks f path (Ok Device) = (f.paths.is_plain path ≡ true) × (f.paths.is_device (place_of f path) ≡ true)
-Looks f path (Err Missing) = (f.paths.is_plain path ≡ true) × (f.now.stands (place_of f path) ≡ None)
-Looks f path (Err Memory) = ⊤
-Looks f path (Err _) = f.paths.is_barred path ≡ true
-
--- the path is the text of the place that a link leads to, and something stands there
-pub record IsLinkTarget (f : Files) (path target : Path) : Type 0 where
-  pub is : target ≡ place_of f path
-  pub plain : f.paths.is_plain target ≡ true
-  pub same : place_of f target ≡ place_of f path
-  pub there : IsSome (f.now.stands (place_of f target))
-
--- a link leads to nothing, or to what has no path, as a pipe
-abbrev pub LeadsNowhere : Files → Path → Type 0
-LeadsNowhere f path = (f.now.stands (place_of f path) ≡ None) ⊎ (f.paths.is_device (place_of f path) ≡ true)
-
--- what is told of a link's target, whose text `text` reads, is so
-abbrev pub LinkLeadsTo : {T : Type 0} → (T → Path) → Files → Path → Result T Refusal → Type 0
-LinkLeadsTo text f path (Ok target) = IsLinkTarget f path (text target)
-LinkLeadsTo text f path (Err Missing) = LeadsNowhere f path
-LinkLeadsTo text f path (Err Memory) = ⊤
-LinkLeadsTo text f path (Err _) = f.paths.is_barred path ≡ true
+use Rattle.dexasm_world.specs.declared.world.Refusal.TheVariants.{Memory}
 
 -- a refusal has this cause, unless memory ran out
 abbrev pub RefusedFor : Refusal → Type 0 → Type 0
 RefusedFor Memory Cause = ⊤
 RefusedFor _ Cause = Cause
-
--- a reader has what the file at the path's end holds, and that of a device isn't known
-abbrev pub Gives : Files → Path → Option (List ℕ) → Type 0
-Gives f path given = f.paths.is_device (place_of f path) ≡ false
-    → (n : ℕ) × (f.now.stands (place_of f path) ≡ Some n) × (given ≡ Some (f.now.file n).bytes)
 
 -- the system lets nobody look at a place, or read what stands there, or write it
 abbrev pub IsBarredAt : Files → Path → Type 0
@@ -78,11 +22,6 @@ IsBarred f path = IsBarredAt f (place_of f path)
 abbrev pub CantBeRead : Files → Path → Type 0
 CantBeRead f path = (f.now.stands (place_of f path) ≡ None) ⊎ IsBarred f path
 
--- what came of opening the file at the path's end to read it, where `left` tells what a reader has, and `place` of which place
-abbrev pub Opens : {T : Type 0} → (T → Option (List ℕ)) → (T → Path) → Files → Path → Result T Refusal → Type 0
-Opens left place f path (Ok reader) = Gives f path (left reader) × (place reader ≡ place_of f path)
-Opens left place f path (Err refusal) = RefusedFor refusal (CantBeRead f path)
-
 -- these bytes are what the file at the path's end holds, where that is no device
 abbrev pub IsHeld : Files → Path → List ℕ → Type 0
 IsHeld f path bytes = f.paths.is_device (place_of f path) ≡ false → (n : ℕ) × (f.now.stands (place_of f path) ≡ Some n) × (bytes ≡ (f.now.file n).bytes)
@@ -92,17 +31,9 @@ abbrev pub Caused : {T : Type 0} → Result T Refusal → Type 0 → Type 0
 Caused (Ok r) Cause = ⊤
 Caused (Err refusal) Cause = RefusedFor refusal Cause
 
--- what failed is the files
-abbrev pub HasCause : {T : Type 0} → Files → Files → Result T Refusal → Type 0
-HasCause f g result = Caused result (f.faults < g.faults)
-
 -- each name of a file beside a path is taken
 abbrev pub NoneIsFree : Files → Path → Type 0
 NoneIsFree f path = (n : ℕ) → n < name_count → IsTaken f (part_path path n)
-
--- the files failed, or no name beside the path is free
-abbrev pub HasCauseBeside : {T : Type 0} → Path → Files → Files → Result T Refusal → Type 0
-HasCauseBeside path f g result = Caused result ((f.faults < g.faults) ⊎ NoneIsFree f path)
 
 -- the files failed, or what OUT leads to is barred, or no name beside it is free
 abbrev pub CauseAt : Path → Files → Files → Type 0
@@ -111,22 +42,3 @@ CauseAt out f g = (f.faults < g.faults) ⊎ IsBarred f out ⊎ NoneIsFree f (tar
 -- a call that failed on its way to OUT has such a cause
 abbrev pub HasCauseAt : {T : Type 0} → Path → Files → Files → Result T Refusal → Type 0
 HasCauseAt out f g result = Caused result (CauseAt out f g)
-
--- why no new file was made: where something is there, or the folder takes none, nothing was done, and else maybe
-abbrev pub WhyNotMade : {T : Type 0} → Path → Files → Files → Result T NotMade → Type 0
-WhyNotMade path f g (Ok r) = ⊤
-WhyNotMade path f g (Err Taken) = IsTaken f path × Same f.now g.now
-WhyNotMade path f g (Err Closed) = (f.paths.is_closed path ≡ true) × Same f.now g.now
-WhyNotMade path f g (Err (MakingFailed refusal)) = RefusedFor refusal (f.faults < g.faults) × (Same f.now g.now ⊎ (f.leftovers < g.leftovers))
-
--- why a file wasn't replaced: where it keeps its place, nothing was done
-abbrev pub WhyNotReplaced : {T : Type 0} → Path → Files → Files → Result T NotReplaced → Type 0
-WhyNotReplaced path f g (Ok r) = ⊤
-WhyNotReplaced path f g (Err Fixed) = (f.paths.is_fixed (place_of f path) ≡ true) × Same f.now g.now
-WhyNotReplaced path f g (Err (ReplacingFailed refusal)) = RefusedFor refusal (f.faults < g.faults)
-
--- two names, no links, for two files or for one and nothing
-pub record CanReplace (f : Files) (from to : Path) : Type 0 where
-  pub from_plain : f.paths.is_plain from ≡ true
-  pub to_plain : f.paths.is_plain to ≡ true
-  pub two : f.now.stands (place_of f from) ≢ f.now.stands (place_of f to)

@@ -1,5 +1,5 @@
 -- What files there are, at a moment.
-use Rattle.std.specs.Prelude.{◌≡◌, ◌≤◌, ℕ, Bool, true, false, List, [], ◌∷◌, ◌++◌, Option, Some, None}
+use Rattle.std.specs.Prelude.{◌≡◌, ◌≤◌, ℕ, Bool, List, [], ◌∷◌, ◌++◌, Option, Some}
 use Rattle.std.specs.List.{All}
 
 -- A path or a place, as its text. A place is a name in a folder: the one path to it that has no link, `.` or `..` in it.
@@ -59,13 +59,3 @@ pub record Passes (old new : Files) (P : FileState → Type 0) : Type 0 where
   pub last : P new.now
   pub later : old.faults ≤ new.faults
   pub no_fewer : old.leftovers ≤ new.leftovers
-
--- files of which nothing is known
-abbrev pub unknown_files : Files
-unknown_files = record {
-  paths = record { place = λ p. p; is_plain = λ p. true; is_closed = λ p. false; is_device = λ p. false; is_fixed = λ p. false; is_barred = λ p. false };
-  now = record { stands = λ p. None; file = λ n. record { bytes = []; mode = 0; kept = false } };
-  past = [];
-  faults = 0;
-  leftovers = 0;
-}

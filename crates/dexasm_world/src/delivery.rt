@@ -3,8 +3,9 @@ ghost use Rattle.std.specs.Prelude.{◌≡◌, true, false, [], Ok, IfOk, IsSome
 ghost use Rattle.dexasm_world.specs.State.{Passes, place_of};
 ghost use Rattle.dexasm_world.specs.Steps.{private_mode};
 ghost use Rattle.dexasm_world.specs.Safe.{part_path, IsAlone, IsSafe, IsDelivered, CanGive, Leaves};
-ghost use Rattle.dexasm_world.specs.Looks.{Looks, HasCause, HasCauseBeside, HasCauseAt};
-ghost use Rattle.dexasm_world.specs.Parts.{Overwrites, HoldsBytes, Fills, Stores, Dresses, HasPartFile, HasFullPart, Brings, HasBrought, LeavesPart};
+ghost use Rattle.dexasm_world.specs.Looks.{HasCauseAt};
+ghost use Rattle.dexasm_world.specs.inner.Looks.{Looks, HasCause, HasCauseBeside};
+ghost use Rattle.dexasm_world.specs.inner.Parts.{Overwrites, HoldsBytes, Fills, Stores, Dresses, HasPartFile, HasFullPart, Brings, HasBrought, LeavesPart};
 
 use crate::put::put_all;
 use crate::world::{Dress, Handle, Look, NotMade, NotReplaced, Refusal, World};

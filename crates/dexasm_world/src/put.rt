@@ -1,8 +1,8 @@
 //! All the bytes of an answer, at the end of a file.
 ghost use Rattle.std.specs.Prelude.{◌≡◌, ◌≤◌, ℕ, true, length, take, OnOk};
 ghost use Rattle.dexasm_world.specs.State.{Passes};
-ghost use Rattle.dexasm_world.specs.Steps.{Wrote};
-ghost use Rattle.dexasm_world.specs.Looks.{HasCause};
+ghost use Rattle.dexasm_world.specs.inner.Steps.{Wrote};
+ghost use Rattle.dexasm_world.specs.inner.Looks.{HasCause};
 
 use crate::world::{Handle, Refusal, World};
 

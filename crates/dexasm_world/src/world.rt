@@ -3,9 +3,10 @@ ghost use Rattle.std.specs.Prelude.{◌≡◌, ◌≢◌, ◌⊎◌, ◌≤◌, 
 ghost use Rattle.std.specs.Io.{ReadsAtMost, WritesAtMost};
 ghost use Rattle.std.specs.Io.KnownBytes.{ReadConsumes};
 ghost use Rattle.dexasm_world.specs.State.{Files, Passes, place_of};
-ghost use Rattle.dexasm_world.specs.Steps.{Same, MadeAs, Wrote, Dressed, Kept, Moved, Removed, Begun};
+ghost use Rattle.dexasm_world.specs.inner.Steps.{Same, MadeAs, Wrote, Dressed, Kept, Moved, Removed, Begun};
 ghost use Rattle.dexasm_world.specs.Safe.{part_path};
-ghost use Rattle.dexasm_world.specs.Looks.{Looks, LinkLeadsTo, Opens, Caused, IsBarredAt, HasCause, WhyNotMade, WhyNotReplaced, CanReplace};
+ghost use Rattle.dexasm_world.specs.Looks.{Caused, IsBarredAt};
+ghost use Rattle.dexasm_world.specs.inner.Looks.{Looks, LinkLeadsTo, Opens, HasCause, WhyNotMade, WhyNotReplaced, CanReplace};
 
 use std::alloc::Global;
 use std::io;

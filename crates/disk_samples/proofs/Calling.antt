@@ -5,7 +5,8 @@ use Rattle.std.specs.Borrow.{Bor}
 use Rattle.std.proofs.Common.{◌≡◌, ◌≢◌, ◌⊎◌, inl, inr, ℕ, Bool, true, false, ◌+◌, ◌<◌, None, Some, length, take, List, [], ◌∷◌, ◌++◌, append_assoc, refl, sym, ◌∙◌, ap, subst, arith}
 use Rattle.std.proofs.lemmas.List.Elements.{All-nil, All-cons}
 use Rattle.dexasm_world.specs.State.{Path, FileState, Stored, Passes}
-use Rattle.dexasm_world.specs.Steps.{Same, Made, MadeAs, private_mode, Wrote, Moved, Removed}
+use Rattle.dexasm_world.specs.Steps.{private_mode}
+use Rattle.dexasm_world.specs.inner.Steps.{Same, Made, MadeAs, Wrote, Moved, Removed}
 use Rattle.dexasm_world.specs.Looks.{Caused, RefusedFor}
 use Rattle.dexasm_world.specs.declared.world.Refusal.{Refusal}
 use Rattle.dexasm_world.specs.declared.world.Refusal.TheVariants.{Memory, Missing, Other}

@@ -10,7 +10,7 @@ use Rattle.std.proofs.lemmas.Slice.Eq.{bytes_eq-Decides}
 use Rattle.std.proofs.lemmas.Bool.Decides.{Decides-eqb}
 use Rattle.std.proofs.lemmas.List.{take_more}
 use Rattle.dexasm_world.specs.State.{Path, FileState, Stored}
-use Rattle.dexasm_world.specs.Steps.{Same, TouchesOnly, Made, Wrote, Emptied, Dressed, Kept, Moved, Removed}
+use Rattle.dexasm_world.specs.inner.Steps.{Same, TouchesOnly, Made, Wrote, Emptied, Dressed, Kept, Moved, Removed}
 use Rattle.disk_samples.specs.Logs.{stands_at, file_at, step, after, moments_before, no_files, state_of, faults_in, fault_count, leftovers_in, leftover_count, HoldsAt}
 use Rattle.disk_samples.specs.declared.change.Change.TheVariants.{Make, Link, Write, Empty, Dress, Keep, Move, Remove}
 use Rattle.disk_samples.specs.declared.change.Entry.{Entry}

@@ -6,7 +6,7 @@ use Rattle.std.proofs.lemmas.Option.{slice_get-map}
 use Rattle.program_types.specs.Key.{Key, text_key}
 use Rattle.tables_names.specs.Rank.{Rising}
 use Rattle.tables_names.proofs.PlaceLemmas.{rank_at}
-use Rattle.file_layout.specs.Tiles.{AreShared}
+use Rattle.file_layout.specs.inner.Tiles.{AreShared}
 
 pub apart_shared : {V : Type 0} (vs : List V) (places : List ℕ) → ((i j : ℕ) (v : V) → slice_get vs i ≡ Some v → slice_get vs j ≡ Some v → i ≡ j) → AreShared places vs
 apart_shared vs places apart i j v p q at_i at_j place_i place_j =

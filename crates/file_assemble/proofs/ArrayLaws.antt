@@ -13,16 +13,16 @@ use Rattle.tables_names.specs.Needed.{needed}
 use Rattle.program_types.specs.Mentions.{names_of_value, names_of_values, NamesHold, AllNamesHold}
 use Rattle.dex_value.specs.Named.{IsRanked}
 use Rattle.dex_value.specs.Spelling.{SpellsArray}
-use Rattle.file_layout.specs.Sections.{is_empty_list}
+use Rattle.file_layout.specs.inner.Sections.{is_empty_list}
 use Rattle.program_types.specs.Kinds.{HasIndex}
-use Rattle.file_layout.specs.OneMore.{Entry, PutsOnce}
-use Rattle.file_layout.specs.Sharing.{UsesItem}
+use Rattle.file_layout.specs.inner.OneMore.{Entry, PutsOnce}
+use Rattle.file_layout.specs.inner.Sharing.{UsesItem}
 use Rattle.file_needed.proofs.ClassNames.{values_kept}
-use Rattle.file_assemble.specs.Named.{FewNames}
+use Rattle.file_assemble.specs.inner.Named.{FewNames}
 use Rattle.file_assemble.proofs.NumberLaws.{class_named}
 use Rattle.file_layout.proofs.SectionLaws.{not_none}
 use Rattle.dex_base.specs.Fields.{AreBytes}
-use Rattle.file_assemble.specs.Arrays.{WritesArray}
+use Rattle.file_assemble.specs.inner.Arrays.{WritesArray}
 use Rattle.dex_base.proofs.ListFacts.{all_front, all_back}
 
 ranked : (s : Five) → FewNames s → (n : Name) → HasIndex (NameRanks s) n → IsRanked s n

@@ -3,23 +3,25 @@ use Rattle.std.proofs.Common.{◌≡◌, ℕ, ◌+◌, ◌*◌, ◌≤◌, List,
 use Rattle.std.proofs.lemmas.List.{length-map}
 use Rattle.dex_base.specs.Grammar.{Each}
 use Rattle.dex_base.specs.Words.{words_bytes}
-use Rattle.file_layout.specs.Finished.{Finishes}
-use Rattle.file_layout.specs.Plan.{tables_end}
-use Rattle.file_layout.specs.Sections.{is_empty_list, never}
-use Rattle.file_layout.specs.Tiles.{IsNext, Refers}
+use Rattle.file_layout.specs.inner.Finished.{Finishes}
+use Rattle.file_layout.specs.inner.Plan.{tables_end}
+use Rattle.file_layout.specs.inner.Sections.{is_empty_list, never}
+use Rattle.file_layout.specs.Tiles.{IsNext}
+use Rattle.file_layout.specs.inner.Tiles.{Refers}
 use Rattle.file_layout.specs.declared.plan.Plan.{Plan}
 use Rattle.file_layout.proofs.FinishLaws.{length-words}
-use Rattle.file_limits.specs.Wide.{array_values, list_values, params_of, text_values}
+use Rattle.file_limits.specs.Wide.{params_of}
+use Rattle.file_limits.specs.inner.Wide.{array_values, list_values, text_values}
 use Rattle.tables_names.specs.Closure.{Five}
 use Rattle.tables_names.specs.Rows.{first_of}
 use Rattle.program_types.specs.Content.{Class, Program}
 use Rattle.program_types.specs.Key.{Key}
-use Rattle.file_assemble.specs.Rows.{SpellsFieldRow, SpellsMethodRow, SpellsProtoRow, SpellsProtos, SpellsTable, SpellsTypeRow}
-use Rattle.file_assemble.specs.Data.{has_no_members, with_code_places}
+use Rattle.file_assemble.specs.inner.Rows.{SpellsFieldRow, SpellsMethodRow, SpellsProtoRow, SpellsProtos, SpellsTable, SpellsTypeRow}
+use Rattle.file_assemble.specs.inner.Data.{has_no_members, with_code_places}
 use Rattle.file_assemble.proofs.SitedLaws.{length-sited}
-use Rattle.file_assemble.specs.ClassDefs.{ClassWithPlaces, SpellsClassRow}
+use Rattle.file_assemble.specs.inner.ClassDefs.{ClassWithPlaces, SpellsClassRow}
 use Rattle.file_assemble.proofs.PlacedClasses.{length-seated}
-use Rattle.file_assemble.specs.Assembled.{Assembled, DataIsLaid, DataLies, Places, SpellsTables, rows_of}
+use Rattle.file_assemble.specs.inner.Assembled.{Assembled, DataIsLaid, DataLies, Places, SpellsTables, rows_of}
 use Rattle.file_assemble.proofs.DataParts.{lies_agree}
 use Rattle.file_assemble.proofs.AtLaws.{method_size, field_size, proto_size, type_size}
 use Rattle.dex_base.proofs.ListFacts.{zip_length}

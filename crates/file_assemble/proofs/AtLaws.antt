@@ -10,7 +10,7 @@ use Rattle.tables_names.specs.Closure.{Five}
 use Rattle.tables_names.specs.Rank.{IsAt}
 use Rattle.program_types.specs.Content.{Descriptor, Proto, FieldRef, MethodRef}
 use Rattle.program_types.specs.Key.{Key, text_key, proto_key, field_ref_key, method_ref_key}
-use Rattle.file_assemble.specs.Rows.{SpellsTable, SpellsProtos, SpellsTypeRow, SpellsProtoRow, SpellsFieldRow, SpellsMethodRow}
+use Rattle.file_assemble.specs.inner.Rows.{SpellsTable, SpellsProtos, SpellsTypeRow, SpellsProtoRow, SpellsFieldRow, SpellsMethodRow}
 use Rattle.program_types.proofs.KeysTell.{text_told, proto_told, field_told, method_told}
 
 -- pieces of one size: piece i begins i sizes after the front

@@ -2,7 +2,8 @@
 use Rattle.std.proofs.Common.{◌≡◌, ℕ, zero, suc, List, [], ◌∷◌, ◌++◌, refl, Option, Some}
 use Rattle.std.specs.Prelude.{IfSome}
 use Rattle.std.specs.List.{AllByRecursion, flat_map, slice_get}
-use Rattle.file_limits.specs.Wide.{bodies_in, bodies_of, body_values}
+use Rattle.file_limits.specs.Wide.{bodies_in, bodies_of}
+use Rattle.file_limits.specs.inner.Wide.{body_values}
 use Rattle.program_types.specs.Content.{Class, Code, Method, Program}
 use Rattle.program_types.specs.Formed.{IsFormed}
 use Rattle.program_rules.specs.Ranges.{ClassInRange}

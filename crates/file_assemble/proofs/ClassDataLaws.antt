@@ -3,12 +3,13 @@ use Rattle.std.proofs.Common.{◌≡◌, ℕ, ◌+◌, ◌<◌, ◌≤◌, List,
 use Rattle.dex_base.specs.Grammar.{Appends}
 use Rattle.dex_base.specs.Leb128.{Spells, Shortest}
 use Rattle.file_classes.specs.ClassData.{SpellsCounts}
-use Rattle.file_layout.specs.Sections.{AddsSome}
+use Rattle.file_layout.specs.inner.Sections.{AddsSome}
 use Rattle.file_layout.proofs.SectionLaws.{adds_some, gap_one, unpadded}
 use Rattle.tables_names.specs.Closure.{Five, NameRanks}
 use Rattle.program_types.specs.Content.{Class}
-use Rattle.file_assemble.specs.Data.{PacksData, ClassWithCodes, code_offs, has_no_members, wide_with_codes}
-use Rattle.file_assemble.specs.Growing.{AddsFields, AddsMethods}
+use Rattle.file_assemble.specs.Data.{code_offs}
+use Rattle.file_assemble.specs.inner.Data.{PacksData, ClassWithCodes, has_no_members, wide_with_codes}
+use Rattle.file_assemble.specs.inner.Growing.{AddsFields, AddsMethods}
 use Rattle.file_assemble.proofs.DataLengths.{data_length, some_members}
 
 -- four counts, then the four lists

@@ -6,7 +6,7 @@ use Rattle.dex_base.specs.Grammar.{Appends, Each}
 use Rattle.dex_base.proofs.GrammarLaws.{Each-appends_more}
 use Rattle.tables_names.specs.Closure.{Five}
 use Rattle.program_types.specs.Content.{Class, Program}
-use Rattle.file_assemble.specs.ClassDefs.{ClassWithPlaces, SpellsClassRow, all_but_first, with_places}
+use Rattle.file_assemble.specs.inner.ClassDefs.{ClassWithPlaces, SpellsClassRow, all_but_first, with_places}
 use Rattle.file_assemble.proofs.PlacedClasses.{length-seated, first_of, others_of}
 
 -- class i with its places

@@ -6,8 +6,8 @@ use Rattle.std.specs.List.{AllByRecursion, flat_map}
 use Rattle.code_put.proofs.PackedLaws.{packed-spells}
 use Rattle.code_put.specs.Packs.{PacksCode}
 use Rattle.file_layout.specs.Sections.{wide_all}
-use Rattle.file_layout.specs.OneMore.{Entry, PutsOnce}
-use Rattle.file_layout.specs.Sharing.{Sharing, UsesItem}
+use Rattle.file_layout.specs.inner.OneMore.{Entry, PutsOnce}
+use Rattle.file_layout.specs.inner.Sharing.{Sharing, UsesItem}
 use Rattle.file_layout.proofs.SharingLaws.{sharing_more, sharing_bound}
 use Rattle.dex_base.specs.Fields.{AreBytes}
 use Rattle.file_limits.specs.Wide.{bodies_in, bodies_of, wide_body}
@@ -18,8 +18,8 @@ use Rattle.program_types.specs.View as view
 use Rattle.program_types.specs.declared.class.Class as made
 use Rattle.program_types.specs.declared.class.Method as made_method
 use Rattle.file_assemble.proofs.LengthLaws.{map_drop}
-use Rattle.file_assemble.specs.Codes.{PacksBody, WritesBody, is_bodiless}
-use Rattle.file_assemble.specs.Named.{CanPut}
+use Rattle.file_assemble.specs.inner.Codes.{PacksBody, WritesBody, is_bodiless}
+use Rattle.file_assemble.specs.inner.Named.{CanPut}
 use Rattle.dex_base.proofs.ListFacts.{map_more, all_at}
 use Rattle.file_limits.proofs.PartLaws.{map_map}
 use Rattle.file_assemble.proofs.OneBody.{bodies_packs, bodies_one, bodies_most}

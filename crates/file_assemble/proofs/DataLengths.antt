@@ -4,10 +4,10 @@ use Rattle.std.specs.Prelude.{◌&&◌}
 use Rattle.dex_base.specs.Grammar.{Each}
 use Rattle.dex_base.specs.Leb128.{Spells, Shortest}
 use Rattle.file_classes.specs.ClassData.{FieldEntry, MethodEntry, SpellsFieldEntry, SpellsMethodEntry}
-use Rattle.file_layout.specs.Sections.{is_empty_list}
+use Rattle.file_layout.specs.inner.Sections.{is_empty_list}
 use Rattle.tables_names.specs.Closure.{Five, NameRanks}
 use Rattle.program_types.specs.Content.{Member, Method}
-use Rattle.file_assemble.specs.Data.{PacksData, ClassWithCodes, wide_with_codes}
+use Rattle.file_assemble.specs.inner.Data.{PacksData, ClassWithCodes, wide_with_codes}
 
 some_sequence : (bytes : List ℕ) (n : ℕ) → Spells bytes n → 0 < length bytes
 some_sequence [] n s = absurd s.sequence

@@ -5,7 +5,8 @@ use Rattle.dex_base.specs.Fields.{AreBytes}
 use Rattle.dex_base.specs.Leb128.{Spells, Shortest}
 use Rattle.program_types.specs.Content.{Name, OfField, OfMethod, Descriptor, Member, Method}
 use Rattle.file_classes.specs.ClassData.{FieldEntry, MethodEntry, Entries, EntriesAre, SpellsEntries, code_off}
-use Rattle.file_assemble.specs.Data.{PacksData, ClassWithCodes, FieldRanks, MethodRanks, code_offs}
+use Rattle.file_assemble.specs.Data.{code_offs}
+use Rattle.file_assemble.specs.inner.Data.{PacksData, ClassWithCodes, FieldRanks, MethodRanks}
 use Rattle.code_put.proofs.HandlerOnce.{IsInjective}
 use Rattle.file_assemble.proofs.GrammarOnce.{pairs_same}
 use Rattle.file_assemble.proofs.EntryOnce.{entries_once, steps_same, marks_same, seconds_same, split_same}

@@ -3,21 +3,24 @@ use Rattle.std.proofs.Common.{◌≡◌, ℕ, Bool, ◌+◌, ◌<◌, ◌≤◌,
 use Rattle.dex_base.specs.Mutf8.{PacksText}
 use Rattle.dex_base.specs.Leb128.{Shortest}
 use Rattle.dex_container.specs.Where.{slice}
-use Rattle.file_layout.specs.Plan.{tables_end, Follows}
-use Rattle.file_layout.specs.Sections.{is_empty_list, never, wide_all, Laid}
-use Rattle.file_layout.specs.Tiles.{Agree, Tiles, Done, Item, gap, Lays}
+use Rattle.file_layout.specs.inner.Plan.{tables_end, Follows}
+use Rattle.file_layout.specs.Sections.{wide_all}
+use Rattle.file_layout.specs.inner.Sections.{is_empty_list, never, Laid}
+use Rattle.file_layout.specs.Tiles.{Tiles, Done, Item, gap}
+use Rattle.file_layout.specs.inner.Tiles.{Agree, Lays}
 use Rattle.file_layout.specs.declared.plan.Plan.{Plan}
 use Rattle.file_layout.proofs.TileLaws.{Tiles-le, Lays-agree, agree-append}
-use Rattle.file_limits.specs.Wide.{array_values, body_values, list_values, text_values, wide_body, wide_list, wide_of, wide_text}
+use Rattle.file_limits.specs.Wide.{wide_body, wide_list, wide_of}
+use Rattle.file_limits.specs.inner.Wide.{array_values, body_values, list_values, text_values, wide_text}
 use Rattle.tables_names.specs.Closure.{Five, NameRanks}
 use Rattle.program_types.specs.Content.{Program}
-use Rattle.file_assemble.specs.Codes.{PacksBody, is_bodiless}
-use Rattle.file_assemble.specs.Data.{PacksData, has_no_members, with_code_places, wide_with_codes}
-use Rattle.file_assemble.specs.Lists.{SpellsRanks}
+use Rattle.file_assemble.specs.inner.Codes.{PacksBody, is_bodiless}
+use Rattle.file_assemble.specs.inner.Data.{PacksData, has_no_members, with_code_places, wide_with_codes}
+use Rattle.file_assemble.specs.inner.Lists.{SpellsRanks}
 use Rattle.file_assemble.proofs.SitedLaws.{room_of_sited}
 use Rattle.dex_value.specs.Spelling.{SpellsArray}
 use Rattle.dex_value.specs.Wide.{wide_array}
-use Rattle.file_assemble.specs.Assembled.{Places, DataLies, DataIsLaid, StandOnce, rows_of}
+use Rattle.file_assemble.specs.inner.Assembled.{Places, DataLies, DataIsLaid, StandOnce, rows_of}
 use Rattle.file_assemble.proofs.FitsLaws.{HasRoom, Room}
 
 -- items take bytes

@@ -15,18 +15,19 @@ use Rattle.tables_names.proofs.NeededLemmas.{needed_is_least}
 use Rattle.code_put.proofs.HandlerOnce.{ranks-injective}
 use Rattle.file_layout.specs.declared.plan.Plan.{Plan}
 use Rattle.file_layout.specs.declared.plan.Part.{Part}
-use Rattle.file_layout.specs.Plan.{tables_end, IsWritten}
-use Rattle.file_layout.specs.Sections.{is_empty_list, never}
-use Rattle.file_layout.specs.Once.{AreSame, HasOneSpelling, part_of}
-use Rattle.file_layout.specs.Tiles.{AreShared, IsNext, Lays, gap}
+use Rattle.file_layout.specs.inner.Plan.{tables_end, IsWritten}
+use Rattle.file_layout.specs.inner.Sections.{is_empty_list, never}
+use Rattle.file_layout.specs.inner.Once.{AreSame, HasOneSpelling, part_of}
+use Rattle.file_layout.specs.Tiles.{IsNext, gap}
+use Rattle.file_layout.specs.inner.Tiles.{AreShared, Lays}
 use Rattle.file_layout.proofs.FrontOnce.{written_once}
 use Rattle.file_layout.proofs.LayingOnce.{layings_one}
 use Rattle.file_layout.proofs.PartLaws.{part_cut}
-use Rattle.file_limits.specs.Wide.{array_values, body_values, list_values, text_values}
-use Rattle.file_assemble.specs.Codes.{PacksBody, is_bodiless}
-use Rattle.file_assemble.specs.Data.{PacksData, has_no_members, with_code_places}
-use Rattle.file_assemble.specs.Lists.{SpellsRanks}
-use Rattle.file_assemble.specs.Assembled.{Assembled, Places, SpellsTables, StandOnce}
+use Rattle.file_limits.specs.inner.Wide.{array_values, body_values, list_values, text_values}
+use Rattle.file_assemble.specs.inner.Codes.{PacksBody, is_bodiless}
+use Rattle.file_assemble.specs.inner.Data.{PacksData, has_no_members, with_code_places}
+use Rattle.file_assemble.specs.inner.Lists.{SpellsRanks}
+use Rattle.file_assemble.specs.inner.Assembled.{Assembled, Places, SpellsTables, StandOnce}
 use Rattle.file_assemble.proofs.AssembledLaws.{row_count}
 use Rattle.dex_value.proofs.ArrayOnce.{array_once}
 use Rattle.code_put.proofs.CodeOnce.{code_once}

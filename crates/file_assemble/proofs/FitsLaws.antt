@@ -1,19 +1,20 @@
 -- What a program within the limits has room for.
 use Rattle.std.proofs.Common.{◌≡◌, ℕ, zero, suc, ◌+◌, ◌<◌, ◌≤◌, ◌∙◌, List, [], ◌∷◌, ◌++◌, length, refl, subst, ap, arith, Some}
 use Rattle.std.specs.List.{slice_get}
-use Rattle.file_layout.specs.Plan.{tables_end}
+use Rattle.file_layout.specs.inner.Plan.{tables_end}
 use Rattle.file_layout.specs.Sections.{wide_all}
 use Rattle.file_layout.specs.declared.plan.Rows.{Rows}
 use Rattle.file_limits.specs.Limits.{Fits}
-use Rattle.file_limits.specs.Wide.{array_values, bodies_of, body_values, list_values, text_values, wide, wide_body, wide_data, wide_list, wide_of, wide_rows, wide_text}
+use Rattle.file_limits.specs.Wide.{bodies_of, wide, wide_body, wide_data, wide_list, wide_of}
+use Rattle.file_limits.specs.inner.Wide.{array_values, body_values, list_values, text_values, wide_rows, wide_text}
 use Rattle.file_limits.proofs.PartLaws.{by_parts}
 use Rattle.file_limits.proofs.SumLaws.{wide_all_append}
 use Rattle.tables_names.specs.Closure.{Five}
 use Rattle.tables_names.specs.Needed.{needed}
 use Rattle.program_types.specs.Content.{Class, Program}
-use Rattle.file_assemble.specs.Named.{FewNames}
+use Rattle.file_assemble.specs.inner.Named.{FewNames}
 use Rattle.dex_value.specs.Wide.{wide_array}
-use Rattle.file_assemble.specs.Assembled.{rows_of}
+use Rattle.file_assemble.specs.inner.Assembled.{rows_of}
 
 -- the parts of the sum
 pub record Room (s : Five) (p : Program) : Type 0 where

@@ -3,12 +3,13 @@ use Rattle.std.proofs.Common.{◌≡◌, ℕ, zero, suc, ◌+◌, ◌<◌, ◌�
 use Rattle.std.proofs.lemmas.List.{take_more, drop_more, take_all, drop_all}
 use Rattle.std.specs.Prelude.{MatchBool}
 use Rattle.file_layout.specs.Tiles.{Tiles, Done, Item, gap}
-use Rattle.file_layout.specs.Sections.{Adds, AddsSome, Laying, Laid, wide_all, count_with}
+use Rattle.file_layout.specs.Sections.{wide_all}
+use Rattle.file_layout.specs.inner.Sections.{Adds, AddsSome, Laying, Laid, count_with}
 use Rattle.file_layout.proofs.SectionLaws.{Laying-more}
-use Rattle.file_layout.specs.OneMore.{Entry}
-use Rattle.file_layout.specs.Sharing.{Sharing, UsesItem}
+use Rattle.file_layout.specs.inner.OneMore.{Entry}
+use Rattle.file_layout.specs.inner.Sharing.{Sharing, UsesItem}
 use Rattle.file_layout.proofs.SharingLaws.{sharing_more, sharing_bound}
-use Rattle.file_assemble.specs.Placing.{items_with}
+use Rattle.file_assemble.specs.inner.Placing.{items_with}
 use Rattle.file_assemble.proofs.LengthLaws.{map_drop}
 use Rattle.dex_base.proofs.ListFacts.{map_more}
 

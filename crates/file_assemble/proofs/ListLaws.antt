@@ -10,11 +10,11 @@ use Rattle.program_types.specs.View as view
 use Rattle.program_types.specs.declared.names.Desc.{Desc}
 use Rattle.tables_names.specs.Closure.{Five}
 use Rattle.tables_names.specs.Rank.{IsAt}
-use Rattle.file_layout.specs.Sections.{is_empty_list}
+use Rattle.file_layout.specs.inner.Sections.{is_empty_list}
 use Rattle.file_layout.proofs.SectionLaws.{not_none}
-use Rattle.file_layout.specs.OneMore.{Entry, PutsOnce}
-use Rattle.file_layout.specs.Sharing.{UsesItem}
-use Rattle.file_assemble.specs.Lists.{AddsIndices, SpellsRanks}
+use Rattle.file_layout.specs.inner.OneMore.{Entry, PutsOnce}
+use Rattle.file_layout.specs.inner.Sharing.{UsesItem}
+use Rattle.file_assemble.specs.inner.Lists.{AddsIndices, SpellsRanks}
 use Rattle.file_limits.specs.Wide.{wide_list}
 use Rattle.dex_base.proofs.ListFacts.{zip_length, zip_more, map_more, all_append}
 use Rattle.file_assemble.proofs.RankedLists.{halves_push}

@@ -21,8 +21,9 @@ use Rattle.program_types.specs.View as view
 use Rattle.program_types.specs.declared.class.Method as made_method
 use Rattle.program_rules.specs.Rules.{KeysRise, member_key, method_key}
 use Rattle.file_assemble.proofs.RunLaws.{total, total_push, no_run, run_push}
-use Rattle.file_assemble.specs.Data.{FieldRanks, MethodRanks, code_offs}
-use Rattle.file_assemble.specs.Growing.{AddsFields, AddsMethods}
+use Rattle.file_assemble.specs.Data.{code_offs}
+use Rattle.file_assemble.specs.inner.Data.{FieldRanks, MethodRanks}
+use Rattle.file_assemble.specs.inner.Growing.{AddsFields, AddsMethods}
 use Rattle.program_rules.proofs.MemberLaws.{key-at}
 use Rattle.tables_names.proofs.IndexLemmas.{less_than}
 use Rattle.dex_base.proofs.ListFacts.{map_more}

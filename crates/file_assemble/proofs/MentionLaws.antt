@@ -11,9 +11,9 @@ use Rattle.program_types.specs.Mentions.{field_of_class}
 use Rattle.tables_names.specs.Closure.{Five, NameRanks, method_of_class}
 use Rattle.tables_names.specs.Noted.{AreRanks}
 use Rattle.code_put.proofs.MentionLaws.{zip_split}
-use Rattle.file_needed.specs.Bodies.{defined_in, named_in_body, named_in_code}
+use Rattle.file_needed.specs.inner.Bodies.{defined_in, named_in_body, named_in_code}
 use Rattle.file_assemble.proofs.NumberLaws.{no_proto}
-use Rattle.file_assemble.specs.Named.{fields_of, methods_of}
+use Rattle.file_assemble.specs.inner.Named.{fields_of, methods_of}
 
 abbrev pub no_method : made_method.Method
 no_method = record {

@@ -8,7 +8,7 @@ use Rattle.dex_base.specs.Descriptor.{IsDescriptor}
 use Rattle.dex_insn.specs.declared.opcode.IndexKind.TheVariants as kind
 use Rattle.code_put.specs.Fits.{HasIndexBelow, ShortFits, short_name}
 use Rattle.tables_names.specs.Closure.{Five, HasShorty, NameRanks}
-use Rattle.tables_names.specs.Indices.{HasRank}
+use Rattle.tables_names.specs.inner.Indices.{HasRank}
 use Rattle.tables_names.specs.Needed.{needed}
 use Rattle.tables_names.proofs.IndexLemmas.{mentions_have_indices}
 use Rattle.file_needed.proofs.ClassNames.{source_named, type_named}
@@ -18,8 +18,8 @@ use Rattle.program_types.specs.Kinds.{IsOfKind, HasIndex}
 use Rattle.program_types.specs.Mentions.{if_any, mentions, names_of_class}
 use Rattle.program_rules.specs.Rules.{RulesHold}
 use Rattle.program_rules.specs.Valid.{IsValidName, IsValueType}
-use Rattle.file_assemble.specs.Named.{FewNames}
-use Rattle.file_assemble.specs.Held.{RowNamesHeld}
+use Rattle.file_assemble.specs.inner.Named.{FewNames}
+use Rattle.file_assemble.specs.inner.Held.{RowNamesHeld}
 use Rattle.dex_base.proofs.ListFacts.{all_append, all_back, all_front}
 
 -- what holds of all names in each class holds of all names in the program

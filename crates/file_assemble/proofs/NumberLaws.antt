@@ -2,9 +2,10 @@
 use Rattle.std.proofs.Common.{◌≡◌, ℕ, zero, suc, ◌+◌, ◌-◌, ◌<◌, ◌≤◌, List, [], ◌∷◌, length, map, get_or, refl, sym, ap, ◌∙◌, arith, subst, length-append, Some, None}
 use Rattle.std.proofs.lemmas.List.{length-map, get_or-append_right, get_or_append_left}
 use Rattle.std.specs.List.{AllByRecursion, slice_get}
-use Rattle.file_limits.specs.Wide.{params_of, list_values}
+use Rattle.file_limits.specs.Wide.{params_of}
+use Rattle.file_limits.specs.inner.Wide.{list_values}
 use Rattle.tables_names.specs.Closure.{Five, IsClosed, NameRanks}
-use Rattle.tables_names.specs.Indices.{HasRank, AreIndices}
+use Rattle.tables_names.specs.inner.Indices.{HasRank, AreIndices}
 use Rattle.tables_names.specs.Keys.{key_of_proto}
 use Rattle.tables_names.specs.Needed.{needed}
 use Rattle.tables_names.specs.Rank.{IsAt}

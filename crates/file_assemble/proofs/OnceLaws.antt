@@ -7,9 +7,9 @@ use Rattle.std.proofs.lemmas.Bool.{cases_lt}
 use Rattle.program_types.specs.Content.{Class, Descriptor, Program}
 use Rattle.program_rules.specs.Rules.{IsOfType}
 use Rattle.program_rules.specs.WellFormed.{WellFormed}
-use Rattle.file_assemble.specs.Data.{ClassWithCodes, with_code_places}
+use Rattle.file_assemble.specs.inner.Data.{ClassWithCodes, with_code_places}
 use Rattle.file_assemble.proofs.ApartLaws.{apart_shared}
-use Rattle.file_layout.specs.Tiles.{AreShared}
+use Rattle.file_layout.specs.inner.Tiles.{AreShared}
 
 pub sited_class : (p : Program) (codes : List ℕ) (i : ℕ) (v : ClassWithCodes) → slice_get (with_code_places p codes) i ≡ Some v → slice_get p i ≡ Some v.class
 sited_class [] codes i v at = absurd cc

@@ -12,7 +12,7 @@ use Rattle.file_limits.specs.Wide.{wide_body}
 use Rattle.tables_names.specs.Closure.{Five, AreRising, NameRanks}
 use Rattle.program_types.specs.Content.{Name, Code}
 use Rattle.file_assemble.proofs.RankedLists.{gap_four}
-use Rattle.file_assemble.specs.Codes.{PacksBody, WritesBody, is_bodiless}
+use Rattle.file_assemble.specs.inner.Codes.{PacksBody, WritesBody, is_bodiless}
 
 -- ---- how long a body is
 

@@ -17,7 +17,7 @@ use Rattle.tables_names.specs.declared.parts.ProtoParts.{ProtoParts}
 use Rattle.tables_names.specs.declared.parts.FieldParts.{FieldParts}
 use Rattle.tables_names.specs.declared.parts.MethodParts.{MethodParts}
 use Rattle.tables_names.proofs.NumberLemmas.{zip_get}
-use Rattle.file_assemble.specs.Rows.{SpellsTypeRow, SpellsFieldRow, SpellsMethodRow, SpellsTable}
+use Rattle.file_assemble.specs.inner.Rows.{SpellsTypeRow, SpellsFieldRow, SpellsMethodRow, SpellsTable}
 use Rattle.file_assemble.proofs.RowLaws.{held_at, rows_more, rows_are_table}
 use Rattle.dex_base.proofs.ListFacts.{zip_length}
 

@@ -5,7 +5,7 @@ use Rattle.file_classes.specs.ClassRows.{no_index}
 use Rattle.tables_names.specs.Rank.{IsAt}
 use Rattle.program_types.specs.Content.{Units, Program}
 use Rattle.program_types.specs.Key.{Key, text_key}
-use Rattle.file_assemble.specs.ClassDefs.{first_or_zero, all_but_first, with_places}
+use Rattle.file_assemble.specs.inner.ClassDefs.{first_or_zero, all_but_first, with_places}
 
 pub length-seated : (p : Program) (lists datas arrays : List ℕ) → length (with_places p lists datas arrays) ≡ length p
 length-seated [] lists datas arrays = refl

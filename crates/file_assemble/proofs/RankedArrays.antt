@@ -7,14 +7,14 @@ use Rattle.dex_value.specs.Spelling.{SpellsArray}
 use Rattle.dex_value.specs.Wide.{wide_array}
 use Rattle.dex_value.proofs.Lengths.{SpellsArray-most}
 use Rattle.dex_value.proofs.Places.{SpellsArray-least}
-use Rattle.file_layout.specs.Sections.{is_empty_list}
+use Rattle.file_layout.specs.inner.Sections.{is_empty_list}
 use Rattle.file_layout.specs.Tiles.{gap}
 use Rattle.dex_value.specs.Unique.{IsFunctionalByType}
 use Rattle.dex_value.proofs.FrontLaws.{SpellsArray-unique}
 use Rattle.file_layout.proofs.SectionLaws.{gap_one}
 use Rattle.code_put.proofs.HandlerOnce.{ranks-injective}
 use Rattle.dex_value.proofs.ArrayOnce.{array_once}
-use Rattle.file_assemble.specs.Arrays.{WritesArray}
+use Rattle.file_assemble.specs.inner.Arrays.{WritesArray}
 use Rattle.tables_names.proofs.PlaceLemmas.{one_key}
 use Rattle.program_types.proofs.KeysTell.{text_told, field_told, method_told}
 

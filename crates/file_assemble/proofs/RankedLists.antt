@@ -10,9 +10,9 @@ use Rattle.tables_names.proofs.PlaceLemmas.{rank_at}
 use Rattle.tables_names.specs.Rank.{IsAt}
 use Rattle.tables_rows.proofs.HalvesLaws.{length-halves_bytes, indexes_unique}
 use Rattle.file_layout.specs.Tiles.{gap}
-use Rattle.file_layout.specs.Sections.{is_empty_list}
-use Rattle.tables_names.specs.Indices.{AreIndices}
-use Rattle.file_assemble.specs.Lists.{AddsIndices, SpellsRanks}
+use Rattle.file_layout.specs.inner.Sections.{is_empty_list}
+use Rattle.tables_names.specs.inner.Indices.{AreIndices}
+use Rattle.file_assemble.specs.inner.Lists.{AddsIndices, SpellsRanks}
 use Rattle.file_limits.specs.Wide.{wide_list}
 use Rattle.dex_base.proofs.ListFacts.{zip_length}
 use Rattle.tables_names.proofs.PlaceLemmas.{one_key}

@@ -5,7 +5,8 @@ use Rattle.std.specs.List.{AllByRecursion, flat_map, slice_get}
 use Rattle.std.specs.Option.{option_to_list}
 use Rattle.code_put.specs.Fits.{FitsCode}
 use Rattle.file_layout.specs.Sections.{wide_all}
-use Rattle.file_limits.specs.Limits.{Fits, BodyIsReady, method_code, codes_in, codes_of}
+use Rattle.file_limits.specs.Limits.{Fits, method_code, codes_in, codes_of}
+use Rattle.file_limits.specs.inner.Limits.{BodyIsReady}
 use Rattle.file_limits.specs.Wide.{bodies_in, bodies_of, wide_body}
 use Rattle.tables_names.specs.Closure.{Five, NameRanks}
 use Rattle.tables_names.specs.Needed.{needed}
@@ -17,7 +18,7 @@ use Rattle.program_types.specs.Kinds.{HasIndex}
 use Rattle.program_rules.specs.Ranges.{ClassInRange}
 use Rattle.program_rules.specs.WellFormed.{WellFormed}
 use Rattle.program_rules.proofs.FormedLaws.{class_formed}
-use Rattle.file_assemble.specs.Named.{BodyCanBePut, FewNames}
+use Rattle.file_assemble.specs.inner.Named.{BodyCanBePut, FewNames}
 use Rattle.file_assemble.proofs.FitsLaws.{Room, back_small, class_small, few_of, front_small}
 use Rattle.file_assemble.proofs.NamedLaws.{all_below, class_ranked, types_short}
 use Rattle.dex_base.proofs.ListFacts.{all_append, all_back, all_front, all_get}

@@ -10,7 +10,7 @@ use Rattle.tables_names.specs.Closure.{Five}
 use Rattle.tables_names.specs.Rank.{IsAt}
 use Rattle.program_types.specs.Content.{Proto}
 use Rattle.program_types.specs.Key.{Key, proto_key}
-use Rattle.file_assemble.specs.Rows.{SpellsTable, SpellsProtos, SpellsProtoRow}
+use Rattle.file_assemble.specs.inner.Rows.{SpellsTable, SpellsProtos, SpellsProtoRow}
 use Rattle.file_limits.proofs.PartLaws.{map_map}
 
 -- what a set has at an index

@@ -9,8 +9,8 @@ use Rattle.program_types.specs.Shorty.{shorty}
 use Rattle.tables_names.specs.Rank.{Rising, IsAt}
 use Rattle.tables_names.specs.Closure.{Five, AreRising}
 use Rattle.file_classes.specs.ClassRows.{IndexOrNone}
-use Rattle.file_assemble.specs.Rows.{SpellsTypeRow, SpellsProtoRow, SpellsFieldRow, SpellsMethodRow, SpellsTable, SpellsRows}
-use Rattle.file_assemble.specs.ClassDefs.{ClassWithPlaces, SpellsClassRow}
+use Rattle.file_assemble.specs.inner.Rows.{SpellsTypeRow, SpellsProtoRow, SpellsFieldRow, SpellsMethodRow, SpellsTable, SpellsRows}
+use Rattle.file_assemble.specs.inner.ClassDefs.{ClassWithPlaces, SpellsClassRow}
 use Rattle.tables_names.proofs.PlaceLemmas.{one_place}
 
 -- the same of two keys that are equal

@@ -4,7 +4,7 @@ use Rattle.std.proofs.lemmas.List.{length-map}
 use Rattle.file_layout.specs.Sections.{wide_all}
 use Rattle.file_limits.specs.Wide.{bodies_in, bodies_of, wide_data}
 use Rattle.program_types.specs.Content.{Class, Program}
-use Rattle.file_assemble.specs.Data.{method_count, with_code_places, wide_with_codes}
+use Rattle.file_assemble.specs.inner.Data.{method_count, with_code_places, wide_with_codes}
 
 pub length-sited : (p : Program) (codes : List ℕ) → length (with_code_places p codes) ≡ length p
 length-sited [] codes = refl

@@ -2,11 +2,12 @@
 use Rattle.std.proofs.Common.{◌≡◌, ℕ, zero, suc, ◌+◌, ◌≤◌, List, [], ◌∷◌, length, take, drop, get_or, ap, subst, arith, length-append, length-drop, slice_get, Some, None}
 use Rattle.std.proofs.lemmas.List.{length-map}
 use Rattle.std.specs.List.{flat_map}
-use Rattle.file_limits.specs.Wide.{bodies_of, body_values}
+use Rattle.file_limits.specs.Wide.{bodies_of}
+use Rattle.file_limits.specs.inner.Wide.{body_values}
 use Rattle.program_types.specs.Content.{Class, Program}
 use Rattle.program_types.specs.View as view
 use Rattle.program_types.specs.declared.class.Class as made
-use Rattle.file_assemble.specs.Data.{ClassWithCodes, method_count, with_code_places}
+use Rattle.file_assemble.specs.inner.Data.{ClassWithCodes, method_count, with_code_places}
 use Rattle.file_assemble.proofs.SitedLaws.{rest_after, count_of_bodies}
 
 -- class i with its places

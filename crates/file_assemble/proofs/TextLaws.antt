@@ -6,7 +6,7 @@ use Rattle.program_types.specs.declared.names.Str.{Str}
 use Rattle.tables_names.specs.Keys.{key_of_str}
 use Rattle.tables_names.specs.Rows.{first_of}
 use Rattle.file_layout.specs.Sections.{wide_all}
-use Rattle.file_limits.specs.Wide.{wide_text}
+use Rattle.file_limits.specs.inner.Wide.{wide_text}
 
 abbrev pub no_str : Str
 no_str = record { units = record { ref_ptr = (0, 0); now = [] } }

@@ -1,14 +1,2 @@
-pub mod Rows
-pub mod AtIndex
-pub mod ClassDefs
-pub mod Lists
-pub mod Placing
-pub mod Codes
 pub mod Data
-pub mod Growing
-pub mod Arrays
-pub mod Once
-pub mod Held
-pub mod Named
-pub mod Assembled
-pub mod Making
+pub mod inner

@@ -4,7 +4,7 @@ ghost use Rattle.std.specs.Prelude.{◌≡◌, ℕ, List};
 ghost use Rattle.program_rules.specs.WellFormed.{WellFormed};
 ghost use Rattle.program_types.specs.Content.{Program};
 ghost use Rattle.tables_names.specs.Needed.{needed};
-ghost use Rattle.file_assemble.specs.Assembled.{Assembled};
+ghost use Rattle.file_assemble.specs.inner.Assembled.{Assembled};
 
 /// Of a well-formed program one file is assembled: `Assembled` leaves no byte open.
 pub fn assembled_is_one()

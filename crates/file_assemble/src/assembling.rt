@@ -2,17 +2,17 @@
 //! Page: "Dalvik Executable format", "File layout".
 ghost use Rattle.std.specs.Prelude.{◌≡◌, ◌≢◌, ◌+◌, ◌<◌, ◌^◌, ◌++◌, IfOk, IfErr, OnOk, IsOkUnless, length, slice_index};
 ghost use Rattle.dex_base.specs.Fault.{memory};
-ghost use Rattle.file_layout.specs.Plan.{tables_end};
+ghost use Rattle.file_layout.specs.inner.Plan.{tables_end};
 ghost use Rattle.file_layout.specs.Tiles.{gap, zeros};
 ghost use Rattle.file_limits.specs.Limits.{Fits, IsLowestLimit};
-ghost use Rattle.file_limits.specs.Wide.{wide_rows};
-ghost use Rattle.file_needed.specs.Bodies.{defined_in, named_in_code};
+ghost use Rattle.file_limits.specs.inner.Wide.{wide_rows};
+ghost use Rattle.file_needed.specs.inner.Bodies.{defined_in, named_in_code};
 ghost use Rattle.tables_names.specs.Needed.{needed};
 ghost use Rattle.tables_names.specs.Noted.{AreRanks};
 ghost use Rattle.program_types.specs.View as view;
 ghost use Rattle.program_rules.specs.WellFormed.{WellFormed};
-ghost use Rattle.file_assemble.specs.Assembled.{Assembled, DataIsLaid, SpellsTables, rows_of};
-ghost use Rattle.file_assemble.specs.Making.{places_of};
+ghost use Rattle.file_assemble.specs.inner.Assembled.{Assembled, DataIsLaid, SpellsTables, rows_of};
+ghost use Rattle.file_assemble.specs.inner.Making.{places_of};
 
 use crate::arrays::put_arrays;
 use crate::class_data::put_datas;

@@ -5,11 +5,11 @@ ghost use Rattle.std.specs.Option.{ForSome};
 ghost use Rattle.dex_base.specs.Fault.{memory};
 ghost use Rattle.dex_base.specs.Grammar.{Appends, Each};
 ghost use Rattle.file_classes.specs.ClassRows.{IndexOrNone};
-ghost use Rattle.tables_names.specs.Indices.{HasRank};
+ghost use Rattle.tables_names.specs.inner.Indices.{HasRank};
 ghost use Rattle.program_types.specs.Key.{text_key};
 ghost use Rattle.program_types.specs.View as view;
-ghost use Rattle.file_assemble.specs.ClassDefs.{SpellsClassRow, StringRanks, TypeRanks, with_places};
-ghost use Rattle.file_assemble.specs.Held.{RowNamesHeld};
+ghost use Rattle.file_assemble.specs.inner.ClassDefs.{SpellsClassRow, StringRanks, TypeRanks, with_places};
+ghost use Rattle.file_assemble.specs.inner.Held.{RowNamesHeld};
 
 use crate::index::{string_index, type_index};
 use dex_base::{Fault, push_words};

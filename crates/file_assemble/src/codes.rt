@@ -3,18 +3,20 @@
 ghost use Rattle.std.specs.Prelude.{◌≡◌, ℕ, ◌+◌, ◌<◌, ◌≤◌, ◌^◌, ◌++◌, List, Option, Some, IfOk, OnOk, IsOkUnless, length, map, option_map, slice_get};
 ghost use Rattle.std.specs.List.{AllByRecursion, flat_map};
 ghost use Rattle.dex_base.specs.Fault.{memory};
-ghost use Rattle.file_layout.specs.Sections.{wide_all, Laid};
-ghost use Rattle.file_limits.specs.Wide.{bodies_in, bodies_of, body_values, wide_body};
-ghost use Rattle.file_needed.specs.Bodies.{defined_in, named_in_body, named_in_code};
+ghost use Rattle.file_layout.specs.Sections.{wide_all};
+ghost use Rattle.file_layout.specs.inner.Sections.{Laid};
+ghost use Rattle.file_limits.specs.Wide.{bodies_in, bodies_of, wide_body};
+ghost use Rattle.file_limits.specs.inner.Wide.{body_values};
+ghost use Rattle.file_needed.specs.inner.Bodies.{defined_in, named_in_body, named_in_code};
 ghost use Rattle.program_types.specs.Mentions.{if_any, names_of_insn};
 ghost use Rattle.tables_names.specs.Closure.{NameRanks};
 ghost use Rattle.tables_names.specs.Noted.{AreRanks};
 ghost use Rattle.program_types.specs.Content as content;
 ghost use Rattle.program_types.specs.View as view;
-ghost use Rattle.file_assemble.specs.Codes.{is_bodiless, PacksBody, WritesBody};
-ghost use Rattle.file_assemble.specs.Named.{BodyCanBePut};
-ghost use Rattle.file_layout.specs.Tiles.{AreShared};
-ghost use Rattle.file_layout.specs.Sharing.{Sharing, UsesItem};
+ghost use Rattle.file_assemble.specs.inner.Codes.{is_bodiless, PacksBody, WritesBody};
+ghost use Rattle.file_assemble.specs.inner.Named.{BodyCanBePut};
+ghost use Rattle.file_layout.specs.inner.Tiles.{AreShared};
+ghost use Rattle.file_layout.specs.inner.Sharing.{Sharing, UsesItem};
 
 use crate::placed::Placed;
 use code_put::{make_item, mentions_in};

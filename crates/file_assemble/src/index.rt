@@ -1,6 +1,6 @@
 //! The indices of names that are held: never a refusal.
 ghost use Rattle.std.specs.Prelude.{◌≤◌, ◌^◌, length};
-ghost use Rattle.tables_names.specs.Indices.{HasRank};
+ghost use Rattle.tables_names.specs.inner.Indices.{HasRank};
 ghost use Rattle.tables_names.specs.Keys.{key_of_str, key_of_desc};
 ghost use Rattle.tables_names.specs.Rank.{IsAt};
 ghost use Rattle.program_types.specs.Key.{text_key};

@@ -5,7 +5,7 @@ ghost use Rattle.dex_base.specs.Fault.{memory};
 ghost use Rattle.dex_base.specs.Fields.{u16_bytes, u32_bytes};
 ghost use Rattle.dex_base.specs.Grammar.{Appends};
 ghost use Rattle.program_types.specs.Key.{method_ref_key};
-ghost use Rattle.file_assemble.specs.Rows.{SpellsMethodRow, SpellsTable};
+ghost use Rattle.file_assemble.specs.inner.Rows.{SpellsMethodRow, SpellsTable};
 
 use dex_base::Fault;
 use tables_names::{MethodParts, Ranks};

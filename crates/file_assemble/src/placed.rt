@@ -2,7 +2,7 @@
 //! Page: "Dalvik Executable format", where an offset of 0 stands for no item.
 ghost use Rattle.std.specs.Prelude.{◌≡◌, ◌+◌, ◌<◌, ◌^◌, ◌∷◌, [], ◌++◌, OnOk, IsOkUnless};
 ghost use Rattle.dex_base.specs.Fault.{memory};
-ghost use Rattle.file_assemble.specs.Placing.{items_with};
+ghost use Rattle.file_assemble.specs.inner.Placing.{items_with};
 
 use dex_base::Fault;
 use std::alloc::Global;

@@ -3,12 +3,12 @@
 ghost use Rattle.std.specs.Prelude.{◌≡◌, ◌≤◌, ◌^◌, OnOk, IsOkUnless, length};
 ghost use Rattle.dex_base.specs.Fault.{memory};
 ghost use Rattle.dex_base.specs.Grammar.{Appends};
-ghost use Rattle.tables_names.specs.Indices.{HasRank};
+ghost use Rattle.tables_names.specs.inner.Indices.{HasRank};
 ghost use Rattle.tables_names.specs.Rank.{IsAt};
 ghost use Rattle.program_types.specs.Key.{text_key};
 ghost use Rattle.program_types.specs.Shorty.{shorty};
 ghost use Rattle.program_types.specs.View as view;
-ghost use Rattle.file_assemble.specs.Rows.{SpellsProtoRow, SpellsProtos};
+ghost use Rattle.file_assemble.specs.inner.Rows.{SpellsProtoRow, SpellsProtos};
 
 use crate::index::shorty_index;
 use dex_base::{Fault, push_words};

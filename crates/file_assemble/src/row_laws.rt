@@ -1,6 +1,6 @@
 //! Laws of rows, type lists and class data, each the contract of a function that does nothing else.
-ghost use Rattle.file_assemble.specs.AtIndex.{TypeRowsStand, ProtoRowsStand, FieldRowsStand, MethodRowsStand};
-ghost use Rattle.file_assemble.specs.Once.{ClassDataIsOne, ClassRowsAreOne, NameRowsAreOne, TypeListIsOne};
+ghost use Rattle.file_assemble.specs.inner.AtIndex.{TypeRowsStand, ProtoRowsStand, FieldRowsStand, MethodRowsStand};
+ghost use Rattle.file_assemble.specs.inner.Once.{ClassDataIsOne, ClassRowsAreOne, NameRowsAreOne, TypeListIsOne};
 
 /// In the rows of the tables each name's row stands at the name's index.
 pub fn rows_stand_at_their_indices()

@@ -2,7 +2,7 @@
 //! Page: "Dalvik Executable format", "File layout".
 ghost use Rattle.std.specs.Prelude.{◌≡◌, ◌≤◌, ◌^◌, IfOk, IsOkUnless, length};
 ghost use Rattle.dex_base.specs.Fault.{memory};
-ghost use Rattle.file_assemble.specs.Rows.{SpellsRows};
+ghost use Rattle.file_assemble.specs.inner.Rows.{SpellsRows};
 
 use crate::field_ids::put_fields;
 use crate::method_ids::put_methods;

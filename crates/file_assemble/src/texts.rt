@@ -4,9 +4,10 @@ ghost use Rattle.std.specs.Prelude.{◌+◌, ◌<◌, ◌≤◌, ◌^◌, IfOk, 
 ghost use Rattle.dex_base.specs.Fault.{memory};
 ghost use Rattle.dex_base.specs.Mutf8.{PacksText};
 ghost use Rattle.program_types.specs.View as view;
-ghost use Rattle.file_layout.specs.Sections.{never, wide_all, Adds, Laid};
-ghost use Rattle.file_limits.specs.Wide.{text_values, wide_text};
-ghost use Rattle.file_layout.specs.Tiles.{AreShared};
+ghost use Rattle.file_layout.specs.Sections.{wide_all};
+ghost use Rattle.file_layout.specs.inner.Sections.{never, Adds, Laid};
+ghost use Rattle.file_limits.specs.inner.Wide.{text_values, wide_text};
+ghost use Rattle.file_layout.specs.inner.Tiles.{AreShared};
 
 use crate::placed::Placed;
 use dex_base::{Fault, put_mutf8};

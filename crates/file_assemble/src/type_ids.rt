@@ -4,7 +4,7 @@ ghost use Rattle.std.specs.Prelude.{◌≤◌, ◌^◌, OnOk, IsOkUnless, length
 ghost use Rattle.dex_base.specs.Fault.{memory};
 ghost use Rattle.dex_base.specs.Grammar.{Appends};
 ghost use Rattle.program_types.specs.Key.{text_key};
-ghost use Rattle.file_assemble.specs.Rows.{SpellsTable, SpellsTypeRow};
+ghost use Rattle.file_assemble.specs.inner.Rows.{SpellsTable, SpellsTypeRow};
 
 use dex_base::{Fault, push_words};
 use tables_names::Ranks;

@@ -8,8 +8,9 @@ use Rattle.program_types.specs.Content.{Units, Member, Method}
 use Rattle.tables_rows.proofs.NameLaws.{field_one, method_one}
 use Rattle.file_classes.specs.ClassData.{FieldEntry, MethodEntry, Entries, steps, index_of, FirstEntriesAre, EntriesAre}
 use Rattle.file_classes.specs.Classes.{IsField, IsMethod}
-use Rattle.file_classes.specs.ClassFaults.{FieldOwner, MethodOwner, MemberEntryHolds, EntryBreaks, MemberIndex, MemberOwner, MemberOrder, MemberEntriesHold, EntriesBreak, FieldEntriesHold, MethodEntriesHold, MembersHold, MembersBreak}
-use Rattle.file_classes.specs.Reading.{IsBare}
+use Rattle.file_classes.specs.ClassFaults.{FieldOwner, MethodOwner, MemberEntryHolds, EntryBreaks, MemberIndex, MemberOwner, MemberOrder, MemberEntriesHold, EntriesBreak, FieldEntriesHold, MethodEntriesHold, MembersBreak}
+use Rattle.file_classes.specs.inner.ClassFaults.{MembersHold}
+use Rattle.file_classes.specs.inner.Reading.{IsBare}
 use Rattle.file_classes.specs.declared.members.Bare.{Bare}
 use Rattle.file_classes.proofs.EntryLaws.{entry_at}
 

@@ -11,9 +11,9 @@ use Rattle.tables_rows.specs.Names.{AreRows}
 use Rattle.tables_rows.specs.Stands.{TypesAt}
 use Rattle.tables_rows.proofs.TypeLists.{types_one}
 use Rattle.file_classes.specs.Classes.{NoTypeTwice, InterfacesAt}
-use Rattle.file_classes.specs.Reading.{IsNotAmong}
+use Rattle.file_classes.specs.inner.Reading.{IsNotAmong}
 use Rattle.file_classes.specs.ClassRows.{class_word, NoneDefines, InterfaceIndexes}
-use Rattle.tables_rows.specs.Halves.{halves}
+use Rattle.tables_rows.specs.inner.Halves.{halves}
 use Rattle.tables_rows.proofs.HalvesLaws.{list_or_none_one}
 use Rattle.file_classes.proofs.EntryLaws.{entry_at}
 

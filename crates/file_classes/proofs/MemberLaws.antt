@@ -14,7 +14,7 @@ use Rattle.file_classes.specs.ClassRows.{class_word, InOrder}
 use Rattle.file_classes.specs.ClassFaults.{HasHead, MemberEntryHolds, IsForeign, EntryBreaks, MemberIndex, MemberOwner, MemberOrder, ClassRowBreaks, Member, ClassRowHolds}
 use Rattle.file_classes.proofs.EntryLaws.{entry_at}
 use Rattle.file_classes.proofs.EntryFaults.{run_holds}
-use Rattle.file_classes.specs.Reading.{bare, HaveCodes, IsBare, IndexBreaks, IndexIsOut, IndexIsForeign, IndexFails, EntriesFail, MembersFail, head, IsHead}
+use Rattle.file_classes.specs.inner.Reading.{bare, HaveCodes, IsBare, IndexBreaks, IndexIsOut, IndexIsForeign, IndexFails, EntriesFail, MembersFail, head, IsHead}
 use Rattle.file_classes.specs.declared.members.Bare.{Bare}
 use Rattle.file_classes.specs.Classes.{IsField, IsMethod, RowIs, InterfacesAt, HeadIs}
 use Rattle.file_classes.specs.declared.heads.Head.{Head}

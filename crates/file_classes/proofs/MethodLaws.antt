@@ -14,7 +14,7 @@ use Rattle.program_types.specs.declared.names.Str.{Str}
 use Rattle.program_types.specs.declared.names.Desc.{Desc}
 use Rattle.dex_container.specs.Layout.{size_of}
 use Rattle.tables_rows.specs.Names.{Names, AreNamesOf, NameIsAt, AreRows}
-use Rattle.tables_rows.specs.Reading.{AreFirst}
+use Rattle.tables_rows.specs.inner.Reading.{AreFirst}
 use Rattle.tables_rows.specs.Sorted.{RowsHold}
 use Rattle.tables_rows.specs.Stands.{MethodStands, NameStands}
 use Rattle.tables_rows.proofs.NameLaws.{names_stand}
@@ -27,7 +27,7 @@ use Rattle.file_classes.specs.ClassData.{MethodEntry, Entries, steps, index_of, 
 use Rattle.file_classes.specs.ClassRows.{class_word}
 use Rattle.file_classes.specs.Classes.{IsMethod, StaticsAt, CodeAt, SomeCodeStands, SpellsClass}
 use Rattle.file_classes.specs.ClassFaults.{ValuesStand, SomeBodyStands, BodyAt, BodyHolds, BodyFails, CodeHolds, RegistersFail, EachCodeHolds, SomeCodeFails, ClassCodesHold, MethodsBreak, BodiesHold, IsFirstClass, RowRegistersHold, RowRegistersBreak}
-use Rattle.file_classes.specs.Reading.{bare, head, HaveCodes, IsHead, IsDone, AreDone, CodesHoldUpTo, FirstCodeBreaks, CodesUpTo, BodiesAre, SpellsBodies}
+use Rattle.file_classes.specs.inner.Reading.{bare, head, HaveCodes, IsHead, IsDone, AreDone, CodesHoldUpTo, FirstCodeBreaks, CodesUpTo, BodiesAre, SpellsBodies}
 use Rattle.file_classes.specs.declared.members.Bare.{Bare}
 use Rattle.file_classes.specs.declared.heads.Head.{Head}
 use Rattle.file_classes.proofs.EntryLaws.{entry_at, entries_one}

@@ -12,7 +12,7 @@ use Rattle.tables_rows.proofs.NameLaws.{field_one, method_one}
 use Rattle.dex_value.specs.Spelling.{SpellsArray}
 use Rattle.dex_value.specs.Standing.{ArrayStands}
 use Rattle.dex_insn.specs.declared.opcode.IndexKind.TheVariants as kind
-use Rattle.code_read.specs.Symbols as code
+use Rattle.code_read.specs.inner.Symbols as code
 use Rattle.dex_value.proofs.FrontLaws.{SpellsArray-unique}
 use Rattle.code_read.proofs.CodeLaws.{code_one}
 use Rattle.file_classes.specs.ClassRows.{class_word, IndexOrNone}

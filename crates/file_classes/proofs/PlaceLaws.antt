@@ -12,7 +12,7 @@ use Rattle.tables_rows.specs.Stands.{TypeStands}
 use Rattle.tables_rows.proofs.HalvesLaws.{list_or_none_one}
 use Rattle.tables_rows.proofs.TypeLists.{indexes_of}
 use Rattle.file_classes.specs.Classes.{RowIs, InterfacesAt}
-use Rattle.file_classes.specs.Places.{ArePlaces, TypesHaveRows}
+use Rattle.file_classes.specs.inner.Places.{ArePlaces, TypesHaveRows}
 use Rattle.std.proofs.lemmas.List.{length-set}
 
 abbrev zero_list : ℕ → List ℕ

@@ -10,7 +10,8 @@ use Rattle.tables_rows.proofs.TypeLists.{type_one}
 use Rattle.file_classes.specs.ClassRows.{class_word, no_index, IndexOrNone}
 use Rattle.file_classes.specs.ClassData.{Entries}
 use Rattle.file_classes.specs.Classes.{RowIs}
-use Rattle.file_classes.specs.ClassFaults.{HasNoName, IsOfOtherKind, MembersHold, MembersBreak, ClassRowBreaks, ClassIndex, ClassKind, InterfaceList, ClassOrder, ClassData, Member, ClassRowHolds, ClassRowKeeps}
+use Rattle.file_classes.specs.ClassFaults.{HasNoName, IsOfOtherKind, MembersBreak, ClassRowBreaks, ClassIndex, ClassKind, InterfaceList, ClassOrder, ClassData, Member, ClassRowHolds}
+use Rattle.file_classes.specs.inner.ClassFaults.{MembersHold, ClassRowKeeps}
 use Rattle.file_classes.proofs.EntryLaws.{entries_one}
 use Rattle.file_classes.proofs.EntryFaults.{fields_hold, methods_hold, members_clear, members_number}
 use Rattle.file_classes.proofs.OnceLaws.{index_one}

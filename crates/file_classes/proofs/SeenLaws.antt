@@ -7,7 +7,7 @@ use Rattle.indexmap.specs.IndexSet.{insert_key}
 use Rattle.program_types.specs.View.{desc}
 use Rattle.program_types.specs.declared.names.Desc.{Desc}
 use Rattle.file_classes.specs.Classes.{NoTypeTwice}
-use Rattle.file_classes.specs.Reading.{IsNotAmong}
+use Rattle.file_classes.specs.inner.Reading.{IsNotAmong}
 use Rattle.dex_base.proofs.ListFacts.{map_at}
 
 module _ (eq : Desc → Desc → Bool) (decides : (x y : Desc) → Decides (eq x y) (desc x ≡ desc y)) where

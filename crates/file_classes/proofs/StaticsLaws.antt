@@ -17,7 +17,7 @@ use Rattle.dex_value.specs.Standing.{ArrayStands}
 use Rattle.dex_value.specs.Faults.{ArrayBreaksAt}
 use Rattle.file_classes.specs.ClassRows.{class_word}
 use Rattle.file_classes.specs.ClassFaults.{ValuesStand, ValuesBreak, IsFirstClass, at_row}
-use Rattle.file_classes.specs.Reading.{IsHead}
+use Rattle.file_classes.specs.inner.Reading.{IsHead}
 use Rattle.file_classes.specs.declared.heads.Head.{Head}
 use Rattle.file_classes.proofs.ClearLaws.{array_weaker}
 

@@ -131,13 +131,6 @@ MethodEntriesHold b class es = MemberEntriesHold (MethodOwner b) class (steps es
 abbrev pub MethodEntriesBreak : List ℕ → Units → List MethodEntry → ℕ → Type 0
 MethodEntriesBreak b class es code = EntriesBreak (MethodOwner b) (size_of b section.method_ids) class (steps es) code
 
--- All four lists hold.
-pub record MembersHold (b : List ℕ) (class : Units) (e : Entries) : Type 0 where
-  pub statics : FieldEntriesHold b class e.statics
-  pub instances : FieldEntriesHold b class e.instances
-  pub directs : MethodEntriesHold b class e.directs
-  pub virtuals : MethodEntriesHold b class e.virtuals
-
 -- The first of the four lists that doesn't: static fields, instance fields, direct methods, virtual methods.
 abbrev pub MembersBreak : List ℕ → Units → Entries → ℕ → Type 0
 MembersBreak b class e code =
@@ -170,16 +163,6 @@ pub record ClassRowHolds (b : List ℕ) (i : ℕ) : Type 0 where
   pub class : Class
   pub head : HeadIs b i entries class
   pub order : InOrder b i
-
--- Each of these rules is kept, asked alone.
-pub record ClassRowKeeps (b : List ℕ) (i : ℕ) : Type 0 where
-  pub names : ¬ HasNoName b i
-  pub class : (t : Units) → TypeStands b (class_idx b i) t → IsClass t
-  pub superclass : superclass_idx b i ≢ no_index → (t : Units) → TypeStands b (superclass_idx b i) t → IsClass t
-  pub interfaces : (ts : List Units) × InterfacesAt b (interfaces_off b i) ts
-  pub order : InOrder b i
-  pub class_data : (e : Entries) × EntriesAt b (class_data_off b i) e
-  pub members : (class : Units) (e : Entries) → TypeStands b (class_idx b i) class → EntriesAt b (class_data_off b i) e → MembersHold b class e
 
 -- All rows hold.
 abbrev pub ClassRowsHold : List ℕ → Type 0

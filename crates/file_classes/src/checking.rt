@@ -7,8 +7,8 @@ ghost use Rattle.dex_container.specs.Section as section;
 ghost use Rattle.tables_rows.specs.Names.{AreNamesOf, AreRows};
 ghost use Rattle.tables_rows.specs.Sorted.{RowsHold};
 ghost use Rattle.file_classes.specs.ClassFaults.{BodyHolds, BodyFails, CodeHolds, RegistersFail, BodiesHold, BodiesBreak, RowRegistersHold, RowRegistersBreak, IsFirstClass};
-ghost use Rattle.tables_rows.specs.Cached.{AreCached};
-ghost use Rattle.file_classes.specs.Reading.{IsHead, CodesHoldUpTo, FirstCodeBreaks, CodesUpTo, IsChecked};
+ghost use Rattle.tables_rows.specs.inner.Cached.{AreCached};
+ghost use Rattle.file_classes.specs.inner.Reading.{IsHead, CodesHoldUpTo, FirstCodeBreaks, CodesUpTo, IsChecked};
 
 use crate::class_row::class_count;
 use crate::heads::Head;
@@ -22,128 +22,116 @@ use indexmap::IndexMap;
 use std::alloc::Global;
 use tables_rows::Tables;
 
-/// What is wrong with the registers of the code at an offset, if anything is; what has to be cached for it lies in the arena.
-fn check_code(
+/// What codes are looked at with.
+#[derive(Clone, Copy)]
+struct Checker<'c> {
     alloc: Global,
-    arena: &Bump,
-    sections: &Sections<'_>,
-    tables: &Tables<'_>,
-    off: u32,
-) -> Result<Option<Fault>, Fault>
-    requires names { AreNamesOf sections.now tables.now }
-    ensures ok { IfOk result (IsChecked sections.now off) }
-    ensures err { IfErr result (λ e. e ≢ memory → BodyFails sections.now off e) }
-{
-    if off == 0 {
-        return Ok(None);
-    }
-    let past = check_body(alloc, arena, tables, sections, off)?;
-    Ok(past)
+    sections: &'c Sections<'c>,
+    tables: &'c Tables<'c>,
 }
 
-/// What is wrong with the registers of the code at an offset, if anything is: what is cached for the offset, or what is
-/// found now, and cached. After each code the scratch arena is empty again.
-fn check_code_at(
-    alloc: Global,
-    scratch: &mut Bump,
-    sections: &Sections<'_>,
-    tables: &Tables<'_>,
-    cached: &mut IndexMap<u32, Option<Fault>>,
-    off: u32,
-) -> Result<Option<Fault>, Fault>
-    requires names { AreNamesOf sections.now tables.now }
-    requires cached { AreCached (IsChecked sections.now) cached.old }
-    ensures ok { IfOk result (IsChecked sections.now off) }
-    ensures cached { OnOk result (AreCached (IsChecked sections.now) cached.new) }
-    ensures err { IfErr result (λ e. e ≢ memory → BodyFails sections.now off e) }
-{
-    if let Some(past) = cached.get(&off) {
-        return Ok(*past);
-    }
-    let past = check_code(alloc, scratch, sections, tables, off)?;
-    if scratch.reset().is_err() {
-        return Err(Fault::MEMORY);
-    }
-    cached.insert(off, past)?;
-    Ok(past)
+/// What is wrong with the registers of each code that was looked at, by its offset, and an arena that is empty again after
+/// each code.
+#[derive(Drop)]
+struct Known {
+    scratch: Bump,
+    cached: IndexMap<u32, Option<Fault>>,
 }
 
-/// The first fault of the registers of a list of methods.
-fn check_methods(
-    alloc: Global,
-    scratch: &mut Bump,
-    sections: &Sections<'_>,
-    tables: &Tables<'_>,
-    cached: &mut IndexMap<u32, Option<Fault>>,
-    bares: &[Bare<'_>],
-) -> Result<Option<Fault>, Fault>
-    requires names { AreNamesOf sections.now tables.now }
-    requires cached { AreCached (IsChecked sections.now) cached.old }
-    ensures ok { OnOk result (CodesHoldUpTo BodyHolds sections.now bares.now (length bares.now)) }
-    ensures past { IfOk result (CodesUpTo CodeHolds RegistersFail sections.now bares.now (length bares.now)) }
-    ensures cached { OnOk result (AreCached (IsChecked sections.now) cached.new) }
-    ensures err { IfErr result (λ e. e ≢ memory → FirstCodeBreaks BodyHolds BodyFails sections.now bares.now e) }
-{
-    let mut past = None;
-    for bare in bares {
-        let next = check_code_at(alloc, scratch, sections, tables, cached, bare.code)?;
-        past = past.or(next);
+impl Checker<'_> {
+    /// What is wrong with the registers of the code at an offset, if anything is; what has to be cached for it lies in the arena.
+    fn check_code(&self, arena: &Bump, off: u32) -> Result<Option<Fault>, Fault>
+        requires names { AreNamesOf self.now.sections.now self.now.tables.now }
+        ensures ok { IfOk result (IsChecked self.now.sections.now off) }
+        ensures err { IfErr result (λ e. e ≢ memory → BodyFails self.now.sections.now off e) }
+    {
+        if off == 0 {
+            return Ok(None);
+        }
+        let past = check_body(self.alloc, arena, self.tables, self.sections, off)?;
+        Ok(past)
     }
-    Ok(past)
-}
 
-/// The first fault of the registers of row i.
-fn check_class(
-    alloc: Global,
-    scratch: &mut Bump,
-    sections: &Sections<'_>,
-    tables: &Tables<'_>,
-    cached: &mut IndexMap<u32, Option<Fault>>,
-    i: u32,
-    head: Head<'_, '_>,
-) -> Result<Option<Fault>, Fault>
-    requires names { AreNamesOf sections.now tables.now }
-    requires cached { AreCached (IsChecked sections.now) cached.old }
-    requires head { IsHead sections.now i head }
-    ensures ok { OnOk result (BodiesHold sections.now i) }
-    ensures hold { IfOk result (λ past. IfNone past (RowRegistersHold sections.now i)) }
-    ensures past { IfOk result (λ past. IfSome past (RowRegistersBreak sections.now i)) }
-    ensures cached { OnOk result (AreCached (IsChecked sections.now) cached.new) }
-    ensures err { IfErr result (λ e. e ≢ memory → BodiesBreak sections.now i e) }
-{
-    sections.framed();
-    let directs = check_methods(alloc, scratch, sections, tables, cached, head.directs)?;
-    let virtuals = check_methods(alloc, scratch, sections, tables, cached, head.virtuals)?;
-    Ok(directs.or(virtuals))
-}
-
-/// Looks at the code of all rows, with nothing cached so far.
-fn check_rows(
-    alloc: Global,
-    scratch: &mut Bump,
-    sections: &Sections<'_>,
-    tables: &Tables<'_>,
-    cached: &mut IndexMap<u32, Option<Fault>>,
-    heads: &[Head<'_, '_>],
-) -> Result<(), Fault>
-    requires names { AreNamesOf sections.now tables.now }
-    requires cached { AreCached (IsChecked sections.now) cached.old }
-    requires heads { AreRows IsHead sections.now section.class_defs heads.now }
-    ensures hold { OnOk result (RowsHold RowRegistersHold sections.now (size_of sections.now section.class_defs)) }
-    ensures err { IfErr result (λ e. e ≢ memory → IsFirstClass BodiesBreak BodiesHold sections.now e
-        ⊎ (RowsHold BodiesHold sections.now (size_of sections.now section.class_defs) × IsFirstClass RowRegistersBreak RowRegistersHold sections.now e)) }
-{
-    sections.framed();
-    let count = class_count(sections);
-    let mut past = None;
-    for i in 0..count {
-        let head = head_at(sections, heads, i);
-        let next = check_class(alloc, scratch, sections, tables, cached, i, head)?;
-        past = past.or(next);
+    /// What is wrong with the registers of the code at an offset, if anything is: what is known of it, or what is found
+    /// now, and known from then on.
+    fn check_code_at(&self, known: &mut Known, off: u32) -> Result<Option<Fault>, Fault>
+        requires names { AreNamesOf self.now.sections.now self.now.tables.now }
+        requires cached { AreCached (IsChecked self.now.sections.now) known.old.cached }
+        ensures ok { IfOk result (IsChecked self.now.sections.now off) }
+        ensures cached { OnOk result (AreCached (IsChecked self.now.sections.now) known.new.cached) }
+        ensures err { IfErr result (λ e. e ≢ memory → BodyFails self.now.sections.now off e) }
+    {
+        if let Some(past) = known.cached.get(&off) {
+            return Ok(*past);
+        }
+        let past = self.check_code(&known.scratch, off)?;
+        if known.scratch.reset().is_err() {
+            return Err(Fault::MEMORY);
+        }
+        known.cached.insert(off, past)?;
+        Ok(past)
     }
-    match past {
-        Some(fault) => Err(fault),
-        None => Ok(()),
+
+    /// The first fault of the registers of a list of methods.
+    fn check_methods(&self, known: &mut Known, bares: &[Bare<'_>]) -> Result<Option<Fault>, Fault>
+        requires names { AreNamesOf self.now.sections.now self.now.tables.now }
+        requires cached { AreCached (IsChecked self.now.sections.now) known.old.cached }
+        ensures ok { OnOk result (CodesHoldUpTo BodyHolds self.now.sections.now bares.now (length bares.now)) }
+        ensures past { IfOk result (CodesUpTo CodeHolds RegistersFail self.now.sections.now bares.now (length bares.now)) }
+        ensures cached { OnOk result (AreCached (IsChecked self.now.sections.now) known.new.cached) }
+        ensures err { IfErr result (λ e. e ≢ memory → FirstCodeBreaks BodyHolds BodyFails self.now.sections.now bares.now e) }
+    {
+        let mut past = None;
+        for bare in bares {
+            let next = self.check_code_at(known, bare.code)?;
+            past = past.or(next);
+        }
+        Ok(past)
+    }
+
+    /// The first fault of the registers of row i.
+    fn check_class(
+        &self,
+        known: &mut Known,
+        i: u32,
+        head: Head<'_, '_>,
+    ) -> Result<Option<Fault>, Fault>
+        requires names { AreNamesOf self.now.sections.now self.now.tables.now }
+        requires cached { AreCached (IsChecked self.now.sections.now) known.old.cached }
+        requires head { IsHead self.now.sections.now i head }
+        ensures ok { OnOk result (BodiesHold self.now.sections.now i) }
+        ensures hold { IfOk result (λ past. IfNone past (RowRegistersHold self.now.sections.now i)) }
+        ensures past { IfOk result (λ past. IfSome past (RowRegistersBreak self.now.sections.now i)) }
+        ensures cached { OnOk result (AreCached (IsChecked self.now.sections.now) known.new.cached) }
+        ensures err { IfErr result (λ e. e ≢ memory → BodiesBreak self.now.sections.now i e) }
+    {
+        self.sections.framed();
+        let directs = self.check_methods(known, head.directs)?;
+        let virtuals = self.check_methods(known, head.virtuals)?;
+        Ok(directs.or(virtuals))
+    }
+
+    /// Looks at the code of all rows.
+    fn check_rows(&self, known: &mut Known, heads: &[Head<'_, '_>]) -> Result<(), Fault>
+        requires names { AreNamesOf self.now.sections.now self.now.tables.now }
+        requires cached { AreCached (IsChecked self.now.sections.now) known.old.cached }
+        requires heads { AreRows IsHead self.now.sections.now section.class_defs heads.now }
+        ensures hold { OnOk result (RowsHold RowRegistersHold self.now.sections.now (size_of self.now.sections.now section.class_defs)) }
+        ensures err { IfErr result (λ e. e ≢ memory → IsFirstClass BodiesBreak BodiesHold self.now.sections.now e
+            ⊎ (RowsHold BodiesHold self.now.sections.now (size_of self.now.sections.now section.class_defs) × IsFirstClass RowRegistersBreak RowRegistersHold self.now.sections.now e)) }
+    {
+        self.sections.framed();
+        let count = class_count(self.sections);
+        let mut past = None;
+        for i in 0..count {
+            let head = head_at(self.sections, heads, i);
+            let next = self.check_class(known, i, head)?;
+            past = past.or(next);
+        }
+        match past {
+            Some(fault) => Err(fault),
+            None => Ok(()),
+        }
     }
 }
 
@@ -160,7 +148,14 @@ pub fn check_codes(
     ensures err { IfErr result (λ e. e ≢ memory → IsFirstClass BodiesBreak BodiesHold sections.now e
         ⊎ (RowsHold BodiesHold sections.now (size_of sections.now section.class_defs) × IsFirstClass RowRegistersBreak RowRegistersHold sections.now e)) }
 {
-    let mut scratch = Bump::new(alloc);
-    let mut cached = IndexMap::new(alloc);
-    check_rows(alloc, &mut scratch, sections, tables, &mut cached, heads)
+    let mut known = Known {
+        scratch: Bump::new(alloc),
+        cached: IndexMap::new(alloc),
+    };
+    let checker = Checker {
+        alloc,
+        sections,
+        tables,
+    };
+    checker.check_rows(&mut known, heads)
 }

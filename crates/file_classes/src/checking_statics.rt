@@ -10,9 +10,9 @@ ghost use Rattle.tables_rows.specs.Sorted.{RowsHold};
 ghost use Rattle.dex_value.specs.Faults.{ArrayBreaksAt};
 ghost use Rattle.dex_value.specs.Standing.{ArrayStands};
 ghost use Rattle.file_classes.specs.ClassFaults.{ValuesBreak, ValuesHold, IsFirstClass};
-ghost use Rattle.tables_rows.specs.Cached.{AreCached};
-ghost use Rattle.file_classes.specs.Cached.{CountsOnce};
-ghost use Rattle.file_classes.specs.Reading.{IsHead};
+ghost use Rattle.tables_rows.specs.inner.Cached.{AreCached};
+ghost use Rattle.file_classes.specs.inner.Cached.{CountsOnce};
+ghost use Rattle.file_classes.specs.inner.Reading.{IsHead};
 
 use crate::class_row::{class_count, class_place, class_word};
 use crate::heads::Head;

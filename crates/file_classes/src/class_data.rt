@@ -4,11 +4,11 @@ ghost use Rattle.dex_base.specs.Fault.{memory};
 ghost use Rattle.dex_base.specs.Grammar.{Takes, NoneBegins, Many};
 ghost use Rattle.dex_base.specs.Leb128.{Spells};
 ghost use Rattle.file_classes.specs.ClassData.{SpellsFieldEntry, SpellsMethodEntry, SpellsCounts, SpellsEntries, EntriesAt};
-ghost use Rattle.file_classes.specs.Reading.{field_entry, method_entry, counts, entries};
+ghost use Rattle.file_classes.specs.inner.Reading.{field_entry, method_entry, counts, entries};
 
 use dex_base::{Fault, read_uleb};
 use dex_container::{Sections, bytes_from, kind, section_of};
-use std::alloc::Global;
+use std::alloc::{AllocError, Global};
 
 /// A field: the difference of its index to that of the entry before, and its flags.
 #[derive(Clone, Copy)]
@@ -111,10 +111,9 @@ fn take_fields<'b>(
     alloc: Global,
     count: u32,
     bytes: &'b [u8],
-) -> Result<Option<(Vec<FieldEntry>, &'b [u8])>, Fault>
+) -> Result<Option<(Vec<FieldEntry>, &'b [u8])>, AllocError>
     ensures found { IfOk result (λ r. IfSome r (λ x. Takes (Many (SpellsFieldEntry Spells) count) bytes.now (map field_entry x.0.items) x.1.now)) }
     ensures none { IfOk result (λ r. IfNone r (NoneBegins (Many (SpellsFieldEntry Spells) count) bytes.now)) }
-    ensures memory { IsOkUnless result memory }
 {
     let mut all = Vec::new(alloc);
     let mut left = bytes;
@@ -133,10 +132,9 @@ fn take_methods<'b>(
     alloc: Global,
     count: u32,
     bytes: &'b [u8],
-) -> Result<Option<(Vec<MethodEntry>, &'b [u8])>, Fault>
+) -> Result<Option<(Vec<MethodEntry>, &'b [u8])>, AllocError>
     ensures found { IfOk result (λ r. IfSome r (λ x. Takes (Many (SpellsMethodEntry Spells) count) bytes.now (map method_entry x.0.items) x.1.now)) }
     ensures none { IfOk result (λ r. IfNone r (NoneBegins (Many (SpellsMethodEntry Spells) count) bytes.now)) }
-    ensures memory { IsOkUnless result memory }
 {
     let mut all = Vec::new(alloc);
     let mut left = bytes;
@@ -151,10 +149,9 @@ fn take_methods<'b>(
 }
 
 /// The class_data_item at the front of the bytes.
-fn take_entries(alloc: Global, bytes: &[u8]) -> Result<Option<Entries>, Fault>
+fn take_entries(alloc: Global, bytes: &[u8]) -> Result<Option<Entries>, AllocError>
     ensures found { IfOk result (λ r. IfSome r (λ e. (rest : List ℕ) × Takes (SpellsEntries Spells) bytes.now (entries e) rest)) }
     ensures none { IfOk result (λ r. IfNone r (NoneBegins (SpellsEntries Spells) bytes.now)) }
-    ensures memory { IsOkUnless result memory }
 {
     let Some((counts, lists)) = take_counts(bytes) else {
         return Ok(None);
@@ -201,5 +198,5 @@ pub fn entries_at(
     let Some(bytes) = bytes_from(sections, kind::CLASS_DATA_ITEM, section, off) else {
         return Ok(None);
     };
-    take_entries(alloc, bytes)
+    Ok(take_entries(alloc, bytes)?)
 }

@@ -5,13 +5,13 @@ ghost use Rattle.dex_container.specs.Section as section;
 ghost use Rattle.dex_base.specs.Fault.{memory};
 ghost use Rattle.program_types.specs.View.{desc};
 ghost use Rattle.tables_rows.specs.Names.{AreNamesOf, AreRows};
-ghost use Rattle.tables_rows.specs.Reading.{AreFirst};
+ghost use Rattle.tables_rows.specs.inner.Reading.{AreFirst};
 ghost use Rattle.tables_rows.specs.TableFaults.{BreaksAt, IsFirstRow};
 ghost use Rattle.file_classes.specs.ClassFaults.{ClassRowBreaks, ClassRowHolds, ClassRowsHold};
 ghost use Rattle.file_classes.specs.Classes.{InterfacesAt};
-ghost use Rattle.tables_rows.specs.Cached.{AreCached};
-ghost use Rattle.file_classes.specs.Places.{ArePlaces};
-ghost use Rattle.file_classes.specs.Reading.{IsHead};
+ghost use Rattle.tables_rows.specs.inner.Cached.{AreCached};
+ghost use Rattle.file_classes.specs.inner.Places.{ArePlaces};
+ghost use Rattle.file_classes.specs.inner.Reading.{IsHead};
 
 use crate::class_data::entries_at;
 use crate::class_row::{class_count, class_place, class_word, read_row};
@@ -43,78 +43,97 @@ pub struct Head<'a, 's> {
     pub virtuals: &'s [Bare<'a>],
 }
 
-/// The head of row i.
-#[tactic(auto, using(crate::specs::ClassFaults::InterfaceList, crate::specs::ClassFaults::ClassOrder, crate::specs::ClassFaults::ClassData))]
-fn read_head<'a, 's>(
+/// What heads are read with: what a program keeps goes into the arena, the rest into the scratch arena.
+#[derive(Clone, Copy)]
+struct HeadReader<'a, 's, 'c> {
     alloc: Global,
     arena: &'a Bump,
     scratch: &'s Bump,
-    sections: &Sections<'_>,
-    tables: &Tables<'a>,
-    places: &Places,
-    cached: &mut IndexMap<u32, &'a [Desc<'a>]>,
-    i: u32,
-) -> Result<Head<'a, 's>, Fault>
-    requires names { AreNamesOf sections.now tables.now }
-    requires places { ArePlaces sections.now (size_of sections.now section.class_defs) places.now.first.items places.now.last.items }
-    requires cached { AreCached (λ off list. InterfacesAt sections.now off (map desc list.now)) cached.old }
-    requires row { i < size_of sections.now section.class_defs }
-    ensures ok { IfOk result (λ h. IsHead sections.now i h) }
-    ensures holds { IfOk result (λ _. ClassRowHolds sections.now i) }
-    ensures cached { OnOk result (AreCached (λ off list. InterfacesAt sections.now off (map desc list.now)) cached.new) }
-    ensures err { IfErr result (λ e. e ≢ memory → BreaksAt ClassRowBreaks sections.now section.class_defs i e) }
-{
-    sections.framed();
-    let place = class_place(sections, i);
-    let row = read_row(sections, tables, i)?;
-    let list = class_word(sections, i, word::INTERFACES_OFF);
-    let Some(interfaces) = interfaces_at(alloc, arena, sections, tables, cached, list)? else {
-        return Err(Fault::at(fault::INTERFACE_LIST, place));
-    };
-    if !is_in_order(sections, places, i) {
-        return Err(Fault::at(fault::CLASS_ORDER, place));
-    }
-    let data = class_word(sections, i, word::CLASS_DATA_OFF);
-    let Some(entries) = entries_at(alloc, sections, data)? else {
-        return Err(Fault::at(fault::CLASS_DATA, place));
-    };
-    let members = read_members(arena, scratch, sections, tables, i, row.ty, &entries)?;
-    Ok(Head {
-        ty: row.ty,
-        flags: row.flags,
-        superclass: row.superclass,
-        interfaces,
-        source: row.source,
-        statics: members.statics,
-        instances: members.instances,
-        directs: members.directs,
-        virtuals: members.virtuals,
-    })
+    sections: &'c Sections<'c>,
+    tables: &'c Tables<'a>,
+    places: &'c Places,
 }
 
-/// The heads of all rows, one after the other.
-fn push_heads<'a, 's>(
-    alloc: Global,
-    arena: &'a Bump,
-    scratch: &'s Bump,
-    sections: &Sections<'_>,
-    tables: &Tables<'a>,
-    places: &Places,
-    cached: &mut IndexMap<u32, &'a [Desc<'a>]>,
-    heads: &mut Vec<Head<'a, 's>, &'s Bump>,
-) -> Result<(), Fault>
-    requires names { AreNamesOf sections.now tables.now }
-    requires places { ArePlaces sections.now (size_of sections.now section.class_defs) places.now.first.items places.now.last.items }
-    requires cached { AreCached (λ off list. InterfacesAt sections.now off (map desc list.now)) cached.old }
-    requires none { heads.old.items ≡ [] }
-    ensures rows { OnOk result (AreFirst IsHead ClassRowHolds sections.now (size_of sections.now section.class_defs) heads.new.items) }
-    ensures err { IfErr result (λ e. e ≢ memory → IsFirstRow ClassRowBreaks ClassRowHolds sections.now section.class_defs e) }
-{
-    for i in 0..class_count(sections) {
-        let head = read_head(alloc, arena, scratch, sections, tables, places, cached, i)?;
-        heads.push(head)?;
+impl<'a, 's> HeadReader<'a, 's, '_> {
+    /// The head of row i.
+    #[tactic(auto, using(crate::specs::ClassFaults::InterfaceList, crate::specs::ClassFaults::ClassOrder, crate::specs::ClassFaults::ClassData))]
+    fn read_head(
+        &self,
+        cached: &mut IndexMap<u32, &'a [Desc<'a>]>,
+        i: u32,
+    ) -> Result<Head<'a, 's>, Fault>
+        requires names { AreNamesOf self.now.sections.now self.now.tables.now }
+        requires places { ArePlaces self.now.sections.now (size_of self.now.sections.now section.class_defs) self.now.places.now.first.items self.now.places.now.last.items }
+        requires cached { AreCached (λ off list. InterfacesAt self.now.sections.now off (map desc list.now)) cached.old }
+        requires row { i < size_of self.now.sections.now section.class_defs }
+        ensures ok { IfOk result (λ h. IsHead self.now.sections.now i h) }
+        ensures holds { IfOk result (λ _. ClassRowHolds self.now.sections.now i) }
+        ensures cached { OnOk result (AreCached (λ off list. InterfacesAt self.now.sections.now off (map desc list.now)) cached.new) }
+        ensures err { IfErr result (λ e. e ≢ memory → BreaksAt ClassRowBreaks self.now.sections.now section.class_defs i e) }
+    {
+        self.sections.framed();
+        let place = class_place(self.sections, i);
+        let row = read_row(self.sections, self.tables, i)?;
+        let list = class_word(self.sections, i, word::INTERFACES_OFF);
+        let Some(interfaces) = interfaces_at(
+            self.alloc,
+            self.arena,
+            self.sections,
+            self.tables,
+            cached,
+            list,
+        )?
+        else {
+            return Err(Fault::at(fault::INTERFACE_LIST, place));
+        };
+        if !is_in_order(self.sections, self.places, i) {
+            return Err(Fault::at(fault::CLASS_ORDER, place));
+        }
+        let data = class_word(self.sections, i, word::CLASS_DATA_OFF);
+        let Some(entries) = entries_at(self.alloc, self.sections, data)? else {
+            return Err(Fault::at(fault::CLASS_DATA, place));
+        };
+        let members = read_members(
+            self.arena,
+            self.scratch,
+            self.sections,
+            self.tables,
+            i,
+            row.ty,
+            &entries,
+        )?;
+        Ok(Head {
+            ty: row.ty,
+            flags: row.flags,
+            superclass: row.superclass,
+            interfaces,
+            source: row.source,
+            statics: members.statics,
+            instances: members.instances,
+            directs: members.directs,
+            virtuals: members.virtuals,
+        })
     }
-    Ok(())
+
+    /// The heads of all rows, one after the other.
+    fn push_heads(
+        &self,
+        cached: &mut IndexMap<u32, &'a [Desc<'a>]>,
+        heads: &mut Vec<Head<'a, 's>, &'s Bump>,
+    ) -> Result<(), Fault>
+        requires names { AreNamesOf self.now.sections.now self.now.tables.now }
+        requires places { ArePlaces self.now.sections.now (size_of self.now.sections.now section.class_defs) self.now.places.now.first.items self.now.places.now.last.items }
+        requires cached { AreCached (λ off list. InterfacesAt self.now.sections.now off (map desc list.now)) cached.old }
+        requires none { heads.old.items ≡ [] }
+        ensures rows { OnOk result (AreFirst IsHead ClassRowHolds self.now.sections.now (size_of self.now.sections.now section.class_defs) heads.new.items) }
+        ensures err { IfErr result (λ e. e ≢ memory → IsFirstRow ClassRowBreaks ClassRowHolds self.now.sections.now section.class_defs e) }
+    {
+        for i in 0..class_count(self.sections) {
+            let head = self.read_head(cached, i)?;
+            heads.push(head)?;
+        }
+        Ok(())
+    }
 }
 
 /// The heads of all rows.
@@ -131,20 +150,19 @@ pub fn read_heads<'a, 's>(
     ensures err { IfErr result (λ e. e ≢ memory → IsFirstRow ClassRowBreaks ClassRowHolds sections.now section.class_defs e) }
 {
     let places = read_places(alloc, sections)?;
-    let mut heads: Vec<Head<'a, 's>, &'s Bump> = Vec::with_capacity(
-        scratch,
-        class_count(sections) as usize,
-    )?;
-    let mut cached = IndexMap::new(alloc);
-    push_heads(
+    let reader = HeadReader {
         alloc,
         arena,
         scratch,
         sections,
         tables,
-        &places,
-        &mut cached,
-        &mut heads,
+        places: &places,
+    };
+    let mut heads: Vec<Head<'a, 's>, &'s Bump> = Vec::with_capacity(
+        scratch,
+        class_count(sections) as usize,
     )?;
+    let mut cached = IndexMap::new(alloc);
+    reader.push_heads(&mut cached, &mut heads)?;
     Ok(into_bump_slice(heads))
 }

@@ -6,15 +6,15 @@ ghost use Rattle.dex_base.specs.Fault.{memory};
 ghost use Rattle.program_types.specs.View.{desc};
 ghost use Rattle.tables_rows.specs.Names.{AreNamesOf};
 ghost use Rattle.file_classes.specs.Classes.{NoTypeTwice, InterfacesAt};
-ghost use Rattle.tables_rows.specs.Cached.{AreCached};
-ghost use Rattle.file_classes.specs.Reading.{IsNotAmong};
+ghost use Rattle.tables_rows.specs.inner.Cached.{AreCached};
+ghost use Rattle.file_classes.specs.inner.Reading.{IsNotAmong};
 
 use bumpalo::Bump;
 use dex_base::{Fault, is_class};
 use dex_container::Sections;
 use indexmap::{IndexMap, IndexSet};
 use program_types::{Desc, desc_eq};
-use std::alloc::Global;
+use std::alloc::{AllocError, Global};
 use tables_rows::Tables;
 
 /// How many types are compared pair by pair, without memory.
@@ -58,9 +58,8 @@ fn are_few_distinct(types: &[Desc<'_>]) -> bool
 }
 
 /// Whether none of many types stands twice, in time that grows with their number.
-fn are_many_distinct(alloc: Global, types: &[Desc<'_>]) -> Result<bool, Fault>
+fn are_many_distinct(alloc: Global, types: &[Desc<'_>]) -> Result<bool, AllocError>
     ensures ok { IfOk result (λ yes. IsTrue yes ↔ NoTypeTwice (map desc types.now)) }
-    ensures memory { IsOkUnless result memory }
 {
     let mut seen = IndexSet::new(alloc);
     for n in 0..types.len() {
@@ -72,9 +71,8 @@ fn are_many_distinct(alloc: Global, types: &[Desc<'_>]) -> Result<bool, Fault>
 }
 
 /// Whether no type stands twice.
-fn are_distinct(alloc: Global, types: &[Desc<'_>]) -> Result<bool, Fault>
+fn are_distinct(alloc: Global, types: &[Desc<'_>]) -> Result<bool, AllocError>
     ensures ok { IfOk result (λ yes. IsTrue yes ↔ NoTypeTwice (map desc types.now)) }
-    ensures memory { IsOkUnless result memory }
 {
     if types.len() <= FEW {
         return Ok(are_few_distinct(types));

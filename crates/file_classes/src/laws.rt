@@ -2,7 +2,8 @@
 
 ghost use Rattle.std.specs.Prelude.{◌≡◌, ℕ, List};
 ghost use Rattle.dex_base.specs.declared.fault.Fault.{Fault};
-ghost use Rattle.file_classes.specs.ClassFaults.{ClassRowBreaks, ClassRowHolds, ClassRowKeeps, ValuesBreak, ValuesHold, BodiesBreak, BodiesHold, RowRegistersBreak, RowRegistersHold};
+ghost use Rattle.file_classes.specs.ClassFaults.{ClassRowBreaks, ClassRowHolds, ValuesBreak, ValuesHold, BodiesBreak, BodiesHold, RowRegistersBreak, RowRegistersHold};
+ghost use Rattle.file_classes.specs.inner.ClassFaults.{ClassRowKeeps};
 ghost use Rattle.file_classes.specs.Classes.{SpellsClass};
 ghost use Rattle.dex_container.specs.Frame.{IsFramed};
 ghost use Rattle.program_types.specs.Content.{Class};

@@ -11,8 +11,8 @@ ghost use Rattle.file_classes.specs.ClassData.{steps, EntriesAre};
 ghost use Rattle.file_classes.specs.Classes.{IsField};
 ghost use Rattle.file_classes.specs.ClassFaults.{FieldOwner, MethodOwner};
 ghost use Rattle.file_classes.specs.ClassRows.{class_idx};
-ghost use Rattle.file_classes.specs.Reading as numbers;
-ghost use Rattle.file_classes.specs.Reading.{MembersStand, field_entry, method_entry, IsBare, IndexFails, EntriesFail, MembersFail};
+ghost use Rattle.file_classes.specs.inner.Reading as numbers;
+ghost use Rattle.file_classes.specs.inner.Reading.{MembersStand, field_entry, method_entry, IsBare, IndexFails, EntriesFail, MembersFail};
 
 use crate::class_data::{Entries, FieldEntry, MethodEntry};
 use crate::class_row::{class_place, class_word};
@@ -51,7 +51,7 @@ struct Owner<'n> {
 }
 
 /// The field at an index, which is of this class.
-#[tactic(auto, using(crate::specs::Reading::IndexIsOut))]
+#[tactic(auto, using(crate::specs::inner::Reading::IndexIsOut))]
 fn field_at<'a>(
     sections: &Sections<'_>,
     tables: &Tables<'a>,
@@ -80,7 +80,7 @@ fn field_at<'a>(
 }
 
 /// The method at an index, which is of this class.
-#[tactic(auto, using(crate::specs::Reading::IndexIsOut))]
+#[tactic(auto, using(crate::specs::inner::Reading::IndexIsOut))]
 fn method_at<'a>(
     sections: &Sections<'_>,
     tables: &Tables<'a>,

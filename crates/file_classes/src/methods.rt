@@ -9,8 +9,8 @@ ghost use Rattle.tables_rows.specs.Names.{AreNamesOf, AreRows};
 ghost use Rattle.tables_rows.specs.Sorted.{RowsHold};
 ghost use Rattle.file_classes.specs.Classes.{SpellsClass};
 ghost use Rattle.file_classes.specs.ClassFaults.{BodyAt, BodyHolds, BodyFails, CodeHolds, RegistersFail, BodiesHold, BodiesBreak, RowRegistersHold, RowRegistersBreak, IsFirstClass};
-ghost use Rattle.tables_rows.specs.Cached.{AreCached};
-ghost use Rattle.file_classes.specs.Reading.{IsHead, AreStatics, AreDone, FirstCodeBreaks, CodesUpTo, IsFound, SpellsBodies};
+ghost use Rattle.tables_rows.specs.inner.Cached.{AreCached};
+ghost use Rattle.file_classes.specs.inner.Reading.{IsHead, AreStatics, AreDone, FirstCodeBreaks, CodesUpTo, IsFound, SpellsBodies};
 
 use crate::class_row::class_count;
 use crate::heads::Head;
@@ -47,130 +47,126 @@ struct FoundClass<'a> {
     past: Option<Fault>,
 }
 
-/// The code at an offset, none at 0.
-fn read_code_at<'a>(
+/// What classes are read with: into the arena.
+#[derive(Clone, Copy)]
+struct Reader<'a, 's, 'f, 't> {
     alloc: Global,
     arena: &'a Bump,
-    sections: &Sections<'_>,
-    tables: &Tables<'a>,
-    off: u32,
-) -> Result<FoundCode<'a>, Fault>
-    requires names { AreNamesOf sections.now tables.now }
-    ensures ok { IfOk result (λ x. BodyAt sections.now off (option_map (λ c. view.code c.now) x.code)) }
-    ensures hold { IfOk result (λ x. IfNone x.past (CodeHolds sections.now off)) }
-    ensures past { IfOk result (λ x. IfSome x.past (RegistersFail sections.now off)) }
-    ensures err { IfErr result (λ e. e ≢ memory → BodyFails sections.now off e) }
-{
-    if off == 0 {
-        return Ok(FoundCode {
-            code: None,
-            past: None,
-        });
-    }
-    let body = read_body(alloc, arena, tables, sections, off)?;
-    let placed: &'a Code<'a> = arena.try_alloc(body.code)?;
-    Ok(FoundCode {
-        code: Some(placed),
-        past: body.past,
-    })
+    sections: &'s Sections<'f>,
+    tables: &'t Tables<'a>,
 }
 
-/// The code at an offset, none at 0: what is cached for the offset, or what is read now, and cached.
-fn code_at<'a>(
-    alloc: Global,
-    arena: &'a Bump,
-    sections: &Sections<'_>,
-    tables: &Tables<'a>,
-    cached: &mut IndexMap<u32, FoundCode<'a>>,
-    off: u32,
-) -> Result<FoundCode<'a>, Fault>
-    requires names { AreNamesOf sections.now tables.now }
-    requires cached { AreCached (IsFound sections.now) cached.old }
-    ensures ok { IfOk result (IsFound sections.now off) }
-    ensures cached { OnOk result (AreCached (IsFound sections.now) cached.new) }
-    ensures err { IfErr result (λ e. e ≢ memory → BodyFails sections.now off e) }
-{
-    if let Some(found) = cached.get(&off) {
-        return Ok(*found);
+impl<'a> Reader<'a, '_, '_, '_> {
+    /// The code at an offset, none at 0.
+    fn read_code_at(&self, off: u32) -> Result<FoundCode<'a>, Fault>
+        requires names { AreNamesOf self.now.sections.now self.now.tables.now }
+        ensures ok { IfOk result (λ x. BodyAt self.now.sections.now off (option_map (λ c. view.code c.now) x.code)) }
+        ensures hold { IfOk result (λ x. IfNone x.past (CodeHolds self.now.sections.now off)) }
+        ensures past { IfOk result (λ x. IfSome x.past (RegistersFail self.now.sections.now off)) }
+        ensures err { IfErr result (λ e. e ≢ memory → BodyFails self.now.sections.now off e) }
+    {
+        if off == 0 {
+            return Ok(FoundCode {
+                code: None,
+                past: None,
+            });
+        }
+        let body = read_body(self.alloc, self.arena, self.tables, self.sections, off)?;
+        let placed: &'a Code<'a> = self.arena.try_alloc(body.code)?;
+        Ok(FoundCode {
+            code: Some(placed),
+            past: body.past,
+        })
     }
-    let found = read_code_at(alloc, arena, sections, tables, off)?;
-    cached.insert(off, found)?;
-    Ok(found)
-}
 
-/// The methods of a list, each with its code.
-fn read_methods<'a>(
-    alloc: Global,
-    arena: &'a Bump,
-    sections: &Sections<'_>,
-    tables: &Tables<'a>,
-    cached: &mut IndexMap<u32, FoundCode<'a>>,
-    bares: &[Bare<'a>],
-) -> Result<Methods<'a>, Fault>
-    requires names { AreNamesOf sections.now tables.now }
-    requires cached { AreCached (IsFound sections.now) cached.old }
-    ensures ok { IfOk result (λ x. AreDone sections.now bares.now (length bares.now) (map view.method x.list.now)) }
-    ensures past { IfOk result (λ x. CodesUpTo CodeHolds RegistersFail sections.now bares.now (length bares.now) x.past) }
-    ensures cached { OnOk result (AreCached (IsFound sections.now) cached.new) }
-    ensures err { IfErr result (λ e. e ≢ memory → FirstCodeBreaks BodyHolds BodyFails sections.now bares.now e) }
-{
-    let mut methods: Vec<Method<'a>, &'a Bump> = Vec::with_capacity(arena, bares.len())?;
-    let mut past = None;
-    for bare in bares {
-        let found = code_at(alloc, arena, sections, tables, cached, bare.code)?;
-        past = past.or(found.past);
-        methods.push(Method {
-            name: bare.method.name,
-            proto: bare.method.proto,
-            flags: bare.flags,
-            code: found.code,
-        })?;
+    /// The code at an offset, none at 0: what is cached for the offset, or what is read now, and cached.
+    fn code_at(
+        &self,
+        cached: &mut IndexMap<u32, FoundCode<'a>>,
+        off: u32,
+    ) -> Result<FoundCode<'a>, Fault>
+        requires names { AreNamesOf self.now.sections.now self.now.tables.now }
+        requires cached { AreCached (IsFound self.now.sections.now) cached.old }
+        ensures ok { IfOk result (IsFound self.now.sections.now off) }
+        ensures cached { OnOk result (AreCached (IsFound self.now.sections.now) cached.new) }
+        ensures err { IfErr result (λ e. e ≢ memory → BodyFails self.now.sections.now off e) }
+    {
+        if let Some(found) = cached.get(&off) {
+            return Ok(*found);
+        }
+        let found = self.read_code_at(off)?;
+        cached.insert(off, found)?;
+        Ok(found)
     }
-    Ok(Methods {
-        list: into_bump_slice(methods),
-        past,
-    })
-}
 
-/// The class of row i.
-fn read_class<'a>(
-    alloc: Global,
-    arena: &'a Bump,
-    sections: &Sections<'_>,
-    tables: &Tables<'a>,
-    cached: &mut IndexMap<u32, FoundCode<'a>>,
-    i: u32,
-    head: Head<'a, '_>,
-    statics: Statics<'a>,
-) -> Result<FoundClass<'a>, Fault>
-    requires names { AreNamesOf sections.now tables.now }
-    requires cached { AreCached (IsFound sections.now) cached.old }
-    requires head { IsHead sections.now i head }
-    requires statics { AreStatics sections.now i statics }
-    ensures ok { IfOk result (λ x. SpellsBodies sections.now i (view.class x.class)) }
-    ensures hold { IfOk result (λ x. IfNone x.past (RowRegistersHold sections.now i)) }
-    ensures past { IfOk result (λ x. IfSome x.past (RowRegistersBreak sections.now i)) }
-    ensures cached { OnOk result (AreCached (IsFound sections.now) cached.new) }
-    ensures err { IfErr result (λ e. e ≢ memory → BodiesBreak sections.now i e) }
-{
-    sections.framed();
-    let directs = read_methods(alloc, arena, sections, tables, cached, head.directs)?;
-    let virtuals = read_methods(alloc, arena, sections, tables, cached, head.virtuals)?;
-    Ok(FoundClass {
-        class: Class {
-            ty: head.ty,
-            flags: head.flags,
-            superclass: head.superclass,
-            interfaces: head.interfaces,
-            source: head.source,
-            statics: head.statics,
-            values: statics.values,
-            instances: head.instances,
-            directs: directs.list,
-            virtuals: virtuals.list,
-        },
-        past: directs.past.or(virtuals.past),
-    })
+    /// The methods of a list, each with its code.
+    fn read_methods(
+        &self,
+        cached: &mut IndexMap<u32, FoundCode<'a>>,
+        bares: &[Bare<'a>],
+    ) -> Result<Methods<'a>, Fault>
+        requires names { AreNamesOf self.now.sections.now self.now.tables.now }
+        requires cached { AreCached (IsFound self.now.sections.now) cached.old }
+        ensures ok { IfOk result (λ x. AreDone self.now.sections.now bares.now (length bares.now) (map view.method x.list.now)) }
+        ensures past { IfOk result (λ x. CodesUpTo CodeHolds RegistersFail self.now.sections.now bares.now (length bares.now) x.past) }
+        ensures cached { OnOk result (AreCached (IsFound self.now.sections.now) cached.new) }
+        ensures err { IfErr result (λ e. e ≢ memory → FirstCodeBreaks BodyHolds BodyFails self.now.sections.now bares.now e) }
+    {
+        let mut methods: Vec<Method<'a>, &'a Bump> = Vec::with_capacity(self.arena, bares.len())?;
+        let mut past = None;
+        for bare in bares {
+            let found = self.code_at(cached, bare.code)?;
+            past = past.or(found.past);
+            methods.push(Method {
+                name: bare.method.name,
+                proto: bare.method.proto,
+                flags: bare.flags,
+                code: found.code,
+            })?;
+        }
+        Ok(Methods {
+            list: into_bump_slice(methods),
+            past,
+        })
+    }
+
+    /// The class of row i.
+    fn read_class(
+        &self,
+        cached: &mut IndexMap<u32, FoundCode<'a>>,
+        i: u32,
+        head: Head<'a, '_>,
+        statics: Statics<'a>,
+    ) -> Result<FoundClass<'a>, Fault>
+        requires names { AreNamesOf self.now.sections.now self.now.tables.now }
+        requires cached { AreCached (IsFound self.now.sections.now) cached.old }
+        requires head { IsHead self.now.sections.now i head }
+        requires statics { AreStatics self.now.sections.now i statics }
+        ensures ok { IfOk result (λ x. SpellsBodies self.now.sections.now i (view.class x.class)) }
+        ensures hold { IfOk result (λ x. IfNone x.past (RowRegistersHold self.now.sections.now i)) }
+        ensures past { IfOk result (λ x. IfSome x.past (RowRegistersBreak self.now.sections.now i)) }
+        ensures cached { OnOk result (AreCached (IsFound self.now.sections.now) cached.new) }
+        ensures err { IfErr result (λ e. e ≢ memory → BodiesBreak self.now.sections.now i e) }
+    {
+        self.sections.framed();
+        let directs = self.read_methods(cached, head.directs)?;
+        let virtuals = self.read_methods(cached, head.virtuals)?;
+        Ok(FoundClass {
+            class: Class {
+                ty: head.ty,
+                flags: head.flags,
+                superclass: head.superclass,
+                interfaces: head.interfaces,
+                source: head.source,
+                statics: head.statics,
+                values: statics.values,
+                instances: head.instances,
+                directs: directs.list,
+                virtuals: virtuals.list,
+            },
+            past: directs.past.or(virtuals.past),
+        })
+    }
 }
 
 /// The static values of row i.
@@ -201,13 +197,19 @@ pub fn read_classes<'a>(
 {
     sections.framed();
     let count = class_count(sections);
+    let reader = Reader {
+        alloc,
+        arena,
+        sections,
+        tables,
+    };
     let mut cached = IndexMap::new(alloc);
     let mut classes: Vec<Class<'a>, &'a Bump> = Vec::with_capacity(arena, count as usize)?;
     let mut past = None;
     for i in 0..count {
         let head = head_at(sections, heads, i);
         let values = statics_at(sections, statics, i);
-        let found = read_class(alloc, arena, sections, tables, &mut cached, i, head, values)?;
+        let found = reader.read_class(&mut cached, i, head, values)?;
         past = past.or(found.past);
         classes.push(found.class)?;
     }

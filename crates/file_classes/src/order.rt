@@ -2,9 +2,9 @@
 ghost use Rattle.std.specs.Prelude.{◌≡◌, ◌≢◌, ◌↔◌, ℕ, ◌*◌, ◌<◌, List, IsTrue, length, slice_index};
 ghost use Rattle.dex_container.specs.Layout.{size_of};
 ghost use Rattle.dex_container.specs.Section as section;
-ghost use Rattle.tables_rows.specs.Halves.{halves};
+ghost use Rattle.tables_rows.specs.inner.Halves.{halves};
 ghost use Rattle.file_classes.specs.ClassRows.{no_index, NoneDefines, InOrder, InterfaceIndexes, superclass_idx};
-ghost use Rattle.file_classes.specs.Places.{ArePlaces, TypesHaveRows};
+ghost use Rattle.file_classes.specs.inner.Places.{ArePlaces, TypesHaveRows};
 
 use crate::class_row::class_word;
 use crate::places::{Places, is_first, is_undefined};

@@ -2,7 +2,8 @@
 ghost use Rattle.std.specs.Prelude.{◌≡◌, ◌↔◌, ◌<◌, IsTrue};
 ghost use Rattle.dex_container.specs.Layout.{size_of};
 ghost use Rattle.program_types.specs.View.{desc};
-ghost use Rattle.tables_rows.specs.RowFields.{member_class, number_of};
+ghost use Rattle.tables_rows.specs.RowFields.{member_class};
+ghost use Rattle.tables_rows.specs.inner.RowFields.{number_of};
 ghost use Rattle.tables_rows.specs.Stands.{TypeStands};
 
 use dex_container::Sections;

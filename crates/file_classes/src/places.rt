@@ -4,7 +4,7 @@ ghost use Rattle.dex_base.specs.Fault.{memory};
 ghost use Rattle.dex_container.specs.Layout.{size_of};
 ghost use Rattle.dex_container.specs.Section as section;
 ghost use Rattle.file_classes.specs.ClassRows.{NoneDefines, class_idx};
-ghost use Rattle.file_classes.specs.Places.{ArePlaces};
+ghost use Rattle.file_classes.specs.inner.Places.{ArePlaces};
 
 use crate::class_row::{class_count, class_word};
 use crate::word;

@@ -15,11 +15,12 @@ use Rattle.dex_container.specs.Where.{slice}
 use Rattle.file_layout.specs.declared.map_list.Entry.{Entry}
 use Rattle.file_layout.specs.declared.plan.Plan.{Plan}
 use Rattle.file_layout.specs.declared.plan.Rows.{Rows}
-use Rattle.file_layout.specs.Tiles.{zeros, gap, IsNext, Agree}
-use Rattle.file_layout.specs.Spans.{Span, has_items, MapNames}
-use Rattle.file_layout.specs.Plan.{tables_end, header_words, spans_of, IsPlanned}
-use Rattle.file_layout.specs.Entries.{list_words, entry_of}
-use Rattle.file_layout.specs.Finished.{Finishes}
+use Rattle.file_layout.specs.Tiles.{zeros, gap, IsNext}
+use Rattle.file_layout.specs.inner.Tiles.{Agree}
+use Rattle.file_layout.specs.inner.Spans.{Span, has_items, MapNames}
+use Rattle.file_layout.specs.inner.Plan.{tables_end, header_words, spans_of, IsPlanned}
+use Rattle.file_layout.specs.inner.Entries.{list_words, entry_of}
+use Rattle.file_layout.specs.inner.Finished.{Finishes}
 use Rattle.file_layout.proofs.TileLaws.{length-zeros}
 use Rattle.file_layout.proofs.MapBytes.{map_is, three, list_words_are, length-three, few_words}
 use Rattle.file_layout.proofs.MapLaws.{all_at, all_kept}

@@ -5,10 +5,11 @@ use Rattle.dex_container.specs.Layout.{size_of, offset_of, map_place, map_end, e
 use Rattle.dex_container.specs.Frame.{HeaderHolds, SectionHolds, SectionsHold, MapIsPlaced, MapHolds, IsFramed, IsKind}
 use Rattle.file_layout.specs.declared.plan.Part.{Part}
 use Rattle.file_layout.specs.declared.plan.Plan.{Plan}
-use Rattle.file_layout.specs.Spans.{Span, has_items, no_span, MapNames}
-use Rattle.file_layout.specs.Parts.{SectionReaches, HasPart, IsWrittenKind}
-use Rattle.file_layout.specs.Header.{HasHeader}
-use Rattle.file_layout.specs.Plan.{type_ids_begin, proto_ids_begin, field_ids_begin, method_ids_begin, class_defs_begin, tables_end, table_offset, part_span, spans_of, Follows, IsPlanned, IsWritten}
+use Rattle.file_layout.specs.inner.Spans.{Span, has_items, no_span, MapNames}
+use Rattle.file_layout.specs.Parts.{IsWrittenKind}
+use Rattle.file_layout.specs.inner.Parts.{SectionReaches, HasPart}
+use Rattle.file_layout.specs.inner.Header.{HasHeader}
+use Rattle.file_layout.specs.inner.Plan.{type_ids_begin, proto_ids_begin, field_ids_begin, method_ids_begin, class_defs_begin, tables_end, table_offset, part_span, spans_of, Follows, IsPlanned, IsWritten}
 use Rattle.file_layout.proofs.Named.{Follow, follows, IsNamed, rank, ◌&◌}
 use Rattle.file_layout.proofs.MapLaws.{counted, map_holds, section, Has, all_kept, all_at}
 

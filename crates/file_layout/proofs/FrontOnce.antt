@@ -11,9 +11,9 @@ use Rattle.dex_container.specs.Frame.{HasMagic, HasVersion, HasChecksum, HasSign
 use Rattle.dex_container.specs.Layout.{map_place, entry_count, entry_place, kind_at, items_at, place_at}
 use Rattle.dex_container.specs.Where.{slice}
 use Rattle.file_layout.specs.declared.plan.Plan.{Plan}
-use Rattle.file_layout.specs.Plan.{spans_of, header_words, IsWritten}
-use Rattle.file_layout.specs.Spans.{Span, has_items, MapNames}
-use Rattle.file_layout.specs.Once.{part_of}
+use Rattle.file_layout.specs.inner.Plan.{spans_of, header_words, IsWritten}
+use Rattle.file_layout.specs.inner.Spans.{Span, has_items, MapNames}
+use Rattle.file_layout.specs.inner.Once.{part_of}
 use Rattle.dex_base.proofs.SameFields.{same_half, same_word}
 
 -- the same byte at a place

@@ -2,10 +2,10 @@
 use Rattle.std.proofs.Common.{◌≡◌, ℕ, ◌+◌, Bool, true, false, List, [], ◌∷◌, ◌++◌, length, refl, sym, ap, subst, ◌∙◌, arith, length-append, Some, inl, inr}
 use Rattle.std.specs.List.{AllZip, slice_get}
 use Rattle.std.proofs.lemmas.Option.{slice_get_within}
-use Rattle.file_layout.specs.Tiles.{AreShared, Refers}
+use Rattle.file_layout.specs.inner.Tiles.{AreShared, Refers}
 use Rattle.file_layout.proofs.TileLaws.{zip_there}
-use Rattle.file_layout.specs.OneMore.{Entry, HasItemAt}
-use Rattle.file_layout.specs.Sharing.{AreApart, AreHeld}
+use Rattle.file_layout.specs.inner.OneMore.{Entry, HasItemAt}
+use Rattle.file_layout.specs.inner.Sharing.{AreApart, AreHeld}
 use Rattle.dex_base.proofs.ListFacts.{slice_split, get_last, slice_left}
 
 -- ---- lists with one more at the end

@@ -7,10 +7,10 @@ use Rattle.std.specs.Map.{lookup}
 use Rattle.std.specs.Str.{bytes_eq}
 use Rattle.indexmap.specs.IndexMap.{insert_entry}
 use Rattle.file_layout.specs.Tiles.{zeros, gap}
-use Rattle.file_layout.specs.Sections.{Adds, IsItself}
+use Rattle.file_layout.specs.inner.Sections.{Adds, IsItself}
 use Rattle.file_layout.proofs.SectionLaws.{unpadded, gap_one, length-padded}
 use Rattle.file_layout.specs.declared.item.Item.{Item}
-use Rattle.file_layout.specs.OneMore.{Entry, kept_entry, HasItemAt, PutsOnce}
+use Rattle.file_layout.specs.inner.OneMore.{Entry, kept_entry, HasItemAt, PutsOnce}
 use Rattle.dex_base.proofs.ListFacts.{some_inj}
 
 abbrev Held : Type 0

@@ -5,8 +5,9 @@ use Rattle.std.specs.List.{fold, list_any, slice_get, AllByRecursion, AllZip}
 use Rattle.std.specs.Prelude.{MatchBool, ◌||◌}
 use Rattle.dex_base.specs.Fields.{AreBytes}
 use Rattle.dex_container.specs.Where.{slice}
-use Rattle.file_layout.specs.Once.{HasOneSpelling, HaveOneSpelling, part_of, AreSame}
-use Rattle.file_layout.specs.Tiles.{gap, Tiles, Done, Item, add_place, distinct_places, Among, AreShared, Refers, Lays}
+use Rattle.file_layout.specs.inner.Once.{HasOneSpelling, HaveOneSpelling, part_of, AreSame}
+use Rattle.file_layout.specs.Tiles.{gap, Tiles, Done, Item, add_place, distinct_places, Among}
+use Rattle.file_layout.specs.inner.Tiles.{AreShared, Refers, Lays}
 use Rattle.file_layout.proofs.TileLaws.{Tiles-le, Tiles-among, refers_some, zip_there, add_place-fresh, add_place-known}
 use Rattle.file_layout.proofs.PartLaws.{slice_are, length_slice, part_item, part_none}
 use Rattle.dex_base.proofs.ListFacts.{all_append}

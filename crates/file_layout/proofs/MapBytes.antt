@@ -9,8 +9,8 @@ use Rattle.file_layout.proofs.Halves.{u16_at-small, u16_at-high}
 use Rattle.dex_base.proofs.WordsBytes.{u32_at-words}
 use Rattle.dex_container.specs.Layout.{map_place, entry_count, kind_at, items_at, place_at}
 use Rattle.file_layout.specs.declared.map_list.Entry.{Entry}
-use Rattle.file_layout.specs.Entries.{entry_words, has_some, list_words, entry_of}
-use Rattle.file_layout.specs.Spans.{Span, has_items, no_span, MapNames}
+use Rattle.file_layout.specs.inner.Entries.{entry_words, has_some, list_words, entry_of}
+use Rattle.file_layout.specs.inner.Spans.{Span, has_items, no_span, MapNames}
 
 abbrev pub three : Span → List ℕ
 three s = s.kind ∷ s.items ∷ s.begin ∷ []

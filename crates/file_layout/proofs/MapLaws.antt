@@ -4,8 +4,8 @@ use Rattle.std.proofs.lemmas.Bool.{cases_lt}
 use Rattle.std.specs.List.{filter, AllByRecursion}
 use Rattle.dex_container.specs.Layout.{size_of, entry_count, items_at, kind_at, place_at, data_end}
 use Rattle.dex_container.specs.Frame.{IsKind, EntryHolds, MapIsPlaced, HasKind, MapHolds, end_at}
-use Rattle.file_layout.specs.Parts.{SectionReaches}
-use Rattle.file_layout.specs.Spans.{Span, has_items, no_span, MapNames}
+use Rattle.file_layout.specs.inner.Parts.{SectionReaches}
+use Rattle.file_layout.specs.inner.Spans.{Span, has_items, no_span, MapNames}
 use Rattle.file_layout.proofs.Named.{Follow, IsNamed}
 
 -- the same of the spans that have items

@@ -3,7 +3,7 @@ use Rattle.std.proofs.Common.{◌≡◌, ℕ, suc, ◌+◌, ◌*◌, ◌<◌, �
 use Rattle.std.specs.Prelude.{⊤, if◌then◌else◌, nat_lt, ◌==◌}
 use Rattle.dex_container.specs.Layout.{size_of, offset_of, row_bytes, map_place, map_end, data_begin, data_end}
 use Rattle.dex_container.specs.Frame.{IsKind}
-use Rattle.file_layout.specs.Spans.{Span}
+use Rattle.file_layout.specs.inner.Spans.{Span}
 
 -- The spans stand one after the other; those with items take bytes. `ranks` numbers the kinds as they come.
 abbrev pub Follow : (ℕ → ℕ) → ℕ → ℕ → List Span → Type 0

@@ -4,7 +4,7 @@ use Rattle.std.proofs.Math.Seq.{take-add}
 use Rattle.std.proofs.lemmas.List.{get_or-drop, length-drop, length-take-le, drop-drop}
 use Rattle.dex_base.specs.Fields.{AreBytes}
 use Rattle.dex_container.specs.Where.{slice}
-use Rattle.file_layout.specs.Once.{part_of}
+use Rattle.file_layout.specs.inner.Once.{part_of}
 use Rattle.dex_base.proofs.ListFacts.{take_bytes}
 
 -- a part of bytes is bytes

@@ -3,7 +3,7 @@ use Rattle.std.proofs.Common.{◌≡◌, ℕ, ◌+◌, ◌<◌, ◌≤◌, List,
 use Rattle.std.specs.List.{slice_get}
 use Rattle.std.specs.Prelude.{MatchBool}
 use Rattle.file_layout.specs.Tiles.{zeros, gap}
-use Rattle.file_layout.specs.Sections.{Adds, AddsSome, Laying, wide_bytes, IsItself, is_empty_list, count_with}
+use Rattle.file_layout.specs.inner.Sections.{Adds, AddsSome, Laying, wide_bytes, IsItself, is_empty_list, count_with}
 use Rattle.file_layout.proofs.TileLaws.{Lays-start, Lays-none, Lays-item, Lays-again, length-zeros}
 
 pub Laying-start : {V : Type 0} (none : V → Bool) (G : List ℕ → V → Type 0) (align : ℕ) (wide : V → ℕ) (old : List ℕ) (all : List V) → Laying none G align wide old old [] all all [] 0

@@ -2,12 +2,13 @@
 use Rattle.std.proofs.Common.{◌≡◌, ℕ, ◌+◌, ◌<◌, ◌≤◌, Bool, true, false, List, [], ◌∷◌, ◌++◌, length, refl, sym, ap, subst, ◌∙◌, arith, length-append, Some, inl, inr, slice_get, take, drop, get_or}
 use Rattle.std.proofs.lemmas.List.{take_more, drop_more, take_all, drop_all}
 use Rattle.std.specs.Prelude.{MatchBool}
-use Rattle.file_layout.specs.Tiles.{zeros, gap, AreShared, Refers}
-use Rattle.file_layout.specs.Sections.{Adds, Laying, Laid}
+use Rattle.file_layout.specs.Tiles.{zeros, gap}
+use Rattle.file_layout.specs.inner.Tiles.{AreShared, Refers}
+use Rattle.file_layout.specs.inner.Sections.{Adds, Laying, Laid}
 use Rattle.file_layout.proofs.SectionLaws.{Laying-start, Laying-none, Laying-item, Laying-again, length-padded}
 use Rattle.file_layout.proofs.HeldLaws.{held_start, held_none, held_again, held_first, held_shared}
-use Rattle.file_layout.specs.OneMore.{Entry, HasItemAt, IsAgain, IsAdded, PutsOnce}
-use Rattle.file_layout.specs.Sharing.{IsItemOfDone, AreApart, Sharing, UsesItem}
+use Rattle.file_layout.specs.inner.OneMore.{Entry, HasItemAt, IsAgain, IsAdded, PutsOnce}
+use Rattle.file_layout.specs.inner.Sharing.{IsItemOfDone, AreApart, Sharing, UsesItem}
 use Rattle.dex_base.proofs.ListFacts.{zip_length, slice_left, get_last, slice_split}
 
 -- ---- uses

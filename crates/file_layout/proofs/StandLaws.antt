@@ -2,10 +2,11 @@
 use Rattle.std.proofs.Common.{◌≡◌, ℕ, zero, suc, ◌+◌, ◌%◌, ◌<◌, ◌≤◌, Bool, false, eqb, List, [], ◌∷◌, length, get_or, refl, ap, ◌∙◌, subst, arith, Some}
 use Rattle.std.specs.List.{AllZip, slice_get}
 use Rattle.dex_container.specs.Where.{slice, At, AtOrNone}
-use Rattle.file_layout.specs.Tiles.{Among, Refers, gap, Lays}
+use Rattle.file_layout.specs.Tiles.{Among, gap}
+use Rattle.file_layout.specs.inner.Tiles.{Refers, Lays}
 use Rattle.file_layout.specs.declared.plan.Part.{Part}
-use Rattle.file_layout.specs.Sections.{IsItself, is_empty_list}
-use Rattle.file_layout.specs.Parts.{SectionReaches, HasPart}
+use Rattle.file_layout.specs.inner.Sections.{IsItself, is_empty_list}
+use Rattle.file_layout.specs.inner.Parts.{SectionReaches, HasPart}
 use Rattle.file_layout.proofs.TileLaws.{Tiles-among}
 use Rattle.dex_base.proofs.ListFacts.{zip_weaker}
 

@@ -6,7 +6,8 @@ use Rattle.std.proofs.lemmas.Bool.{eq-eqb}
 use Rattle.std.specs.List.{list_any, slice_get, AllZip}
 use Rattle.std.specs.Prelude.{MatchBool, ⊤, ◌||◌}
 use Rattle.dex_container.specs.Where.{slice}
-use Rattle.file_layout.specs.Tiles.{Agree, zeros, gap, IsNext, Tiles, Done, Item, add_place, distinct_places, Among, Refers, Lays}
+use Rattle.file_layout.specs.Tiles.{zeros, gap, IsNext, Tiles, Done, Item, add_place, distinct_places, Among}
+use Rattle.file_layout.specs.inner.Tiles.{Agree, Refers, Lays}
 use Rattle.dex_base.proofs.ListFacts.{zip_more}
 
 pub Tiles-le : {V : Type 0} {G : List ℕ → V → Type 0} {align : ℕ} {b : List ℕ} {at end : ℕ} {items : List (ℕ × V)} → Tiles G align b at end items → at ≤ end

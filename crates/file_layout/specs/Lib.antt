@@ -1,13 +1,4 @@
 pub mod Tiles
 pub mod Sections
-pub mod Spans
-pub mod Plan
-pub mod Header
 pub mod Parts
-pub mod Entries
-pub mod Finished
-pub mod Laws
-pub mod Once
-pub mod Hashing
-pub mod OneMore
-pub mod Sharing
+pub mod inner

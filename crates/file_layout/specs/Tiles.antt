@@ -1,7 +1,7 @@
 -- Items that stand one after the other, and the places by which they are referred to.
 -- Page: "Dalvik Executable format", "alignment" of each item.
-use Rattle.std.specs.Prelude.{◌≡◌, ℕ, ◌+◌, ◌-◌, ◌%◌, ◌<◌, ◌≤◌, ◌==◌, ◌||◌, Bool, if◌then◌else◌, List, [], ◌∷◌, ◌++◌, length, map, replicate, slice_get, Some, ◌⊎◌, MatchBool}
-use Rattle.std.specs.List.{fold, list_any, AllZip}
+use Rattle.std.specs.Prelude.{◌≡◌, ℕ, ◌+◌, ◌-◌, ◌%◌, ◌<◌, ◌==◌, ◌||◌, if◌then◌else◌, List, [], ◌∷◌, ◌++◌, replicate, ◌⊎◌}
+use Rattle.std.specs.List.{fold, list_any}
 use Rattle.dex_container.specs.Where.{slice}
 
 -- so many zeros
@@ -37,27 +37,3 @@ distinct_places places = fold add_place [] places
 abbrev pub Among : {V : Type 0} → List (ℕ × V) → ℕ → V → Type 0
 Among [] place v = ⊥
 Among (x ∷ xs) place v = ((x.0 ≡ place) × (x.1 ≡ v)) ⊎ Among xs place v
-
--- A place refers to v: it is that of an item of v, and 0 where v is one that takes no item.
-abbrev pub Refers : {V : Type 0} → (V → Bool) → List (ℕ × V) → ℕ → V → Type 0
-Refers none items place v = MatchBool (none v) (place ≡ 0) ((0 < place) × Among items place v)
-
--- From `begin` to `end` stand items and nothing else, so many, and the places refer to the values: each item is
--- referred to, and the items stand in the order in which they are first referred to.
-pub record Lays {V : Type 0} (none : V → Bool) (G : List ℕ → V → Type 0) (align begin end : ℕ)
-    (b : List ℕ) (vs : List V) (places : List ℕ) (count : ℕ) : Type 0 where
-  pub items : List (ℕ × V)
-  pub tiled : Tiles G align b begin end items
-  pub each : AllZip (Refers none items) places vs
-  pub order : map (λ (x : ℕ × V). x.0) items ≡ distinct_places places
-  pub counted : count ≡ length items
-
--- Equal values are referred to by one place.
-abbrev pub AreShared : {V : Type 0} → List ℕ → List V → Type 0
-AreShared {V} places vs =
-    (i j : ℕ) (v : V) (p q : ℕ) → slice_get vs i ≡ Some v → slice_get vs j ≡ Some v
-    → slice_get places i ≡ Some p → slice_get places j ≡ Some q → p ≡ q
-
--- Two files have the same bytes from `from` to `to`.
-pub record Agree (b c : List ℕ) (from to : ℕ) : Type 0 where
-  pub each : (place size : ℕ) → from ≤ place → place + size ≤ to → slice b place size ≡ slice c place size

@@ -4,8 +4,8 @@ ghost use Rattle.std.specs.Prelude.{◌≡◌, ℕ, ◌+◌, ◌*◌, ◌++◌, 
 ghost use Rattle.dex_base.specs.Fault.{memory};
 ghost use Rattle.dex_base.specs.Words.{words_bytes};
 ghost use Rattle.dex_container.specs.Frame.{IsFramed};
-ghost use Rattle.file_layout.specs.Plan.{tables_end, header_words, IsPlanned, table_offset};
-ghost use Rattle.file_layout.specs.Finished.{Finishes, IsFronted};
+ghost use Rattle.file_layout.specs.inner.Plan.{tables_end, header_words, IsPlanned, table_offset};
+ghost use Rattle.file_layout.specs.inner.Finished.{Finishes, IsFronted};
 
 use crate::map_list::{entries_of, map_after};
 use crate::padding::gap_after;

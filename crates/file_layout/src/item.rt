@@ -1,7 +1,7 @@
 //! The bytes of an item, as a key: hashed eight at a time.
 ghost use Rattle.std.specs.Prelude.{◌≡◌, ◌+◌, ◌/◌, ◌≤◌, length};
 ghost use Rattle.std.specs.List.{fold};
-ghost use Rattle.file_layout.specs.Hashing.{long_at, longs, item_input};
+ghost use Rattle.file_layout.specs.inner.Hashing.{long_at, longs, item_input};
 
 use byteorder::{ByteOrder, LittleEndian};
 use std::hash::{Hash, Hasher};
@@ -30,7 +30,7 @@ fn hash_longs<H: Hasher>(bytes: &[u8], state: &mut H)
 }
 
 impl Hash for Item {
-    ghost use Rattle.file_layout.specs.Hashing.{item_respects};
+    ghost use Rattle.file_layout.specs.inner.Hashing.{item_respects};
 
     ghost hash_input = { item_input };
 

@@ -2,7 +2,7 @@
 //! Page: "Dalvik Executable format", "File layout".
 ghost use Rattle.std.specs.Prelude.{◌≡◌, ◌+◌, ◌<◌, ◌^◌, [], ◌++◌, IfOk, OnOk, IsOkUnless, length};
 ghost use Rattle.dex_base.specs.Fault.{memory};
-ghost use Rattle.file_layout.specs.OneMore.{PutsOnce};
+ghost use Rattle.file_layout.specs.inner.OneMore.{PutsOnce};
 
 use crate::item::Item;
 use crate::padding::pad;
@@ -26,7 +26,7 @@ impl Drop for Items {
 
 impl Model for Items {
     ghost use Rattle.std.specs.Prelude.{List};
-    ghost use Rattle.file_layout.specs.OneMore.{Entry, kept_entry};
+    ghost use Rattle.file_layout.specs.inner.OneMore.{Entry, kept_entry};
     ghost use Rattle.std.specs.Prelude.{map};
 
     ghost Value = { List Entry };

@@ -4,12 +4,13 @@ ghost use Rattle.std.specs.Prelude.{ℕ, ◌<◌, List};
 ghost use Rattle.dex_container.specs.Frame.{IsFramed};
 ghost use Rattle.dex_container.specs.Layout.{entry_count, kind_at};
 ghost use Rattle.file_layout.specs.declared.plan.Plan.{Plan};
-ghost use Rattle.file_layout.specs.Header.{HasHeader};
-ghost use Rattle.file_layout.specs.Laws.{LaidItemsStay, LaidItemsStand, OneMoreItemIsLaid};
-ghost use Rattle.file_layout.specs.Once.{LayingsAreOne, WrittenIsOne};
-ghost use Rattle.file_layout.specs.Parts.{HasPart, IsWrittenKind};
-ghost use Rattle.file_layout.specs.Plan.{IsWritten};
-ghost use Rattle.file_layout.specs.Sections.{IsItself, is_empty_list};
+ghost use Rattle.file_layout.specs.inner.Header.{HasHeader};
+ghost use Rattle.file_layout.specs.inner.Laws.{LaidItemsStay, LaidItemsStand, OneMoreItemIsLaid};
+ghost use Rattle.file_layout.specs.inner.Once.{LayingsAreOne, WrittenIsOne};
+ghost use Rattle.file_layout.specs.Parts.{IsWrittenKind};
+ghost use Rattle.file_layout.specs.inner.Parts.{HasPart};
+ghost use Rattle.file_layout.specs.inner.Plan.{IsWritten};
+ghost use Rattle.file_layout.specs.inner.Sections.{IsItself, is_empty_list};
 
 /// What is written by a plan is framed, the header has the plan's fields, each part stands in the section of its kind, and the map
 /// lists no other kinds than those that a written file has.

@@ -4,8 +4,8 @@ ghost use Rattle.std.specs.Prelude.{◌≡◌, ℕ, ◌++◌, ◌≤◌, ◌<◌
 ghost use Rattle.std.specs.List.{filter};
 ghost use Rattle.dex_base.specs.Fault.{memory};
 ghost use Rattle.dex_base.specs.Words.{words_bytes};
-ghost use Rattle.file_layout.specs.Entries.{entry_words, has_some, list_words, entry_of};
-ghost use Rattle.file_layout.specs.Plan.{tables_end, spans_of};
+ghost use Rattle.file_layout.specs.inner.Entries.{entry_words, has_some, list_words, entry_of};
+ghost use Rattle.file_layout.specs.inner.Plan.{tables_end, spans_of};
 ghost use Rattle.file_layout.specs.Tiles.{zeros, gap};
 
 use crate::padding::pad_after;

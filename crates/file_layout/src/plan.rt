@@ -1,7 +1,7 @@
 //! What a file holds: how many rows each table has, and where the parts of the data section stand.
 //! Page: "Dalvik Executable format", "File layout".
 ghost use Rattle.std.specs.Prelude.{◌≡◌, ◌<◌, ◌^◌};
-ghost use Rattle.file_layout.specs.Plan.{type_ids_begin, proto_ids_begin, field_ids_begin, method_ids_begin, class_defs_begin, tables_end};
+ghost use Rattle.file_layout.specs.inner.Plan.{type_ids_begin, proto_ids_begin, field_ids_begin, method_ids_begin, class_defs_begin, tables_end};
 
 /// How many bytes the header takes, after which the tables begin.
 pub(crate) const HEADER_SIZE: u32 = 112;

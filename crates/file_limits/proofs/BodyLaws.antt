@@ -9,7 +9,7 @@ use Rattle.code_put.specs.Fits.{CodeBreaksLimit, FitsCode, IsUnfit}
 use Rattle.code_put.proofs.BreakLaws.{fits_clear}
 use Rattle.program_types.specs.Content.{Name, Code, Class, Program}
 use Rattle.file_limits.specs.Limits.{SomeBreaks, ClassBreaksLimit, IsFirstToBreak, codes_of}
-use Rattle.file_limits.specs.Lowest.{IsLowestBroken, IsLowestOf, lower, earlier}
+use Rattle.file_limits.specs.inner.Lowest.{IsLowestBroken, IsLowestOf, lower, earlier}
 use Rattle.dex_base.proofs.ListFacts.{get_last, slice_split, all_append, slice_left}
 
 -- ---- one body

@@ -10,7 +10,7 @@ use Rattle.tables_names.specs.Closure.{NameRanks}
 use Rattle.tables_names.specs.Needed.{needed}
 use Rattle.program_types.specs.Content.{Name, Code, Program}
 use Rattle.file_limits.specs.Limits.{BodyBreaks, ClassBreaksLimit, Fits, HandlerTooFar, IsFirstToBreak, IsLowestLimit, LimitBreaks, TooBig, TooManyProtos, TooManyTypes, codes_of}
-use Rattle.file_limits.specs.Lowest.{IsLowestOf, or_too_big}
+use Rattle.file_limits.specs.inner.Lowest.{IsLowestOf, or_too_big}
 use Rattle.file_limits.specs.Wide.{wide}
 use Rattle.dex_base.proofs.ListFacts.{all_there, some_inj}
 

@@ -8,7 +8,8 @@ use Rattle.program_types.specs.Content.{Class, Program}
 use Rattle.program_types.specs.Key.{Key}
 use Rattle.dex_value.specs.Wide.{wide_array}
 use Rattle.file_limits.proofs.SumLaws.{wide_all_append}
-use Rattle.file_limits.specs.Wide.{wide_of, wide_parts, wide_string, wide_text, wide_proto, wide_list, wide_class, wide_data, wide_body, params_of, bodies_of}
+use Rattle.file_limits.specs.Wide.{wide_of, wide_string, wide_proto, wide_list, wide_class, wide_data, wide_body, params_of, bodies_of}
+use Rattle.file_limits.specs.inner.Wide.{wide_parts, wide_text}
 
 pub map_map : {A B C : Type 0} (f : B → C) (g : A → B) (xs : List A) → map f (map g xs) ≡ map (λ x. f (g x)) xs
 map_map f g [] = refl

@@ -16,7 +16,7 @@ use Rattle.program_types.specs.declared.class.Class.{Class}
 use Rattle.program_types.specs.declared.class.Method.{Method}
 use Rattle.program_types.specs.Kinds.{HasIndex}
 use Rattle.file_limits.specs.Limits.{codes_in}
-use Rattle.file_limits.specs.Lowest.{IsLowestBroken, IsLowestOf, lower, earlier}
+use Rattle.file_limits.specs.inner.Lowest.{IsLowestBroken, IsLowestOf, lower, earlier}
 use Rattle.file_limits.proofs.BodyLaws.{both_least, class_more}
 use Rattle.dex_base.proofs.ListFacts.{all_back, all_front, all_append, map_more}
 

@@ -12,7 +12,7 @@ use Rattle.program_types.specs.declared.insn.Insn as held
 use Rattle.program_types.specs.declared.names.Desc.{Desc}
 use Rattle.program_types.specs.declared.value.Value as made
 use Rattle.dex_value.specs.Wide.{wide_value, wide_values}
-use Rattle.file_limits.specs.Sum.{IsSum}
+use Rattle.file_limits.specs.inner.Sum.{IsSum}
 use Rattle.file_limits.specs.Wide.{wide_list}
 use Rattle.dex_base.proofs.ListFacts.{map_more}
 

@@ -1,5 +1,3 @@
 pub mod Wide
-pub mod Sum
 pub mod Limits
-pub mod Lowest
-pub mod Laws
+pub mod inner

@@ -5,12 +5,9 @@ use Rattle.std.specs.List.{AllByRecursion, flat_map, slice_get}
 use Rattle.std.specs.Option.{option_to_list}
 use Rattle.dex_base.specs.declared.fault.Fault.{Fault}
 use Rattle.code_put.specs.Fits.{CodeBreaksLimit, FitsCode}
-use Rattle.tables_names.specs.Closure.{Five, NameRanks}
+use Rattle.tables_names.specs.Closure.{NameRanks}
 use Rattle.tables_names.specs.Needed.{needed}
 use Rattle.program_types.specs.Content.{Name, Code, Method, Class, Program}
-use Rattle.program_types.specs.Formed.{IsFormed}
-use Rattle.program_types.specs.Mentions.{names_of_code}
-use Rattle.program_types.specs.Kinds.{HasIndex}
 use Rattle.file_limits.specs.Wide.{wide}
 
 -- ---- bodies
@@ -26,11 +23,6 @@ codes_in ms = flat_map method_code ms
 -- The bodies of a class: direct methods, then virtual ones.
 abbrev pub codes_of : Class → List Code
 codes_of c = codes_in c.directs ++ codes_in c.virtuals
-
--- A body is well formed, and the names in it have indices.
-pub record BodyIsReady (s : Five) (c : Code) : Type 0 where
-  pub formed : IsFormed c
-  pub ranked : AllByRecursion (HasIndex (NameRanks s)) (names_of_code c)
 
 -- One of the bodies breaks the limit of this number.
 pub record SomeBreaks (N : ℕ → Name → Type 0) (number : ℕ) (cs : List Code) : Type 0 where

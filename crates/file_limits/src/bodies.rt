@@ -4,8 +4,9 @@ ghost use Rattle.std.specs.Prelude.{◌≡◌, ℕ, ◌≤◌, ◌∷◌, [], So
 ghost use Rattle.std.specs.List.{AllByRecursion};
 ghost use Rattle.std.specs.Option.{option_to_list};
 ghost use Rattle.dex_base.specs.Fault.{memory};
-ghost use Rattle.file_limits.specs.Limits.{BodyIsReady, codes_in, codes_of};
-ghost use Rattle.file_limits.specs.Lowest.{IsLowestBroken, IsLowestOf, earlier, lower};
+ghost use Rattle.file_limits.specs.Limits.{codes_in, codes_of};
+ghost use Rattle.file_limits.specs.inner.Limits.{BodyIsReady};
+ghost use Rattle.file_limits.specs.inner.Lowest.{IsLowestBroken, IsLowestOf, earlier, lower};
 ghost use Rattle.tables_names.specs.Closure.{NameRanks};
 ghost use Rattle.program_types.specs.View as view;
 

@@ -5,7 +5,7 @@ ghost use Rattle.code_put.specs.Fits.{catches_in, wide_code};
 ghost use Rattle.file_layout.specs.Sections.{wide_all};
 ghost use Rattle.program_types.specs.Sizes.{length_of};
 ghost use Rattle.program_types.specs.View as view;
-ghost use Rattle.file_limits.specs.Sum.{IsSum};
+ghost use Rattle.file_limits.specs.inner.Sum.{IsSum};
 ghost use Rattle.file_limits.specs.Wide.{bodies_in, wide_body};
 
 use crate::sums::{plus, times};

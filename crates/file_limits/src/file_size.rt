@@ -3,7 +3,7 @@
 ghost use Rattle.std.specs.Prelude.{◌<◌, ◌↔◌, map, IsTrue};
 ghost use Rattle.file_layout.specs.Sections.{wide_all};
 ghost use Rattle.program_types.specs.View as view;
-ghost use Rattle.file_limits.specs.Sum.{IsSum};
+ghost use Rattle.file_limits.specs.inner.Sum.{IsSum};
 ghost use Rattle.file_limits.specs.Wide.{wide_class, wide_data, wide_names, wide_of};
 
 use crate::code_sizes::bodies_size;

@@ -2,7 +2,7 @@
 ghost use Rattle.std.specs.Prelude.{◌≡◌};
 ghost use Rattle.dex_base.specs.declared.fault.Fault.{Fault};
 ghost use Rattle.program_types.specs.Content.{Program};
-ghost use Rattle.file_limits.specs.Laws.{LimitsAreDecided, WideIsByParts};
+ghost use Rattle.file_limits.specs.inner.Laws.{LimitsAreDecided, WideIsByParts};
 ghost use Rattle.file_limits.specs.Limits.{IsLowestLimit};
 
 /// The sum over names and classes is the sum over the parts of a file: rows, type lists, code items, texts, arrays, class data, map.

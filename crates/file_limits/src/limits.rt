@@ -3,8 +3,9 @@
 ghost use Rattle.std.specs.Prelude.{◌≡◌, ◌≢◌, ℕ, Some, IfErr, OnOk, slice_get};
 ghost use Rattle.std.specs.List.{AllByRecursion};
 ghost use Rattle.dex_base.specs.Fault.{memory};
-ghost use Rattle.file_limits.specs.Limits.{Fits, IsLowestLimit, BodyIsReady, codes_of};
-ghost use Rattle.file_limits.specs.Lowest.{or_too_big};
+ghost use Rattle.file_limits.specs.Limits.{Fits, IsLowestLimit, codes_of};
+ghost use Rattle.file_limits.specs.inner.Limits.{BodyIsReady};
+ghost use Rattle.file_limits.specs.inner.Lowest.{or_too_big};
 ghost use Rattle.tables_names.specs.Needed.{needed};
 ghost use Rattle.program_types.specs.View as view;
 

@@ -1,6 +1,6 @@
 //! Sums that stop at the greatest number of 64 bits, and so are exact as long as they are within the limit of a file.
 ghost use Rattle.std.specs.Prelude.{ℕ, ◌+◌, ◌*◌};
-ghost use Rattle.file_limits.specs.Sum.{IsSum};
+ghost use Rattle.file_limits.specs.inner.Sum.{IsSum};
 
 /// A sum and one more summand.
 pub fn plus(sum: u64, more: u64) -> u64

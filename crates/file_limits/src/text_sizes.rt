@@ -5,7 +5,7 @@ ghost use Rattle.dex_base.specs.Mutf8.{mutf8_length};
 ghost use Rattle.file_layout.specs.Sections.{wide_all};
 ghost use Rattle.tables_names.specs.Keys.{key_of_str, key_of_proto};
 ghost use Rattle.program_types.specs.View as view;
-ghost use Rattle.file_limits.specs.Sum.{IsSum};
+ghost use Rattle.file_limits.specs.inner.Sum.{IsSum};
 ghost use Rattle.file_limits.specs.Wide.{wide_list, wide_proto, wide_string};
 
 use crate::sums::{plus, times};

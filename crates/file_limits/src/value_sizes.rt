@@ -4,7 +4,7 @@ ghost use Rattle.std.specs.Prelude.{map};
 ghost use Rattle.program_types.specs.Content as content;
 ghost use Rattle.program_types.specs.View as view;
 ghost use Rattle.dex_value.specs.Wide.{wide_value, wide_values};
-ghost use Rattle.file_limits.specs.Sum.{IsSum};
+ghost use Rattle.file_limits.specs.inner.Sum.{IsSum};
 
 use crate::sums::plus;
 use program_types::Value;

@@ -1,7 +1,7 @@
 -- The names of a class, part by part.
 use Rattle.std.proofs.Common.{◌≡◌, List, [], ◌∷◌, ◌++◌, Option, None, Some, map, refl, sym, ap, ◌∙◌, subst}
 use Rattle.std.specs.List.{AllByRecursion, flat_map}
-use Rattle.file_needed.specs.Bodies.{caught_in_body, named_in_body, named_in_class, named_in_code, other_names, own_names}
+use Rattle.file_needed.specs.inner.Bodies.{caught_in_body, named_in_body, named_in_class, named_in_code, other_names, own_names}
 use Rattle.tables_names.specs.Closure.{Five, AreRising, IsClosed, method_of_class, with_names}
 use Rattle.tables_names.proofs.NeededLemmas.{names_append, same_names}
 use Rattle.program_types.specs.Content as content

@@ -3,7 +3,7 @@
 ghost use Rattle.std.specs.Prelude.{◌≡◌, ◌∷◌, ◌++◌, List, [], map, option_map, IfOk, OnOk, IsOkUnless};
 ghost use Rattle.std.specs.List.{AllByRecursion, flat_map};
 ghost use Rattle.dex_base.specs.Fault.{memory};
-ghost use Rattle.file_needed.specs.Bodies.{caught_in_body, defined_in, named_in_body, named_in_class, named_in_code, other_names, own_names};
+ghost use Rattle.file_needed.specs.inner.Bodies.{caught_in_body, defined_in, named_in_body, named_in_class, named_in_code, other_names, own_names};
 ghost use Rattle.tables_names.specs.Closure.{HasShorty, with_names};
 ghost use Rattle.tables_names.specs.Needed.{needed};
 ghost use Rattle.tables_names.specs.Noted.{AddsNoted, AreNoted, AreRanks};

@@ -20,7 +20,7 @@ use Rattle.code_read.specs.Code.{BodyStands}
 use Rattle.code_read.specs.Faults.{CodeBreaks}
 use Rattle.code_read.proofs.CarryLaws.{body_weaker}
 use Rattle.code_read.proofs.StandLaws.{body_code}
-use Rattle.file_read.specs.Broken.{Broken}
+use Rattle.file_read.specs.inner.Broken.{Broken}
 use Rattle.file_classes.specs.ClassRows.{class_word}
 use Rattle.file_classes.specs.ClassData.{MethodEntry, Entries, EntriesAt}
 use Rattle.file_classes.specs.ClassFaults.{ClassRowHolds, ValuesHold, ValuesBreak, at_row, SomeBodyStands, BodyHolds, BodyFails, CodeHolds, RegistersFail, EachCodeHolds, SomeCodeFails, ClassCodesHold, MethodsBreak, BodiesHold, BodiesBreak, RowRegistersHold, RowRegistersBreak, IsFirstClass}
@@ -31,7 +31,7 @@ use Rattle.file_classes.proofs.EntryLaws.{entry_at, at_some}
 use Rattle.file_read.proofs.PassLaws.{program_meant, table_refused}
 use Rattle.file_read.proofs.FirstLaws.{means_clear, refused_broken}
 use Rattle.code_read.proofs.CodesDecided.{body-decided, registers-decided}
-use Rattle.file_read.specs.FileDeciding.{MeansOrRefused}
+use Rattle.file_read.specs.inner.FileDeciding.{MeansOrRefused}
 use Rattle.file_read.proofs.ClassesDecided.{classes_are_decided}
 use Rattle.file_classes.proofs.StaticsLaws.{at_other, at_none}
 

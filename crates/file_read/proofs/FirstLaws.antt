@@ -9,8 +9,9 @@ use Rattle.tables_rows.proofs.ClearRows.{string_clear, type_clear, proto_clear, 
 use Rattle.file_classes.specs.ClassFaults.{ClassRowsHold, ValuesHold, BodiesHold, RowRegistersHold}
 use Rattle.file_classes.proofs.RowFaults.{class_clear}
 use Rattle.file_classes.proofs.ClearLaws.{values_clear, bodies_clear, methods_clear}
-use Rattle.file_read.specs.Broken.{Broken, GroupBreaks}
-use Rattle.file_read.specs.Groups.{Group, Frame, Strings, Types, Protos, Fields, Methods, Classes, Values, Codes, Registers, IsAskedBefore}
+use Rattle.file_read.specs.inner.Broken.{Broken, GroupBreaks}
+use Rattle.file_read.specs.Groups.{Group, Frame, Strings, Types, Protos, Fields, Methods, Classes, Values, Codes, Registers}
+use Rattle.file_read.specs.inner.Groups.{IsAskedBefore}
 use Rattle.file_read.specs.Means.{Means}
 use Rattle.file_read.specs.Refused.{IsGroupFault, IsRefused}
 use Rattle.file_read.proofs.PassLaws.{means_classes, means_values, means_bodies, means_methods}

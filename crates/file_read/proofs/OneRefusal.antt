@@ -9,7 +9,8 @@ use Rattle.file_classes.specs.ClassFaults.{ClassRowBreaks, ClassRowHolds, Values
 use Rattle.file_classes.proofs.RowFaults.{class_clear, class_number}
 use Rattle.file_classes.proofs.ClearLaws.{values_clear, bodies_clear, methods_clear}
 use Rattle.file_classes.proofs.OneFault.{first_class_one, values_one_fault, bodies_one_fault, registers_of_row_one_fault}
-use Rattle.file_read.specs.Groups.{Group, Frame, Strings, Types, Protos, Fields, Methods, Classes, Values, Codes, Registers, turn}
+use Rattle.file_read.specs.Groups.{Group, Frame, Strings, Types, Protos, Fields, Methods, Classes, Values, Codes, Registers}
+use Rattle.file_read.specs.inner.Groups.{turn}
 use Rattle.file_read.specs.Means.{Means}
 use Rattle.file_read.specs.Refused.{IsGroupFault, IsRefused}
 use Rattle.file_read.proofs.FirstLaws.{stands, first, refused_broken, means_clear}

@@ -22,7 +22,7 @@ use Rattle.tables_rows.proofs.TypeLists.{indexes_of}
 use Rattle.tables_rows.specs.Stands.{HasRow}
 use Rattle.dex_value.specs.Spelling.{SpellsValue, SpellsValues, unsigned_of, signed_of, high_of}
 use Rattle.dex_value.specs.Standing.{ArrayStands}
-use Rattle.dex_value.specs.Writing.{magnitude_of}
+use Rattle.dex_value.specs.inner.Writing.{magnitude_of}
 use Rattle.dex_value.proofs.Ranges.{power_most, unsigned_below, high_below}
 use Rattle.dex_value.proofs.Narrow.{twos_size}
 use Rattle.file_classes.specs.ClassRows.{class_word}

@@ -25,7 +25,7 @@ use Rattle.program_types.specs.Formed.{IsFormed, RegistersHold}
 use Rattle.dex_base.specs.Fields.{AreBytes}
 use Rattle.tables_rows.proofs.TypeLists.{indexes_of}
 use Rattle.tables_rows.specs.Stands.{HasRow}
-use Rattle.tables_laws.specs.FileNames.{IsMentionedIn}
+use Rattle.tables_laws.specs.inner.FileNames.{IsMentionedIn}
 use Rattle.tables_laws.proofs.FileLemmas.{fields_compare, methods_compare, name_row_one}
 use Rattle.dex_value.specs.Standing.{ArrayStands}
 use Rattle.dex_value.proofs.FileFaults.{names_have_rows}

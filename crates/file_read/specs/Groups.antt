@@ -1,6 +1,5 @@
 -- The groups of the faults of a file, in the order in which they are asked.
 -- Page: docs/FORMAT.md, "Faults of a file".
-use Rattle.std.specs.Prelude.{ℕ, ◌<◌}
 
 -- Header, map and checksums; string_ids to method_ids; the class rows, the static values, the code and its registers.
 pub data Group : Type 0 where
@@ -14,20 +13,3 @@ pub data Group : Type 0 where
   Values : Group
   Codes : Group
   Registers : Group
-
--- how many groups are asked before it
-abbrev pub turn : Group → ℕ
-turn Frame = 0
-turn Strings = 1
-turn Types = 2
-turn Protos = 3
-turn Fields = 4
-turn Methods = 5
-turn Classes = 6
-turn Values = 7
-turn Codes = 8
-turn Registers = 9
-
--- The one group is asked before the other.
-abbrev pub IsAskedBefore : Group → Group → Type 0
-IsAskedBefore h g = turn h < turn g

@@ -1,5 +1,4 @@
-pub mod Broken
-pub mod FileDeciding
 pub mod Groups
 pub mod Means
 pub mod Refused
+pub mod inner

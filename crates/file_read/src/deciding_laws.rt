@@ -11,13 +11,13 @@ ghost use Rattle.dex_container.specs.Frame.{IsFramed};
 ghost use Rattle.program_types.specs.Content.{Program};
 ghost use Rattle.program_rules.specs.WellFormed.{WellFormed};
 ghost use Rattle.tables_rows.specs.Sorted.{TablesHold};
-ghost use Rattle.tables_laws.specs.FileNames.{IsMentionedIn};
+ghost use Rattle.tables_laws.specs.inner.FileNames.{IsMentionedIn};
 ghost use Rattle.dex_container.specs.Layout.{size_of};
 ghost use Rattle.dex_container.specs.Section as section;
 ghost use Rattle.file_classes.specs.ClassFaults.{ClassRowHolds, ClassRowBreaks, ClassRowsHold, IsClassFault, ValuesHold, ValuesBreak, BodiesHold, BodiesBreak, RowRegistersHold, RowRegistersBreak};
-ghost use Rattle.file_read.specs.Broken.{Broken};
+ghost use Rattle.file_read.specs.inner.Broken.{Broken};
 ghost use Rattle.file_read.specs.Means.{Means};
-ghost use Rattle.file_read.specs.FileDeciding.{MeansOrRefused};
+ghost use Rattle.file_read.specs.inner.FileDeciding.{MeansOrRefused};
 
 use dex_base::are_bytes;
 use dex_container::open;

@@ -1,8 +1,9 @@
 //! Laws of reading, each the contract of a function that does nothing.
 ghost use Rattle.std.specs.Prelude.{◌≡◌, ℕ, List};
 ghost use Rattle.dex_base.specs.declared.fault.Fault.{Fault};
-ghost use Rattle.file_read.specs.Broken.{Broken, GroupBreaks};
-ghost use Rattle.file_read.specs.Groups.{Group, IsAskedBefore};
+ghost use Rattle.file_read.specs.inner.Broken.{Broken, GroupBreaks};
+ghost use Rattle.file_read.specs.Groups.{Group};
+ghost use Rattle.file_read.specs.inner.Groups.{IsAskedBefore};
 ghost use Rattle.file_read.specs.Means.{Means};
 ghost use Rattle.file_read.specs.Refused.{IsGroupFault, IsRefused};
 ghost use Rattle.program_types.specs.Content.{Program};

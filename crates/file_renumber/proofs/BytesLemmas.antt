@@ -10,7 +10,7 @@ use Rattle.dex_base.specs.Fields.{AreBytes, u32_bytes}
 use Rattle.dex_insn.specs.Fields.{number, field, signed}
 use Rattle.dex_insn.specs.RawInsns.{register, IsElementWidth}
 use Rattle.dex_insn.specs.Written.{bytes_of}
-use Rattle.file_renumber.specs.InPlace.{named_unit, with_named}
+use Rattle.file_renumber.specs.inner.InPlace.{named_unit, with_named}
 use Rattle.dex_insn.proofs.Fits.{register-fits}
 
 -- ---- signed numbers: their bits are those that were read

@@ -13,20 +13,22 @@ use Rattle.tables_rows.specs.Stands.{NameStands}
 use Rattle.dex_value.specs.declared.types.NameType.{NameType}
 use Rattle.std.proofs.lemmas.Option.{slice_get_within}
 use Rattle.dex_value.specs.Named.{IsPlain}
-use Rattle.dex_value.specs.Reading.{name_code, table_of_type, IsNumber, ValueStands}
+use Rattle.dex_value.specs.Reading.{name_code, table_of_type, IsNumber}
+use Rattle.dex_value.specs.inner.Reading.{ValueStands}
 use Rattle.dex_value.specs.Spelling.{unsigned_of, value_type_of, SpellsValue, SpellsArray, count_of}
-use Rattle.dex_value.specs.Writing.{UnsignedAs, IndexAs}
+use Rattle.dex_value.specs.Writing.{UnsignedAs}
+use Rattle.dex_value.specs.inner.Writing.{IndexAs}
 use Rattle.dex_value.proofs.Appending.{index_appends, array_appends, array_value_appends, enum_appends}
 use Rattle.dex_value.proofs.FrontLaws.{stands_one}
 use Rattle.dex_value.proofs.Fronts.{LoneFront, BareNull, BareFalse, BareTrue}
 use Rattle.dex_value.proofs.Lists.{length-listed}
 use Rattle.dex_value.proofs.Namings.{number_stands}
 use Rattle.dex_value.proofs.Carrying.{NameStands-functional}
-use Rattle.file_renumber.specs.Marked.{Columns, kind_of}
-use Rattle.file_renumber.specs.Numbers.{Carries, column_of}
-use Rattle.file_renumber.specs.ValueWalks.{IsLow, CarriedValue, CarriedValues}
+use Rattle.file_renumber.specs.inner.Marked.{Columns, kind_of}
+use Rattle.file_renumber.specs.inner.Numbers.{Carries, column_of}
+use Rattle.file_renumber.specs.inner.ValueWalks.{IsLow, CarriedValue, CarriedValues}
 use Rattle.file_renumber.proofs.FrontLemmas.{TakenArray, due_start, NextDue, due_next, due_end, values_due}
-use Rattle.file_renumber.specs.CarriedArrays.{IsCarriedArray, IsItemOf}
+use Rattle.file_renumber.specs.inner.CarriedArrays.{IsCarriedArray, IsItemOf}
 use Rattle.file_renumber.proofs.NameLemmas.{NamedRow, row_of_low}
 use Rattle.dex_base.proofs.ListFacts.{some_inj}
 use Rattle.program_types.proofs.Nesting.{listed, values-listed}

@@ -9,14 +9,15 @@ use Rattle.dex_insn.specs.declared.opcode.IndexKind.TheVariants as kind
 use Rattle.program_types.specs.Content.{Name, OfDesc, Catch}
 use Rattle.tables_names.specs.Closure.{Five, NameRanks}
 use Rattle.tables_rows.specs.Stands.{NameStands}
-use Rattle.file_renumber.specs.Marked.{Columns}
-use Rattle.file_renumber.specs.Numbers.{Carries, column_of}
+use Rattle.file_renumber.specs.inner.Marked.{Columns}
+use Rattle.file_renumber.specs.inner.Numbers.{Carries, column_of}
 use Rattle.code_read.specs.Places.{position}
-use Rattle.code_read.specs.Handlers.{Handler, catches_of, HasAll, AllBy, SpellsCatch}
-use Rattle.code_put.specs.Packs.{PacksCatch, PacksHandler}
+use Rattle.code_read.specs.Handlers.{Handler, catches_of, HasAll, AllBy}
+use Rattle.code_read.specs.inner.Handlers.{SpellsCatch}
+use Rattle.code_put.specs.inner.Packs.{PacksCatch, PacksHandler}
 use Rattle.code_put.proofs.HandlerPacks.{via-appends, catch-appends, all-none, all-some, handler-appends, alone}
-use Rattle.file_renumber.specs.Fronts.{IsCatch, types_of}
-use Rattle.file_renumber.specs.CarriedCodes.{CarriedCatches}
+use Rattle.file_renumber.specs.inner.Fronts.{IsCatch, types_of}
+use Rattle.file_renumber.specs.inner.CarriedCodes.{CarriedCatches}
 use Rattle.file_renumber.proofs.FrontLemmas.{due_start, NextDue, due_end}
 use Rattle.file_renumber.proofs.HandlerLemmas.{no_catch}
 use Rattle.dex_base.proofs.GrammarLaws.{Each-appends_none, Each-appends_more}

@@ -9,20 +9,21 @@ use Rattle.program_types.specs.Mentions.{names_of_insn, names_of_try}
 use Rattle.program_types.specs.Sizes.{addresses_of}
 use Rattle.tables_names.specs.Closure.{Five, NameRanks}
 use Rattle.tables_rows.specs.Stands.{NameStands}
-use Rattle.file_renumber.specs.Marked.{Columns}
-use Rattle.file_renumber.specs.Numbers.{Carries}
+use Rattle.file_renumber.specs.inner.Marked.{Columns}
+use Rattle.file_renumber.specs.inner.Numbers.{Carries}
 use Rattle.code_read.specs.Places.{Rises}
 use Rattle.code_read.specs.Walk.{starts}
 use Rattle.code_read.proofs.LinkLaws.{addresses-same}
-use Rattle.code_read.specs.ItemReading.{ReadTries}
+use Rattle.code_read.specs.inner.ItemReading.{ReadTries}
 use Rattle.code_read.specs.declared.item.Item.{Item}
 use Rattle.code_put.specs.Fits.{catches_in}
-use Rattle.code_put.specs.Packs.{PutInsns, PacksHandlersOf, PacksCode, joined, padding, items_bytes}
+use Rattle.code_put.specs.Packs.{PacksHandlersOf, PacksCode, joined, padding, items_bytes}
+use Rattle.code_put.specs.inner.Packs.{PutInsns}
 use Rattle.code_put.proofs.PackLaws.{packed}
-use Rattle.file_renumber.specs.Renumbered.{renumbered, CanBeRenumbered}
-use Rattle.file_renumber.specs.CarriedCodes.{IsCarriedCode, CarriedTries, head_of}
-use Rattle.file_renumber.specs.Fronts.{SpellsItem}
-use Rattle.file_renumber.specs.TryWalks.{CoverTries}
+use Rattle.file_renumber.specs.inner.Renumbered.{renumbered, CanBeRenumbered}
+use Rattle.file_renumber.specs.inner.CarriedCodes.{IsCarriedCode, CarriedTries, head_of}
+use Rattle.file_renumber.specs.inner.Fronts.{SpellsItem}
+use Rattle.file_renumber.specs.inner.TryWalks.{CoverTries}
 use Rattle.file_renumber.proofs.LoweredLemmas.{can-all, lowered}
 use Rattle.file_renumber.proofs.WideLemmas.{size_same, count_same, head_same}
 use Rattle.dex_base.proofs.ListFacts.{all_front, all_back}

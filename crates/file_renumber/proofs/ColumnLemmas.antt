@@ -2,13 +2,13 @@
 use Rattle.std.proofs.Common.{◌≡◌, ℕ, zero, suc, ◌+◌, ◌<◌, ◌≤◌, ◌^◌, Bool, true, false, true≢false, List, [], ◌∷◌, ◌++◌, length, get_or, set, replicate, drop, nat_lt, if◌then◌else◌, refl, ap, ◌∙◌, subst, sym, arith, take, ◌⊎◌, inl, inr}
 use Rattle.std.proofs.lemmas.Bool.{cases_lt, lt-ltb}
 use Rattle.std.proofs.lemmas.List.Sums.{sum_by-cons, sum_by_more}
-use Rattle.file_renumber.specs.Numbers.{before, Counts}
+use Rattle.file_renumber.specs.inner.Numbers.{before, Counts}
 use Rattle.std.proofs.lemmas.List.{length-set, length-replicate, get_or-set_same, get_or-set_other, take_at}
 use Rattle.program_types.specs.Key.{Key}
 use Rattle.tables_names.specs.Rank.{insert_key}
 use Rattle.tables_names.proofs.SubsetLemmas as sub
 use Rattle.code_read.proofs.Lists.{zero_at}
-use Rattle.file_renumber.specs.Marked.{IsColumn, MarksOf}
+use Rattle.file_renumber.specs.inner.Marked.{IsColumn, MarksOf}
 
 -- ---- a place more has a 1
 

@@ -14,11 +14,11 @@ use Rattle.dex_insn.specs.declared.opcode.Format.{Format}
 use Rattle.dex_insn.proofs.Fits.{number-1, number-2, number-4}
 use Rattle.dex_insn.proofs.StandingLaws.{not-payload, is-payload}
 use Rattle.dex_insn.proofs.Unique.{slice-length}
-use Rattle.file_renumber.specs.Marked.{Columns}
+use Rattle.file_renumber.specs.inner.Marked.{Columns}
 use Rattle.file_renumber.specs.declared.shapes.Shape.TheVariants.{Plain, Short, Long, Five, Payload}
-use Rattle.file_renumber.specs.Renumbered.{number_in, renumbered, HasNumber, HasShortNumber, IsNumbered, CanBeRenumbered}
-use Rattle.file_renumber.specs.Shapes.{shape_in, shape_of}
-use Rattle.file_renumber.specs.InPlace.{with_named, is_padded, with_pad, IsRenumbered}
+use Rattle.file_renumber.specs.inner.Renumbered.{number_in, renumbered, HasNumber, HasShortNumber, IsNumbered, CanBeRenumbered}
+use Rattle.file_renumber.specs.inner.Shapes.{shape_in, shape_of}
+use Rattle.file_renumber.specs.inner.InPlace.{with_named, is_padded, with_pad, IsRenumbered}
 use Rattle.file_renumber.proofs.BytesLemmas.{nibble_bits, byte_bits, wide_byte_bits, half_bits, wide_half_bits, word_bits, long_bits, kept_1, kept_2, kept_3, kept_long, kept_wide, short_2, short_3, long_3, five_3, head_4, head_8, joined_again, replaced, by_width}
 use Rattle.dex_base.proofs.ListFacts.{by_kind}
 

@@ -7,10 +7,10 @@ use Rattle.dex_base.specs.Leb128.{Spells}
 use Rattle.dex_base.proofs.TakesLaws.{Then-takes, Each-takes_first}
 use Rattle.dex_container.specs.Frame.{IsFramed}
 use Rattle.tables_rows.specs.Stands.{NameStands}
-use Rattle.file_renumber.specs.ValueWalks.{IsLow}
+use Rattle.file_renumber.specs.inner.ValueWalks.{IsLow}
 use Rattle.program_types.specs.Content.{Name, Value, Array, Values, no_values, more_values}
 use Rattle.dex_value.specs.Faults.{widest_of}
-use Rattle.dex_value.specs.Reading.{ValueStands}
+use Rattle.dex_value.specs.inner.Reading.{ValueStands}
 use Rattle.dex_value.specs.Spelling.{SpellsValue, SpellsValues, SpellsArray, count_of}
 use Rattle.dex_value.proofs.Fronts.{SizedFront, LoneFront, Front, front}
 use Rattle.dex_value.proofs.FrontLaws.{cons_head, first_of_lone, sized_not_array, sized_not_lone}

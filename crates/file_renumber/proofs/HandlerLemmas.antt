@@ -8,13 +8,14 @@ use Rattle.dex_base.proofs.TakesLaws.{Takes-unique}
 use Rattle.dex_insn.specs.declared.opcode.IndexKind.TheVariants as kind
 use Rattle.program_types.specs.Content.{Name, OfDesc, Catch}
 use Rattle.tables_rows.specs.Stands.{NameStands}
-use Rattle.file_renumber.specs.Marked.{Marked, AddsNames, IsRowOf}
+use Rattle.file_renumber.specs.inner.Marked.{Marked, AddsNames, IsRowOf}
 use Rattle.file_renumber.proofs.FrontLemmas.{due_start, NextDue}
 use Rattle.file_renumber.proofs.MarkLemmas.{adds_none, adds_more}
 use Rattle.code_read.specs.Places.{position}
-use Rattle.code_read.specs.Handlers.{Handler, catches_of, HasAll, SpellsCatch, SpellsHandler}
+use Rattle.code_read.specs.Handlers.{Handler, catches_of, HasAll}
+use Rattle.code_read.specs.inner.Handlers.{SpellsCatch, SpellsHandler}
 use Rattle.code_read.proofs.HandlerReading.{SpellsCatchAll}
-use Rattle.file_renumber.specs.Fronts.{IsCatch, types_of}
+use Rattle.file_renumber.specs.inner.Fronts.{IsCatch, types_of}
 use Rattle.dex_base.proofs.ListFacts.{number_one}
 
 -- ---- a catch

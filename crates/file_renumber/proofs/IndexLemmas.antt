@@ -4,10 +4,10 @@ use Rattle.dex_insn.specs.Fields.{number, field}
 use Rattle.dex_insn.specs.Raw as raw
 use Rattle.dex_insn.specs.Raw.{Raw}
 use Rattle.dex_insn.specs.RawInsns.{SpellsInsn}
-use Rattle.code_read.specs.Symbols.{has_index}
+use Rattle.code_read.specs.inner.Symbols.{has_index}
 use Rattle.file_renumber.specs.declared.shapes.Shape.TheVariants.{Plain, Short, Long, Five, Payload}
-use Rattle.file_renumber.specs.Indices.{IsIndex}
-use Rattle.file_renumber.specs.Shapes.{shape_of}
+use Rattle.file_renumber.specs.inner.Indices.{IsIndex}
+use Rattle.file_renumber.specs.inner.Shapes.{shape_of}
 
 pub plain_unindexed : (r : Raw) (n : ℕ) → shape_of r ≡ Plain n → has_index r ≡ false
 unfolding has_index

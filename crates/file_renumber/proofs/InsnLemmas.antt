@@ -11,9 +11,10 @@ use Rattle.program_types.specs.Kinds.{IsOfKind}
 use Rattle.program_types.specs.Operands.{IsOfIndexKind}
 use Rattle.program_types.specs.Mentions.{names_of_insn}
 use Rattle.tables_rows.specs.Stands.{NameStands}
-use Rattle.file_renumber.specs.Marked.{kind_of, IsRowOf}
-use Rattle.code_read.specs.Symbols.{Says, IndexStandsFor, linked, name_in, has_index}
-use Rattle.file_renumber.specs.Indices.{IsIndex}
+use Rattle.file_renumber.specs.inner.Marked.{kind_of, IsRowOf}
+use Rattle.code_read.specs.Symbols.{Says, IndexStandsFor, linked, name_in}
+use Rattle.code_read.specs.inner.Symbols.{has_index}
+use Rattle.file_renumber.specs.inner.Indices.{IsIndex}
 
 -- ---- its name
 

@@ -4,11 +4,11 @@ use Rattle.program_types.specs.Content.{Name, Code}
 use Rattle.code_read.specs.Walk.{starts}
 use Rattle.code_read.specs.Linked.{SpellsInsns}
 use Rattle.code_read.specs.Item.{insns_size, tries_of}
-use Rattle.code_read.specs.ItemReading.{IsCodeItem}
+use Rattle.code_read.specs.inner.ItemReading.{IsCodeItem}
 use Rattle.code_read.specs.Tries.{SpellsTries}
 use Rattle.code_read.specs.declared.item.Item.{Item}
 use Rattle.code_read.proofs.ItemLaws.{ReadCode}
-use Rattle.file_renumber.specs.Fronts.{SpellsItem}
+use Rattle.file_renumber.specs.inner.Fronts.{SpellsItem}
 
 pub item_spells : (N : ℕ → Name → Type 0) (bytes rest : List ℕ) (i : Item) (c : Code) → IsCodeItem bytes i → ReadCode N bytes rest c → SpellsItem N i c
 item_spells N bytes rest i c p r = record {

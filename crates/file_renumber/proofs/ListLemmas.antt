@@ -8,13 +8,14 @@ use Rattle.dex_base.specs.Grammar.{Takes, Placed}
 use Rattle.dex_base.specs.Leb128.{Spells}
 use Rattle.program_types.specs.Content.{Name, Try}
 use Rattle.code_read.specs.Places.{Rises, position}
-use Rattle.code_read.specs.Handlers.{Handler, SpellsHandler, SpellsList, SpellsHandlers, handler_at}
+use Rattle.code_read.specs.Handlers.{Handler, SpellsList, SpellsHandlers, handler_at}
+use Rattle.code_read.specs.inner.Handlers.{SpellsHandler}
 use Rattle.code_read.specs.Item.{try_handler}
-use Rattle.code_read.specs.ItemReading.{ReadTries}
+use Rattle.code_read.specs.inner.ItemReading.{ReadTries}
 use Rattle.code_read.specs.Tries.{handler_of}
 use Rattle.code_read.proofs.ListReading.{ReadSome, offsets-rise}
 use Rattle.program_types.specs.Formed.{try_at}
-use Rattle.file_renumber.specs.Fronts.{AreListed}
+use Rattle.file_renumber.specs.inner.Fronts.{AreListed}
 use Rattle.dex_base.proofs.ListFacts.{all_front, all_back, number_one}
 use Rattle.code_read.proofs.TryLaws.{offs, hans}
 

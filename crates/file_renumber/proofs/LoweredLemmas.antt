@@ -14,8 +14,8 @@ use Rattle.program_types.specs.Content as made
 use Rattle.program_types.specs.Formed.{insn_at, insn_payload}
 use Rattle.program_types.specs.Mentions.{names_of_insn}
 use Rattle.program_types.specs.Sizes.{addresses_of}
-use Rattle.file_renumber.specs.Marked.{Columns}
-use Rattle.file_renumber.specs.Numbers.{Carries}
+use Rattle.file_renumber.specs.inner.Marked.{Columns}
+use Rattle.file_renumber.specs.inner.Numbers.{Carries}
 use Rattle.code_read.specs.Walk.{starts, raw_at, address}
 use Rattle.code_read.specs.Linked.{lead, SpellsInsns}
 use Rattle.code_read.proofs.Runs.{stands-at}
@@ -23,7 +23,7 @@ use Rattle.code_read.proofs.LinkLaws.{addresses-same, kind-linked}
 use Rattle.code_put.specs.Fits.{ShortFits}
 use Rattle.code_put.specs.Packs.{IsLowered, AreLowered}
 use Rattle.code_put.proofs.ListLaws.{all-at, all-from}
-use Rattle.file_renumber.specs.Renumbered.{renumbered, CanBeRenumbered}
+use Rattle.file_renumber.specs.inner.Renumbered.{renumbered, CanBeRenumbered}
 use Rattle.file_renumber.proofs.ListLemmas.{all-part}
 use Rattle.file_renumber.proofs.UnitLemmas.{units-at}
 use Rattle.file_renumber.proofs.NumberLemmas.{Carried, renumbered_says, can_renumber, renumbered_units, renumbered_payload, renumbered_kind}

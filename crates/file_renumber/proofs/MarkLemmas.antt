@@ -9,7 +9,8 @@ use Rattle.dex_container.specs.Layout.{size_of}
 use Rattle.program_types.specs.Content.{Units, Proto, FieldRef, MethodRef, Name, OfText, OfDesc, OfField, OfMethod}
 use Rattle.program_types.specs.Key.{text_key, proto_key, field_ref_key, method_ref_key}
 use Rattle.program_types.specs.Shorty.{shorty}
-use Rattle.tables_names.specs.Closure.{Five, nothing, IsClosed, AreRising, Holds, join, closure_of, type_closure, proto_closure, with_name, with_names, with_proto}
+use Rattle.tables_names.specs.Closure.{Five, nothing, IsClosed, AreRising, join, closure_of, type_closure, proto_closure, with_name, with_names, with_proto}
+use Rattle.tables_names.specs.inner.Closure.{Holds}
 use Rattle.tables_names.proofs.FiveLemmas.{part_adds_nothing, IsPart-right, parts_of_proto, proto_there, closed-protos}
 use Rattle.tables_names.proofs.NeededLemmas.{closed_with, with_names-rising, with_names-holds, rising_join, needed_is_least, names_append}
 use Rattle.tables_names.specs.Needed.{needed}
@@ -21,7 +22,7 @@ use Rattle.tables_rows.proofs.RowReading.{string_one}
 use Rattle.tables_rows.proofs.TypeLists.{type_one, types_one, indexes_of}
 use Rattle.tables_rows.proofs.HalvesLaws.{list_or_none_one}
 use Rattle.dex_container.specs.Where.{AtOrNone}
-use Rattle.file_renumber.specs.Marked.{Marked, MarksOf, AreMarks, IsOneOf, HasMarks, AddsNames, IsRowOf}
+use Rattle.file_renumber.specs.inner.Marked.{Marked, MarksOf, AreMarks, IsOneOf, HasMarks, AddsNames, IsRowOf}
 use Rattle.dex_insn.specs.declared.opcode.IndexKind.{IndexKind}
 use Rattle.dex_insn.specs.declared.opcode.IndexKind.TheVariants as kind
 use Rattle.file_renumber.proofs.ColumnLemmas.{marks_more}

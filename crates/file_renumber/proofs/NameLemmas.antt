@@ -11,14 +11,15 @@ use Rattle.dex_value.specs.declared.types.NameType.TheVariants as named
 use Rattle.dex_value.specs.declared.types.NumberType.{NumberType}
 use Rattle.dex_value.specs.declared.types.NumberType.TheVariants as number
 use Rattle.dex_value.specs.Faults.{widest_of, IsNameOfType}
-use Rattle.dex_value.specs.Reading.{name_code, number_code, table_of_type, ValueStands}
+use Rattle.dex_value.specs.Reading.{name_code, number_code, table_of_type}
+use Rattle.dex_value.specs.inner.Reading.{ValueStands}
 use Rattle.dex_value.specs.Spelling.{unsigned_of, Sized, SpellsValue, SpellsValues}
 use Rattle.dex_value.specs.Wide.{wide_value, wide_values}
 use Rattle.dex_value.proofs.Fronts.{LoneFront, BareNull, BareFalse, BareTrue}
 use Rattle.dex_value.proofs.Lists.{each-values}
 use Rattle.tables_rows.specs.Stands.{NameStands}
-use Rattle.file_renumber.specs.Marked.{kind_of, IsRowOf}
-use Rattle.file_renumber.specs.ValueWalks.{IsLow}
+use Rattle.file_renumber.specs.inner.Marked.{kind_of, IsRowOf}
+use Rattle.file_renumber.specs.inner.ValueWalks.{IsLow}
 use Rattle.program_types.proofs.Nesting.{listed}
 
 -- ---- the name of a value of bytes after its head

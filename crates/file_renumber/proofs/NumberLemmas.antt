@@ -12,12 +12,12 @@ use Rattle.program_types.specs.Content as made
 use Rattle.program_types.specs.Kinds.{IsOfKind}
 use Rattle.program_types.specs.Operands.{IsOfIndexKind}
 use Rattle.program_types.specs.Mentions.{names_of_insn}
-use Rattle.file_renumber.specs.Marked.{Columns}
-use Rattle.file_renumber.specs.Numbers.{Carries, column_of}
+use Rattle.file_renumber.specs.inner.Marked.{Columns}
+use Rattle.file_renumber.specs.inner.Numbers.{Carries, column_of}
 use Rattle.code_read.specs.Symbols.{Says, IndexStandsFor, linked, name_in}
 use Rattle.code_read.specs.Linked.{payload_of}
 use Rattle.code_put.specs.Fits.{short_name, ShortFits}
-use Rattle.file_renumber.specs.Renumbered.{number_in, renumbered, HasNumber, HasShortNumber, IsNumbered}
+use Rattle.file_renumber.specs.inner.Renumbered.{number_in, renumbered, HasNumber, HasShortNumber, IsNumbered}
 use Rattle.file_renumber.proofs.InsnLemmas.{kind_is, of_kind}
 
 -- the row has a number, by which it stands for the name

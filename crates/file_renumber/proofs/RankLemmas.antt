@@ -11,20 +11,21 @@ use Rattle.std.proofs.lemmas.Option.{slice_get-get_or, none-some}
 use Rattle.dex_container.specs.Layout.{size_of}
 use Rattle.program_types.specs.Content.{Proto, Name, OfText, OfDesc, OfField, OfMethod}
 use Rattle.program_types.specs.Key.{Key, key_cmp, text_key, proto_key, field_ref_key, method_ref_key}
-use Rattle.program_types.specs.KeyLaws.{key_cmp-total, key_cmp-same}
+use Rattle.program_types.specs.inner.KeyLaws.{key_cmp-total, key_cmp-same}
 use Rattle.tables_names.specs.Rank.{Rising, IsAt, is_member}
-use Rattle.tables_names.specs.Closure.{Five, Holds, NameRanks, AreRising}
+use Rattle.tables_names.specs.Closure.{Five, NameRanks, AreRising}
+use Rattle.tables_names.specs.inner.Closure.{Holds}
 use Rattle.tables_names.proofs.RisingLemmas.{same_rising}
 use Rattle.tables_names.proofs.PlaceLemmas.{member_at, member_index, rank_at}
 use Rattle.tables_rows.specs.Names.{Names, AreNamesOf, NameIsAt}
 use Rattle.tables_rows.specs.Stands.{StringStands, TypeStands, ProtoStands, FieldStands, MethodStands, NameStands}
 use Rattle.tables_rows.specs.Sorted.{TablesHold}
 use Rattle.tables_rows.proofs.NameLaws.{proto_one, row_is, stands_names}
-use Rattle.tables_laws.specs.FileNames.{five_of}
+use Rattle.tables_laws.specs.inner.FileNames.{five_of}
 use Rattle.tables_laws.proofs.FileLemmas.{tables_have_names, names_rise, row_of, key_at}
 use Rattle.file_renumber.proofs.ColumnLemmas.{before-cons}
-use Rattle.file_renumber.specs.Marked.{Columns, Marked, MarksOf, AreMarks, kind_of}
-use Rattle.file_renumber.specs.Numbers.{before, Counts, AreRowNumbers, IsKept, Carries, column_of, KeptRowsAreRanks, KeptProtosAreRanks, KeptRowsAreHeld, HaveLengths, TotalsAreLengths}
+use Rattle.file_renumber.specs.inner.Marked.{Columns, Marked, MarksOf, AreMarks, kind_of}
+use Rattle.file_renumber.specs.inner.Numbers.{before, Counts, AreRowNumbers, IsKept, Carries, column_of, KeptRowsAreRanks, KeptProtosAreRanks, KeptRowsAreHeld, HaveLengths, TotalsAreLengths}
 
 -- ---- the kept ones of a list, and how many stand before each
 

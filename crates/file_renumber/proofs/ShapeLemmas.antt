@@ -9,11 +9,11 @@ use Rattle.dex_insn.specs.Raw as raw
 use Rattle.dex_insn.specs.Raw.{Raw, units}
 use Rattle.dex_insn.specs.RawInsns.{SpellsInsn, InsnStands, IsPayload, register}
 use Rattle.dex_insn.proofs.StandingLaws.{spelled-whole}
-use Rattle.file_renumber.specs.Marked.{Columns}
+use Rattle.file_renumber.specs.inner.Marked.{Columns}
 use Rattle.file_renumber.specs.declared.shapes.Shape.TheVariants.{Short, Long, Five}
-use Rattle.file_renumber.specs.Renumbered.{number_in, HasShortNumber}
-use Rattle.file_renumber.specs.Shapes.{shape_of}
-use Rattle.file_renumber.specs.InPlace.{named_unit, with_named, IsRenumbered}
+use Rattle.file_renumber.specs.inner.Renumbered.{number_in, HasShortNumber}
+use Rattle.file_renumber.specs.inner.Shapes.{shape_of}
+use Rattle.file_renumber.specs.inner.InPlace.{named_unit, with_named, IsRenumbered}
 use Rattle.file_renumber.proofs.FormLemmas.{with_short}
 
 pub unit_long : (us : List ℕ) (r : Raw) → SpellsInsn us r → 2 ≤ length us

@@ -9,21 +9,23 @@ use Rattle.dex_base.proofs.Numbers.{some_byte}
 use Rattle.program_types.specs.Content.{Name, Catch, Try}
 use Rattle.program_types.specs.Formed.{try_at}
 use Rattle.program_types.specs.Mentions.{names_of_try}
-use Rattle.tables_names.specs.Closure.{Five, Holds, with_names}
+use Rattle.tables_names.specs.Closure.{Five, with_names}
+use Rattle.tables_names.specs.inner.Closure.{Holds}
 use Rattle.tables_names.proofs.NeededLemmas.{names_append, with_names-holds}
 use Rattle.tables_rows.specs.Stands.{NameStands}
-use Rattle.file_renumber.specs.Marked.{Marked, AreMarks, AddsNames}
+use Rattle.file_renumber.specs.inner.Marked.{Marked, AreMarks, AddsNames}
 use Rattle.file_renumber.proofs.MarkLemmas.{adds_none, adds_next, names_next, types_add_nothing}
 use Rattle.code_read.specs.Places.{position}
 use Rattle.code_read.proofs.PlaceLaws.{position-there}
-use Rattle.code_read.specs.Handlers.{Handler, SpellsHandler, handler_at}
+use Rattle.code_read.specs.Handlers.{Handler, handler_at}
+use Rattle.code_read.specs.inner.Handlers.{SpellsHandler}
 use Rattle.code_read.specs.Item.{try_handler}
-use Rattle.code_read.specs.ItemReading.{ReadTries}
+use Rattle.code_read.specs.inner.ItemReading.{ReadTries}
 use Rattle.code_read.specs.Tries.{handler_of}
 use Rattle.code_put.specs.Fits.{catches_in}
 use Rattle.code_put.proofs.DistinctLaws.{catches-more}
-use Rattle.file_renumber.specs.Fronts.{AreListed, types_of}
-use Rattle.file_renumber.specs.TryWalks.{MarksOnce}
+use Rattle.file_renumber.specs.inner.Fronts.{AreListed, types_of}
+use Rattle.file_renumber.specs.inner.TryWalks.{MarksOnce}
 use Rattle.file_renumber.proofs.ListLemmas.{all-part, HandlerThere, handler_there}
 use Rattle.code_read.proofs.TryLaws.{no_try}
 use Rattle.dex_base.proofs.ListFacts.{some_one}

@@ -9,9 +9,9 @@ use Rattle.program_types.specs.Mentions.{names_of_value}
 use Rattle.tables_rows.specs.Stands.{NameStands}
 use Rattle.dex_value.specs.Spelling.{SpellsValue}
 use Rattle.dex_value.specs.Wide.{wide_value, wide_values}
-use Rattle.file_renumber.specs.Marked.{Marked, AddsNames}
+use Rattle.file_renumber.specs.inner.Marked.{Marked, AddsNames}
 use Rattle.file_renumber.proofs.MarkLemmas.{adds_none, adds_next}
-use Rattle.file_renumber.specs.ValueWalks.{MarksValue, MarksValues}
+use Rattle.file_renumber.specs.inner.ValueWalks.{MarksValue, MarksValues}
 use Rattle.file_renumber.proofs.FrontLemmas.{TakenArray, IsLone, taken_lone, due_start, NextDue, due_next, due_end}
 use Rattle.file_renumber.proofs.NameLemmas.{names-listed, each_wide, lone_wide, lone_names}
 use Rattle.program_types.proofs.Nesting.{listed, values-listed}

@@ -10,7 +10,7 @@ use Rattle.program_types.specs.Content as made
 use Rattle.program_types.specs.Formed.{insn_at}
 use Rattle.program_types.specs.Mentions.{names_of_insn}
 use Rattle.tables_rows.specs.Stands.{NameStands}
-use Rattle.file_renumber.specs.Marked.{Marked, AddsNames}
+use Rattle.file_renumber.specs.inner.Marked.{Marked, AddsNames}
 use Rattle.file_renumber.proofs.MarkLemmas.{adds_none, adds_next}
 use Rattle.code_read.specs.Linked.{lead}
 use Rattle.code_read.specs.Symbols.{Says}

@@ -8,8 +8,8 @@ use Rattle.program_types.specs.Sizes.{length_of}
 use Rattle.code_read.specs.declared.item.Item.{Item}
 use Rattle.code_put.specs.Fits.{catches_in, wide_code}
 use Rattle.code_put.specs.Packs.{head_bytes}
-use Rattle.file_renumber.specs.CarriedCodes.{head_of}
-use Rattle.file_renumber.specs.Fronts.{SpellsItem}
+use Rattle.file_renumber.specs.inner.CarriedCodes.{head_of}
+use Rattle.file_renumber.specs.inner.Fronts.{SpellsItem}
 use Rattle.file_renumber.proofs.UnitLemmas.{length-is}
 use Rattle.std.proofs.lemmas.List.{nil_from_length}
 

@@ -11,13 +11,14 @@ use Rattle.dex_insn.specs.RawInsns.{SpellsInsn, InsnStands}
 use Rattle.dex_insn.specs.Written.{written, IsRaw}
 use Rattle.dex_insn.proofs.StandingLaws.{stands-whole}
 use Rattle.dex_insn.proofs.Spelled.{length_written}
-use Rattle.file_renumber.specs.Marked.{Columns}
-use Rattle.code_read.specs.Walk.{Run, Walks, IsTable, starts, raw_at}
+use Rattle.file_renumber.specs.inner.Marked.{Columns}
+use Rattle.code_read.specs.Walk.{Run, Walks, starts, raw_at}
+use Rattle.code_read.specs.inner.Walk.{IsTable}
 use Rattle.code_read.proofs.Runs.{run-more, run-once, starts-more, table-of}
 use Rattle.code_put.specs.Packs.{joined}
 use Rattle.code_put.proofs.ListLaws.{all-at}
-use Rattle.file_renumber.specs.InPlace.{IsRenumbered}
-use Rattle.file_renumber.specs.Renumbered.{renumbered, CanBeRenumbered}
+use Rattle.file_renumber.specs.inner.InPlace.{IsRenumbered}
+use Rattle.file_renumber.specs.inner.Renumbered.{renumbered, CanBeRenumbered}
 use Rattle.file_renumber.proofs.NumberLemmas.{renumbered_units}
 use Rattle.file_renumber.proofs.WalkLemmas.{run-meets, stands_next}
 

@@ -1,11 +1,1 @@
-pub mod Marked
-pub mod Numbers
-pub mod CarriedArrays
-pub mod ValueWalks
-pub mod Indices
-pub mod Fronts
-pub mod Renumbered
-pub mod Shapes
-pub mod InPlace
-pub mod CarriedCodes
-pub mod TryWalks
+pub mod inner

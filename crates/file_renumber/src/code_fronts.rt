@@ -7,8 +7,8 @@ ghost use Rattle.dex_container.specs.Where.{IsSectionOf};
 ghost use Rattle.program_types.specs.Content.{Code, Catch};
 ghost use Rattle.tables_rows.specs.Stands.{NameStands};
 ghost use Rattle.code_read.specs.Code.{CodeStands};
-ghost use Rattle.code_read.specs.Handlers.{SpellsCatch};
-ghost use Rattle.file_renumber.specs.Fronts.{SpellsItem, IsCatch};
+ghost use Rattle.code_read.specs.inner.Handlers.{SpellsCatch};
+ghost use Rattle.file_renumber.specs.inner.Fronts.{SpellsItem, IsCatch};
 
 use code_read::{Item, item_of, read_number, read_signed};
 use dex_container::{Section, Sections, bytes_from, kind};

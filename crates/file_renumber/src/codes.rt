@@ -7,14 +7,14 @@ ghost use Rattle.program_types.specs.Sizes.{addresses_of};
 ghost use Rattle.tables_names.specs.Closure.{Five, NameRanks};
 ghost use Rattle.dex_container.specs.Where.{IsSectionOf};
 ghost use Rattle.tables_rows.specs.Stands.{NameStands};
-ghost use Rattle.file_renumber.specs.Marked.{HasMarks, AddsNames};
+ghost use Rattle.file_renumber.specs.inner.Marked.{HasMarks, AddsNames};
 ghost use Rattle.dex_insn.specs.Raw.{Raw};
 ghost use Rattle.code_read.specs.Places.{Rises};
 ghost use Rattle.code_read.specs.Walk.{Walks, starts};
 ghost use Rattle.code_read.specs.Code.{CodeStands};
 ghost use Rattle.code_put.specs.Fits.{wide_code, SomeHandlerIsFar};
 ghost use Rattle.code_put.specs.Packs.{PacksCode};
-ghost use Rattle.file_renumber.specs.CarriedCodes.{IsCarriedCode, head_of};
+ghost use Rattle.file_renumber.specs.inner.CarriedCodes.{IsCarriedCode, head_of};
 
 use crate::code_fronts::item_at;
 use crate::insns::{mark_insns, renumber_insns, starts_of};

@@ -1,8 +1,8 @@
 //! The rows of one table: which are marked, or how many marked ones stand before each.
 ghost use Rattle.std.specs.Prelude.{◌≡◌, ◌↔◌, ◌+◌, ◌<◌, ◌^◌, ℕ, IfOk, IsOkUnless, IsTrue, length, slice_index, set, replicate};
 ghost use Rattle.dex_base.specs.Fault.{memory};
-ghost use Rattle.file_renumber.specs.Marked.{IsColumn};
-ghost use Rattle.file_renumber.specs.Numbers.{Counts, IsKept};
+ghost use Rattle.file_renumber.specs.inner.Marked.{IsColumn};
+ghost use Rattle.file_renumber.specs.inner.Numbers.{Counts, IsKept};
 
 use dex_base::Fault;
 use std::alloc::Global;

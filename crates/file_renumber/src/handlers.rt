@@ -5,12 +5,13 @@ ghost use Rattle.dex_base.specs.Grammar.{Appends, Each, Many, Takes};
 ghost use Rattle.program_types.specs.Content.{Catch};
 ghost use Rattle.tables_names.specs.Closure.{NameRanks};
 ghost use Rattle.tables_rows.specs.Stands.{NameStands};
-ghost use Rattle.file_renumber.specs.Marked.{HasMarks, AddsNames};
+ghost use Rattle.file_renumber.specs.inner.Marked.{HasMarks, AddsNames};
 ghost use Rattle.code_read.specs.Places.{Rises};
-ghost use Rattle.code_read.specs.Handlers.{Handler, SpellsCatch, SpellsHandler, SpellsList};
-ghost use Rattle.code_put.specs.Packs.{PacksCatch, PacksHandler};
-ghost use Rattle.file_renumber.specs.CarriedCodes.{CarriedCatches, CarriedHandler};
-ghost use Rattle.file_renumber.specs.Fronts.{AreListed, types_of};
+ghost use Rattle.code_read.specs.Handlers.{Handler, SpellsList};
+ghost use Rattle.code_read.specs.inner.Handlers.{SpellsCatch, SpellsHandler};
+ghost use Rattle.code_put.specs.inner.Packs.{PacksCatch, PacksHandler};
+ghost use Rattle.file_renumber.specs.inner.CarriedCodes.{CarriedCatches, CarriedHandler};
+ghost use Rattle.file_renumber.specs.inner.Fronts.{AreListed, types_of};
 
 use crate::code_fronts::{take_catch, take_number, take_signed};
 use crate::marks::Marks;

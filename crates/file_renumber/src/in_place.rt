@@ -5,8 +5,8 @@ ghost use Rattle.dex_insn.specs.Fields.{field};
 ghost use Rattle.dex_insn.specs.Opcodes.{index_kind_of};
 ghost use Rattle.dex_insn.specs.Raw.{raw, Raw, units};
 ghost use Rattle.dex_insn.specs.RawInsns.{SpellsInsn, register};
-ghost use Rattle.file_renumber.specs.InPlace.{with_named, is_padded, with_pad, IsRenumbered};
-ghost use Rattle.file_renumber.specs.Renumbered.{number_in, HasNumber, HasShortNumber, CanBeRenumbered};
+ghost use Rattle.file_renumber.specs.inner.InPlace.{with_named, is_padded, with_pad, IsRenumbered};
+ghost use Rattle.file_renumber.specs.inner.Renumbered.{number_in, HasNumber, HasShortNumber, CanBeRenumbered};
 
 use crate::numbers::Numbers;
 use crate::shapes::{Shape, insn_at, opcode_at, shape_at};

@@ -7,13 +7,14 @@ ghost use Rattle.dex_insn.specs.Written.{IsRaw};
 ghost use Rattle.program_types.specs.Content.{Insn};
 ghost use Rattle.program_types.specs.Mentions.{names_of_insn};
 ghost use Rattle.tables_rows.specs.Stands.{NameStands};
-ghost use Rattle.file_renumber.specs.Marked.{HasMarks, AddsNames};
+ghost use Rattle.file_renumber.specs.inner.Marked.{HasMarks, AddsNames};
 ghost use Rattle.code_read.specs.Symbols.{Says};
-ghost use Rattle.code_read.specs.Walk.{Walks, IsTable};
+ghost use Rattle.code_read.specs.Walk.{Walks};
+ghost use Rattle.code_read.specs.inner.Walk.{IsTable};
 ghost use Rattle.code_read.specs.Linked.{SpellsInsns};
 ghost use Rattle.code_put.specs.Packs.{joined};
-ghost use Rattle.file_renumber.specs.Renumbered.{renumbered, CanBeRenumbered};
-ghost use Rattle.file_renumber.specs.Shapes.{IsOfShape};
+ghost use Rattle.file_renumber.specs.inner.Renumbered.{renumbered, CanBeRenumbered};
+ghost use Rattle.file_renumber.specs.inner.Shapes.{IsOfShape};
 
 use crate::in_place::renumber_front;
 use crate::marks::Marks;

@@ -1,5 +1,5 @@
 //! Laws of kept rows and their numbers, for the proofs of crates above.
-ghost use Rattle.file_renumber.specs.Numbers.{KeptRowsAreRanks, KeptProtosAreRanks, KeptRowsAreHeld, TotalsAreLengths};
+ghost use Rattle.file_renumber.specs.inner.Numbers.{KeptRowsAreRanks, KeptProtosAreRanks, KeptRowsAreHeld, TotalsAreLengths};
 
 /// A kept row's number is the rank of its name among the names whose rows are kept.
 pub fn kept_rows_are_ranks()

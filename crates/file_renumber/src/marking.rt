@@ -9,8 +9,8 @@ ghost use Rattle.dex_value.specs.Wide.{wide_values};
 ghost use Rattle.program_types.specs.Content.{Value, values};
 ghost use Rattle.program_types.specs.Mentions.{names_of_value};
 ghost use Rattle.tables_rows.specs.Stands.{NameStands};
-ghost use Rattle.file_renumber.specs.Marked.{HasMarks, AddsNames};
-ghost use Rattle.file_renumber.specs.ValueWalks.{MarksValue, MarksValues, IsLow};
+ghost use Rattle.file_renumber.specs.inner.Marked.{HasMarks, AddsNames};
+ghost use Rattle.file_renumber.specs.inner.ValueWalks.{MarksValue, MarksValues, IsLow};
 
 use crate::array_fronts::{ARRAY, array_at, take_number, width_of};
 use crate::marks::Marks;

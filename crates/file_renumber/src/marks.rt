@@ -4,8 +4,8 @@ ghost use Rattle.dex_base.specs.Fault.{memory};
 ghost use Rattle.program_types.specs.Content.{Name, OfText, OfDesc, OfField, OfMethod, Proto};
 ghost use Rattle.tables_names.specs.Closure.{Five, nothing, with_proto};
 ghost use Rattle.tables_rows.specs.Stands.{StringStands, TypeStands, ProtoStands, FieldStands, MethodStands, TypesAt};
-ghost use Rattle.file_renumber.specs.Marked.{AreMarks, HasMarks, AddsNames, IsRowOf};
-ghost use Rattle.file_renumber.specs.Numbers.{AreRowNumbers};
+ghost use Rattle.file_renumber.specs.inner.Marked.{AreMarks, HasMarks, AddsNames, IsRowOf};
+ghost use Rattle.file_renumber.specs.inner.Numbers.{AreRowNumbers};
 
 use crate::column::{count_before, is_marked, mark, unmarked};
 use crate::numbers::Numbers;
@@ -48,7 +48,7 @@ impl Drop for Marks {
 }
 
 impl Model for Marks {
-    ghost use Rattle.file_renumber.specs.Marked.{Marked};
+    ghost use Rattle.file_renumber.specs.inner.Marked.{Marked};
 
     ghost Value = { Marked };
 

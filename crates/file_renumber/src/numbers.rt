@@ -1,6 +1,6 @@
 //! The numbers of kept rows.
 ghost use Rattle.std.specs.Prelude.{◌≡◌, ◌↔◌, ◌+◌, ◌-◌, ◌<◌, IsTrue, Some, length, slice_get};
-ghost use Rattle.file_renumber.specs.Numbers.{column_of, IsKept};
+ghost use Rattle.file_renumber.specs.inner.Numbers.{column_of, IsKept};
 
 use crate::column::is_kept;
 use dex_base::Seed;
@@ -33,7 +33,7 @@ impl Drop for Numbers {
 }
 
 impl Model for Numbers {
-    ghost use Rattle.file_renumber.specs.Marked.{Columns};
+    ghost use Rattle.file_renumber.specs.inner.Marked.{Columns};
 
     ghost Value = { Columns };
 

@@ -6,8 +6,8 @@ ghost use Rattle.dex_base.specs.Leb128.{Shortest};
 ghost use Rattle.dex_value.specs.Spelling.{SpellsValue};
 ghost use Rattle.program_types.specs.Content.{Value};
 ghost use Rattle.tables_names.specs.Closure.{Five, NameRanks};
-ghost use Rattle.file_renumber.specs.CarriedArrays.{IsCarriedArray, IsItemOf};
-ghost use Rattle.file_renumber.specs.ValueWalks.{CarriedLow, CarriedValue, CarriedValues};
+ghost use Rattle.file_renumber.specs.inner.CarriedArrays.{IsCarriedArray, IsItemOf};
+ghost use Rattle.file_renumber.specs.inner.ValueWalks.{CarriedLow, CarriedValue, CarriedValues};
 
 use crate::array_fronts::{ARRAY, array_at, take_number, width_of};
 use crate::numbers::Numbers;

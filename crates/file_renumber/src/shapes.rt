@@ -3,9 +3,9 @@ ghost use Rattle.std.specs.Prelude.{◌≡◌, ◌≤◌, length, false, IfSome,
 ghost use Rattle.dex_insn.specs.Fields.{field};
 ghost use Rattle.dex_insn.specs.Raw.{raw, Raw, units};
 ghost use Rattle.dex_insn.specs.RawInsns.{SpellsInsn};
-ghost use Rattle.code_read.specs.Symbols.{has_index};
-ghost use Rattle.file_renumber.specs.Indices.{IsIndex};
-ghost use Rattle.file_renumber.specs.Shapes.{shape_in, shape_of, IsOfShape};
+ghost use Rattle.code_read.specs.inner.Symbols.{has_index};
+ghost use Rattle.file_renumber.specs.inner.Indices.{IsIndex};
+ghost use Rattle.file_renumber.specs.inner.Shapes.{shape_in, shape_of, IsOfShape};
 
 use dex_base::{u16_at, u32_at};
 use dex_insn::{Format, RawInsn, format_of, read_insn, size_of};

@@ -9,20 +9,20 @@ use Rattle.code_put.specs.Packs.{PacksCode}
 use Rattle.code_put.proofs.HandlerOnce.{ranks-injective}
 use Rattle.code_put.proofs.LayoutOnce.{layout-once}
 use Rattle.code_put.proofs.PackedLaws.{packed-spells}
-use Rattle.file_renumber.specs.CarriedCodes.{IsCarriedCode}
+use Rattle.file_renumber.specs.inner.CarriedCodes.{IsCarriedCode}
 use Rattle.dex_insn.specs.declared.opcode.IndexKind.TheVariants as kind
-use Rattle.file_strip.specs.AtLeast.{FitsButHandlers}
-use Rattle.file_assemble.specs.Codes.{WritesBody, is_bodiless}
+use Rattle.file_strip.specs.inner.AtLeast.{FitsButHandlers}
+use Rattle.file_assemble.specs.inner.Codes.{WritesBody, is_bodiless}
 use Rattle.file_assemble.proofs.OneBody.{packed_room}
-use Rattle.file_layout.specs.OneMore.{Entry}
-use Rattle.file_layout.specs.Sharing.{UsesItem}
+use Rattle.file_layout.specs.inner.OneMore.{Entry}
+use Rattle.file_layout.specs.inner.Sharing.{UsesItem}
 use Rattle.program_types.specs.Content.{Code}
 use Rattle.program_types.specs.Sizes.{addresses_of}
 use Rattle.tables_names.specs.Closure.{Five, AreRising, NameRanks}
-use Rattle.file_renumber.specs.Marked.{Columns}
-use Rattle.file_strip.specs.Bodies.{AreNear, AreOwned, IsCarriedBody, IsCarriedSome, IsFar, IsFirstFar, IsOwned, bodies_alone}
+use Rattle.file_renumber.specs.inner.Marked.{Columns}
+use Rattle.file_strip.specs.inner.Bodies.{AreNear, AreOwned, IsCarriedBody, IsCarriedSome, IsFar, IsFirstFar, IsOwned, bodies_alone}
 use Rattle.file_strip.specs.declared.codes.PlacedBody.{PlacedBody}
-use Rattle.file_strip.specs.Moved.{IsItem}
+use Rattle.file_strip.specs.inner.Moved.{IsItem}
 use Rattle.code_put.proofs.ListLaws.{all-at}
 use Rattle.file_renumber.proofs.MarkLemmas.{zip_at}
 use Rattle.dex_base.proofs.ListFacts.{zip_length, some_inj, all_append}

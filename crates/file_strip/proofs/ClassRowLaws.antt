@@ -8,21 +8,22 @@ use Rattle.dex_base.specs.Words.{words_bytes}
 use Rattle.dex_base.proofs.GrammarLaws.{Each-appends_none}
 use Rattle.file_classes.specs.ClassRows.{IndexOrNone, no_index, class_word}
 use Rattle.file_needed.proofs.ClassNames.{type_named, source_named}
-use Rattle.file_assemble.specs.ClassDefs.{SpellsClassRow, StringRanks, TypeRanks, with_places}
+use Rattle.file_assemble.specs.inner.ClassDefs.{SpellsClassRow, StringRanks, TypeRanks, with_places}
 use Rattle.file_assemble.proofs.ClassRowLaws.{seated_more}
 use Rattle.file_assemble.proofs.PlacedClasses.{rank_or_none}
 use Rattle.program_types.specs.Content.{Class, Program, Units, Name, OfDesc, OfText}
 use Rattle.program_types.specs.Key.{text_key}
 use Rattle.program_types.specs.Mentions.{names_of_class, if_any}
-use Rattle.tables_names.specs.Closure.{Five, Holds, NameRanks}
+use Rattle.tables_names.specs.Closure.{Five, NameRanks}
+use Rattle.tables_names.specs.inner.Closure.{Holds}
 use Rattle.tables_names.specs.Needed.{needed}
 use Rattle.tables_names.specs.Rank.{IsAt}
-use Rattle.file_renumber.specs.Marked.{Columns}
-use Rattle.file_renumber.specs.Numbers.{Carries}
+use Rattle.file_renumber.specs.inner.Marked.{Columns}
+use Rattle.file_renumber.specs.inner.Numbers.{Carries}
 use Rattle.tables_rows.specs.Stands.{NameStands, StringStands, TypeStands}
-use Rattle.file_strip.specs.Keeping.{Keeps}
-use Rattle.file_strip.specs.Names.{StringOrNone, TypeOrNone}
-use Rattle.file_strip.specs.ClassRow.{IsRowWithPlaces}
+use Rattle.file_strip.specs.inner.Keeping.{Keeps}
+use Rattle.file_strip.specs.inner.Names.{StringOrNone, TypeOrNone}
+use Rattle.file_strip.specs.inner.ClassRow.{IsRowWithPlaces}
 use Rattle.file_strip.proofs.KeepLaws.{few_types, few_strings, carried, class_holds}
 use Rattle.dex_base.proofs.ListFacts.{some_inj}
 use Rattle.file_classes.proofs.EntryLaws.{entry_at}

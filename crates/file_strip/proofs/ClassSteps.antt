@@ -19,7 +19,7 @@ use Rattle.file_classes.specs.ClassRows.{class_word}
 use Rattle.file_classes.specs.ClassData.{Entries, EntriesAt}
 use Rattle.file_classes.specs.Classes.{CodesAre, MembersAre, SpellsClass}
 use Rattle.file_classes.proofs.EntryLaws.{entries_one, entry_at}
-use Rattle.file_strip.specs.Survey.{AreFound, FindsNames, SpellsMembers, names_of_head, names_of_members}
+use Rattle.file_strip.specs.inner.Survey.{AreFound, FindsNames, SpellsMembers, names_of_head, names_of_members}
 use Rattle.file_strip.specs.declared.survey.Surveyed.{Surveyed}
 use Rattle.file_strip.proofs.WalkLaws.{take_next}
 

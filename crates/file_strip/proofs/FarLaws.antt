@@ -8,7 +8,7 @@ use Rattle.file_limits.specs.Limits.{ClassBreaksLimit, IsFirstToBreak, SomeBreak
 use Rattle.file_limits.specs.Wide.{bodies_in, bodies_of}
 use Rattle.program_types.specs.Content.{Class, Code, Method, Program}
 use Rattle.tables_names.specs.Closure.{Five, NameRanks}
-use Rattle.file_strip.specs.Bodies.{AreNear, IsFar, IsFirstFar, numbered}
+use Rattle.file_strip.specs.inner.Bodies.{AreNear, IsFar, IsFirstFar, numbered}
 use Rattle.dex_base.proofs.ListFacts.{slice_left, some_inj}
 
 -- ---- lists of codes

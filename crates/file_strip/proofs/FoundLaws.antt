@@ -20,12 +20,13 @@ use Rattle.file_classes.proofs.OnceLaws.{one_of_kind}
 use Rattle.tables_rows.specs.Stands.{NameStands}
 use Rattle.program_types.specs.Content.{Name, Code, Units, Value, values}
 use Rattle.program_types.specs.Mentions.{names_of_code, names_of_value}
-use Rattle.tables_names.specs.Closure.{Five, AreRising, Holds, IsClosed, closure_of, with_name, with_names}
+use Rattle.tables_names.specs.Closure.{Five, AreRising, IsClosed, closure_of, with_name, with_names}
+use Rattle.tables_names.specs.inner.Closure.{Holds}
 use Rattle.tables_names.proofs.FiveLemmas.{part_adds_nothing}
 use Rattle.tables_names.proofs.NeededLemmas.{holds_part, names_append, with_names-grows, with_names-holds, closure_part}
-use Rattle.tables_rows.specs.Cached.{AreCached}
-use Rattle.file_renumber.specs.Marked.{AddsNames, HasMarks, Marked}
-use Rattle.file_strip.specs.Survey.{AreFound, ArrayIsFound, CodeIsFound, FindsNames, HasFound}
+use Rattle.tables_rows.specs.inner.Cached.{AreCached}
+use Rattle.file_renumber.specs.inner.Marked.{AddsNames, HasMarks, Marked}
+use Rattle.file_strip.specs.inner.Survey.{AreFound, ArrayIsFound, CodeIsFound, FindsNames, HasFound}
 use Rattle.file_strip.specs.declared.survey.Surveyed.{Surveyed}
 
 -- ---- names that are held

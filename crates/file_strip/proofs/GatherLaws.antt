@@ -11,27 +11,29 @@ use Rattle.dex_container.specs.Layout.{size_of}
 use Rattle.file_classes.specs.ClassData.{Entries, EntriesAt}
 use Rattle.file_classes.specs.Classes.{CodeAt, CodesAre, SomeCodeStands}
 use Rattle.file_classes.specs.ClassRows.{class_word}
-use Rattle.file_classes.specs.Reading.{entries, method_entry}
+use Rattle.file_classes.specs.inner.Reading.{entries, method_entry}
 use Rattle.file_classes.specs.declared.class_data.Entries as held
 use Rattle.file_classes.specs.declared.class_data.MethodEntry as held_method
 use Rattle.file_classes.proofs.EntryLaws.{entries_one}
 use Rattle.file_classes.proofs.OnceLaws.{class_one}
-use Rattle.file_strip.specs.AtLeast.{AreNoFurther}
+use Rattle.file_strip.specs.inner.AtLeast.{AreNoFurther}
 use Rattle.file_strip.proofs.StandingFits.{codes-fit}
 use Rattle.file_layout.specs.Sections.{wide_all}
-use Rattle.file_limits.specs.Wide.{bodies_in, bodies_of, body_values, wide_body}
+use Rattle.file_limits.specs.Wide.{bodies_in, bodies_of, wide_body}
+use Rattle.file_limits.specs.inner.Wide.{body_values}
 use Rattle.file_limits.proofs.SumLaws.{wide_all_append}
 use Rattle.file_needed.proofs.ClassNames.{directs_kept, virtuals_kept}
 use Rattle.program_types.specs.Content.{Class, Code, Descriptor, Method, Name, OfDesc, OfField, OfMethod, OfText, Program}
 use Rattle.program_types.specs.Mentions.{if_any, names_of_code, names_of_method}
-use Rattle.tables_names.specs.Closure.{Holds, NameRanks}
+use Rattle.tables_names.specs.Closure.{NameRanks}
+use Rattle.tables_names.specs.inner.Closure.{Holds}
 use Rattle.tables_names.specs.Needed.{needed}
-use Rattle.file_renumber.specs.Marked.{Columns, IsColumn, kind_of}
-use Rattle.file_renumber.specs.Numbers.{Carries, Counts, column_of}
+use Rattle.file_renumber.specs.inner.Marked.{Columns, IsColumn, kind_of}
+use Rattle.file_renumber.specs.inner.Numbers.{Carries, Counts, column_of}
 use Rattle.tables_rows.specs.Stands.{NameStands}
-use Rattle.file_strip.specs.Bodies.{AreFirstBodies, AreOwned, IsCarriedBody, IsCarriedSome, IsOwned, body_of, numbered}
+use Rattle.file_strip.specs.inner.Bodies.{AreFirstBodies, AreOwned, IsCarriedBody, IsCarriedSome, IsOwned, body_of, numbered}
 use Rattle.file_strip.specs.declared.codes.PlacedBody.{PlacedBody}
-use Rattle.file_strip.specs.Keeping.{Keeps}
+use Rattle.file_strip.specs.inner.Keeping.{Keeps}
 use Rattle.file_strip.proofs.KeepLaws.{carried, class_holds, number_is}
 use Rattle.file_strip.proofs.FarLaws.{pairs}
 use Rattle.file_strip.proofs.RowsFrom.{ranked_holds}

@@ -6,15 +6,16 @@ use Rattle.std.specs.List.{AllByRecursion}
 use Rattle.dex_container.specs.Layout.{size_of}
 use Rattle.program_types.specs.Content.{Units, Class, Program, Name, OfDesc}
 use Rattle.program_types.specs.Mentions.{names_of_class}
-use Rattle.tables_names.specs.Closure.{Holds, NameRanks}
+use Rattle.tables_names.specs.Closure.{NameRanks}
+use Rattle.tables_names.specs.inner.Closure.{Holds}
 use Rattle.tables_names.specs.Needed.{needed}
 use Rattle.tables_names.proofs.NeededLemmas.{needed_is_least}
-use Rattle.file_renumber.specs.Marked.{Columns, IsColumn}
-use Rattle.file_renumber.specs.Numbers.{Counts, IsKept, Carries}
+use Rattle.file_renumber.specs.inner.Marked.{Columns, IsColumn}
+use Rattle.file_renumber.specs.inner.Numbers.{Counts, IsKept, Carries}
 use Rattle.file_renumber.proofs.ColumnLemmas.{before_next, before_few}
 use Rattle.file_renumber.proofs.RankLemmas.{kept_rows_are_ranks, totals_are_lengths}
 use Rattle.tables_rows.specs.Stands.{NameStands}
-use Rattle.file_strip.specs.Keeping.{Keeps}
+use Rattle.file_strip.specs.inner.Keeping.{Keeps}
 use Rattle.file_renumber.proofs.ListLemmas.{all-part}
 use Rattle.dex_base.proofs.ListFacts.{some_inj, all_weaker}
 

@@ -11,27 +11,29 @@ use Rattle.dex_container.specs.Layout.{size_of}
 use Rattle.dex_container.specs.Where.{At, AtOrNone}
 use Rattle.program_types.specs.Content.{Units, Class, Program, OfDesc}
 use Rattle.program_types.specs.Key.{text_key, proto_key}
-use Rattle.tables_names.specs.Closure.{Five, Holds, NameRanks}
-use Rattle.tables_names.specs.Indices.{AreIndices}
+use Rattle.tables_names.specs.Closure.{Five, NameRanks}
+use Rattle.tables_names.specs.inner.Closure.{Holds}
+use Rattle.tables_names.specs.inner.Indices.{AreIndices}
 use Rattle.tables_names.specs.Needed.{needed}
 use Rattle.tables_names.specs.Rank.{IsAt}
 use Rattle.tables_names.proofs.IndexLemmas.{closed_have_rows}
 use Rattle.tables_names.proofs.PlaceLemmas.{member_at}
-use Rattle.file_renumber.specs.Marked.{Columns}
-use Rattle.file_renumber.specs.Numbers.{IsKept, Carries}
+use Rattle.file_renumber.specs.inner.Marked.{Columns}
+use Rattle.file_renumber.specs.inner.Numbers.{IsKept, Carries}
 use Rattle.file_renumber.proofs.RankLemmas.{kept_protos_are_ranks, kept_rows_are_held, totals_are_lengths}
 use Rattle.tables_rows.specs.RowFields.{proto_parameters}
 use Rattle.tables_rows.specs.Stands.{NameStands, TypeStands, TypesAt, SpellsIndexes}
 use Rattle.file_layout.proofs.SectionLaws.{not_none}
-use Rattle.file_layout.specs.Sections.{is_empty_list}
-use Rattle.file_limits.specs.Wide.{list_values, params_of, wide_list}
+use Rattle.file_layout.specs.inner.Sections.{is_empty_list}
+use Rattle.file_limits.specs.Wide.{params_of, wide_list}
+use Rattle.file_limits.specs.inner.Wide.{list_values}
 use Rattle.file_needed.proofs.ClassNames.{interfaces_named}
-use Rattle.file_assemble.specs.Lists.{AddsIndices, SpellsRanks}
+use Rattle.file_assemble.specs.inner.Lists.{AddsIndices, SpellsRanks}
 use Rattle.file_assemble.proofs.RankedLists.{list_some, halves_push}
-use Rattle.file_strip.specs.Keeping.{Keeps}
-use Rattle.file_strip.specs.Lists.{AreCarriedLists, AreFirstLists, AreRanked, IsCarriedList}
-use Rattle.file_strip.specs.Moved.{IsItem}
-use Rattle.file_strip.specs.Words.{AreClassWords}
+use Rattle.file_strip.specs.inner.Keeping.{Keeps}
+use Rattle.file_strip.specs.inner.Lists.{AreCarriedLists, AreFirstLists, AreRanked, IsCarriedList}
+use Rattle.file_strip.specs.inner.Moved.{IsItem}
+use Rattle.file_strip.specs.inner.Words.{AreClassWords}
 use Rattle.file_strip.proofs.KeepLaws.{number_is, numbers_long, next_kept, next_not_kept, first_number, few_types, all_carried, class_holds}
 use Rattle.file_classes.proofs.EntryLaws.{entry_at}
 use Rattle.file_renumber.proofs.MarkLemmas.{all_held, types_stand, zip_at}

@@ -11,23 +11,25 @@ use Rattle.dex_container.specs.Layout.{size_of}
 use Rattle.file_classes.specs.ClassData.{Entries, FieldEntry, MethodEntry, SpellsFieldEntry, SpellsMethodEntry, EntriesAre, steps, index_of}
 use Rattle.file_classes.specs.Classes.{IsField, IsMethod, MembersAre}
 use Rattle.file_needed.proofs.ClassNames.{statics_named, instances_named, directs_kept, virtuals_kept}
-use Rattle.file_assemble.specs.Data.{FieldRanks, MethodRanks, code_offs}
-use Rattle.file_assemble.specs.Growing.{AddsFields, AddsMethods}
+use Rattle.file_assemble.specs.Data.{code_offs}
+use Rattle.file_assemble.specs.inner.Data.{FieldRanks, MethodRanks}
+use Rattle.file_assemble.specs.inner.Growing.{AddsFields, AddsMethods}
 use Rattle.file_assemble.proofs.RunLaws.{total, total_push, no_run, run_push}
 use Rattle.program_types.specs.Content.{Class, Descriptor, Member, Method, Name, Program}
 use Rattle.program_types.specs.Mentions.{field_of_class, names_of_method}
-use Rattle.tables_names.specs.Closure.{Five, Holds, NameRanks, method_of_class}
+use Rattle.tables_names.specs.Closure.{Five, NameRanks, method_of_class}
+use Rattle.tables_names.specs.inner.Closure.{Holds}
 use Rattle.tables_names.specs.Needed.{needed}
-use Rattle.file_renumber.specs.Marked.{Columns, IsColumn}
+use Rattle.file_renumber.specs.inner.Marked.{Columns, IsColumn}
 use Rattle.file_renumber.proofs.ColumnLemmas.{before_next}
 use Rattle.file_renumber.proofs.RankLemmas.{kept_rows_are_held}
-use Rattle.file_strip.specs.Keeping.{Keeps}
-use Rattle.file_strip.specs.Members.{AreCarriedMembers, IsCarriedRun}
+use Rattle.file_strip.specs.inner.Keeping.{Keeps}
+use Rattle.file_strip.specs.inner.Members.{AreCarriedMembers, IsCarriedRun}
 use Rattle.file_strip.proofs.KeepLaws.{number_is, numbers_long, numbers_rise, carried, class_holds}
 use Rattle.file_classes.proofs.EntryLaws.{entry_at}
 use Rattle.dex_base.proofs.ListFacts.{all_get, some_one}
 use Rattle.file_renumber.proofs.ListLemmas.{all-part}
-use Rattle.file_renumber.specs.Numbers.{Counts, IsKept}
+use Rattle.file_renumber.specs.inner.Numbers.{Counts, IsKept}
 
 -- ---- lists by index
 

@@ -2,11 +2,11 @@
 use Rattle.std.proofs.Common.{◌≡◌, ℕ, ◌<◌, Bool, true, false, nat_eq, List, [], ◌∷◌, length, refl, sym, subst, arith, Some, inl, inr}
 use Rattle.std.specs.Prelude.{MatchBool}
 use Rattle.std.specs.HashMap.{HashMap, IsEmpty, Updates}
-use Rattle.file_layout.specs.Sections.{IsItself, is_empty_list}
-use Rattle.file_layout.specs.OneMore.{Entry, HasItemAt, PutsOnce}
-use Rattle.file_layout.specs.Sharing.{UsesItem}
+use Rattle.file_layout.specs.inner.Sections.{IsItself, is_empty_list}
+use Rattle.file_layout.specs.inner.OneMore.{Entry, HasItemAt, PutsOnce}
+use Rattle.file_layout.specs.inner.Sharing.{UsesItem}
 use Rattle.tables_rows.proofs.CachedLaws.{cached_none, cached_more}
-use Rattle.file_strip.specs.Moved.{IsItem, IsPlaced, AreMoved}
+use Rattle.file_strip.specs.inner.Moved.{IsItem, IsPlaced, AreMoved}
 use Rattle.dex_base.proofs.ListFacts.{slice_left, get_last}
 
 -- no byte takes no item

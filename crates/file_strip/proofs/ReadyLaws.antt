@@ -7,27 +7,28 @@ use Rattle.dex_base.specs.Fields.{AreBytes}
 use Rattle.dex_base.specs.declared.fault.Fault.{Fault}
 use Rattle.code_put.specs.Fits.{CodeBreaksLimit, FitsCode, HandlerTooFar}
 use Rattle.dex_insn.specs.declared.opcode.IndexKind.TheVariants as kind
-use Rattle.file_assemble.specs.Assembled.{rows_of}
+use Rattle.file_assemble.specs.inner.Assembled.{rows_of}
 use Rattle.file_assemble.proofs.FitsLaws.{all_parts, after_tables, HasRoom, Room, room_by_parts}
 use Rattle.file_assemble.proofs.DataParts.{next}
-use Rattle.file_strip.specs.Keeping.{Keeps}
+use Rattle.file_strip.specs.inner.Keeping.{Keeps}
 use Rattle.file_read.proofs.RangeLaws.{well_formed}
-use Rattle.file_layout.specs.Plan.{tables_end}
-use Rattle.file_layout.specs.Sections.{wide_all, Laid}
+use Rattle.file_layout.specs.inner.Plan.{tables_end}
+use Rattle.file_layout.specs.Sections.{wide_all}
+use Rattle.file_layout.specs.inner.Sections.{Laid}
 use Rattle.file_layout.specs.declared.plan.Rows.{Rows}
-use Rattle.file_strip.specs.AtLeast.{FitsButHandlers}
+use Rattle.file_strip.specs.inner.AtLeast.{FitsButHandlers}
 use Rattle.file_strip.proofs.RowsFrom.{holds_at_least, no_further}
 use Rattle.file_strip.proofs.VainLaws.{class_fits, only_late}
 use Rattle.file_limits.specs.Limits as limits
 use Rattle.file_limits.specs.Limits.{BodyBreaks, ClassBreaksLimit, Fits, IsFirstToBreak, IsLowestLimit, LimitBreaks, TooBig, TooManyProtos, TooManyTypes, codes_of}
 use Rattle.file_limits.specs.Wide.{wide}
 use Rattle.file_read.specs.Means.{Means}
-use Rattle.file_strip.specs.Ready.{IsReady}
+use Rattle.file_strip.specs.inner.Ready.{IsReady}
 use Rattle.program_types.specs.Content.{Code, Name, Program}
 use Rattle.tables_names.specs.Closure.{NameRanks}
 use Rattle.tables_names.specs.Needed.{needed}
-use Rattle.file_renumber.specs.Marked.{Columns, Marked, AreMarks}
-use Rattle.file_renumber.specs.Numbers.{AreRowNumbers}
+use Rattle.file_renumber.specs.inner.Marked.{Columns, Marked, AreMarks}
+use Rattle.file_renumber.specs.inner.Numbers.{AreRowNumbers}
 
 -- ---- what is ready
 

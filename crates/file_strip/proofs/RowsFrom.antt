@@ -1,17 +1,19 @@
 -- Each file of a program has rows for the names that the program needs, none before its rank.
 use Rattle.std.proofs.Common.{ℕ, ◌≤◌, List, arith}
-use Rattle.tables_names.specs.Closure.{Five, Holds, NameRanks}
+use Rattle.tables_names.specs.Closure.{Five, NameRanks}
+use Rattle.tables_names.specs.inner.Closure.{Holds}
 use Rattle.tables_names.specs.Needed.{needed}
 use Rattle.tables_names.specs.Rank.{IsAt, Rising, rank_of}
 use Rattle.tables_names.proofs.NeededLemmas.{needed_is_least}
 use Rattle.tables_names.proofs.PlaceLemmas.{member_at, rank_at}
 use Rattle.program_types.specs.Content.{Name, OfDesc, OfField, OfMethod, OfText, Program}
 use Rattle.program_types.specs.Key.{Key, field_ref_key, method_ref_key, proto_key, text_key}
-use Rattle.tables_laws.specs.FileNames.{AreNoShorter, HaveRowsIn}
+use Rattle.tables_laws.specs.inner.FileNames.{AreNoShorter, HaveRowsIn}
 use Rattle.tables_laws.proofs.FileLemmas.{files_are_no_shorter, needed_has_rows}
 use Rattle.file_read.specs.Means.{Means}
 use Rattle.file_read.proofs.WellLaws.{program_rows}
-use Rattle.file_strip.specs.AtLeast.{AreNoFurther, HoldsAtLeast}
+use Rattle.file_strip.specs.AtLeast.{HoldsAtLeast}
+use Rattle.file_strip.specs.inner.AtLeast.{AreNoFurther}
 
 -- the index of a key is its rank
 after_rank : (set : List Key) (i j : ℕ) (k : Key) → Rising set → IsAt set i k → rank_of set k ≤ j → i ≤ j

@@ -6,12 +6,14 @@ use Rattle.file_classes.specs.ClassData.{Entries, EntriesAt}
 use Rattle.file_classes.specs.Classes.{MembersAre}
 use Rattle.file_classes.specs.ClassRows.{class_word}
 use Rattle.file_classes.proofs.EntryLaws.{entries_one}
-use Rattle.file_layout.specs.Sections.{Adds, AddsSome, Laid, Laying, wide_all}
+use Rattle.file_layout.specs.Sections.{wide_all}
+use Rattle.file_layout.specs.inner.Sections.{Adds, AddsSome, Laid, Laying}
 use Rattle.file_layout.proofs.SectionLaws.{gap_one, length-padded, Laying-start}
 use Rattle.file_layout.specs.Tiles.{gap, zeros}
-use Rattle.file_limits.specs.Wide.{body_values, wide_data}
-use Rattle.file_assemble.specs.Data.{PacksData, ClassWithCodes, has_no_members, method_count, with_code_places, wide_with_codes}
-use Rattle.file_assemble.specs.Placing.{items_with}
+use Rattle.file_limits.specs.Wide.{wide_data}
+use Rattle.file_limits.specs.inner.Wide.{body_values}
+use Rattle.file_assemble.specs.inner.Data.{PacksData, ClassWithCodes, has_no_members, method_count, with_code_places, wide_with_codes}
+use Rattle.file_assemble.specs.inner.Placing.{items_with}
 use Rattle.file_assemble.proofs.DataLengths.{data_length}
 use Rattle.file_assemble.proofs.LayingLaws.{one_more}
 use Rattle.file_assemble.proofs.SitedLaws.{length-sited, room_of_sited, rest_after}
@@ -19,10 +21,10 @@ use Rattle.file_assemble.proofs.SitedSteps.{sited_at, rest_next, rest_enough}
 use Rattle.program_types.specs.Content.{Class, Program}
 use Rattle.tables_names.specs.Closure.{Five, NameRanks}
 use Rattle.tables_names.specs.Needed.{needed}
-use Rattle.file_renumber.specs.Marked.{Columns}
-use Rattle.file_strip.specs.Keeping.{Keeps}
-use Rattle.file_strip.specs.Members.{AreCarriedMembers}
-use Rattle.file_strip.specs.Sites.{AddsClassData, HasRoom}
+use Rattle.file_renumber.specs.inner.Marked.{Columns}
+use Rattle.file_strip.specs.inner.Keeping.{Keeps}
+use Rattle.file_strip.specs.inner.Members.{AreCarriedMembers}
+use Rattle.file_strip.specs.inner.Sites.{AddsClassData, HasRoom}
 use Rattle.file_strip.proofs.MemberLaws.{members_carried}
 use Rattle.file_classes.proofs.EntryLaws.{entry_at}
 

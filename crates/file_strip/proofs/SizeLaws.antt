@@ -7,20 +7,21 @@ use Rattle.dex_base.specs.Grammar.{Each, Ended, Many}
 use Rattle.dex_base.specs.Mutf8.{SpellsUnit, mutf8_length, unit_bytes}
 use Rattle.dex_container.specs.Layout.{size_of}
 use Rattle.file_layout.specs.Sections.{wide_all}
-use Rattle.file_limits.specs.Sum.{IsSum}
-use Rattle.file_limits.specs.Wide.{wide_list, wide_proto, wide_string, wide_text}
+use Rattle.file_limits.specs.inner.Sum.{IsSum}
+use Rattle.file_limits.specs.Wide.{wide_list, wide_proto, wide_string}
+use Rattle.file_limits.specs.inner.Wide.{wide_text}
 use Rattle.file_limits.proofs.SumLaws.{Adds, wide_all_append}
 use Rattle.program_types.specs.Content.{Units, Program, OfText}
 use Rattle.program_types.specs.Key.{Key, text_key, proto_key}
 use Rattle.tables_names.specs.Needed.{needed}
 use Rattle.tables_names.specs.Rank.{IsAt}
-use Rattle.file_renumber.specs.Marked.{Columns, IsColumn}
-use Rattle.file_renumber.specs.Numbers.{Counts, HaveLengths, IsKept}
+use Rattle.file_renumber.specs.inner.Marked.{Columns, IsColumn}
+use Rattle.file_renumber.specs.inner.Numbers.{Counts, HaveLengths, IsKept}
 use Rattle.file_renumber.proofs.RankLemmas.{kept_rows_are_held, kept_protos_are_ranks, totals_are_lengths}
 use Rattle.tables_rows.specs.RowFields.{proto_parameters}
 use Rattle.tables_rows.specs.Stands.{StringStands, TypesAt}
-use Rattle.file_strip.specs.Keeping.{Keeps}
-use Rattle.file_strip.specs.Sizes.{IsFirstSum}
+use Rattle.file_strip.specs.inner.Keeping.{Keeps}
+use Rattle.file_strip.specs.inner.Sizes.{IsFirstSum}
 use Rattle.file_strip.proofs.KeepLaws.{number_is, numbers_long, next_kept, next_not_kept, first_number, carried}
 
 -- ---- a text

@@ -37,7 +37,7 @@ use Rattle.code_read.specs.Code.{SpellsBody, CodeStands}
 use Rattle.code_read.proofs.FaultLaws.{units-even}
 use Rattle.code_read.proofs.ItemLaws.{begins_late}
 use Rattle.code_put.specs.Fits.{short_name, ShortFits, distance_of, BranchFits, TargetsFit, OffsetsFit, IsEven, TryFits}
-use Rattle.file_strip.specs.AtLeast.{AreNoFurther, CodesFit, FitsButHandlers}
+use Rattle.file_strip.specs.inner.AtLeast.{AreNoFurther, CodesFit, FitsButHandlers}
 use Rattle.tables_names.specs.Closure.{Five, NameRanks}
 use Rattle.code_read.proofs.SaidLaws.{slice-bytes}
 use Rattle.code_read.proofs.CodesFormed.{leads-inside, count-most, not-below, from-at, u16-fits}

@@ -8,25 +8,26 @@ use Rattle.std.proofs.lemmas.Bool.{ne_eqb}
 use Rattle.dex_base.specs.Fields.{AreBytes}
 use Rattle.dex_value.specs.Standing.{ArrayStands}
 use Rattle.file_classes.specs.Classes.{StaticsAt}
-use Rattle.file_layout.specs.Sections.{is_empty_list}
-use Rattle.file_limits.specs.Wide.{array_values}
+use Rattle.file_layout.specs.inner.Sections.{is_empty_list}
+use Rattle.file_limits.specs.inner.Wide.{array_values}
 use Rattle.file_needed.proofs.ClassNames.{values_kept}
-use Rattle.file_assemble.specs.Arrays.{WritesArray}
+use Rattle.file_assemble.specs.inner.Arrays.{WritesArray}
 use Rattle.file_assemble.proofs.RankedArrays.{array_some}
-use Rattle.file_layout.specs.OneMore.{Entry}
-use Rattle.file_layout.specs.Sharing.{UsesItem}
+use Rattle.file_layout.specs.inner.OneMore.{Entry}
+use Rattle.file_layout.specs.inner.Sharing.{UsesItem}
 use Rattle.program_types.specs.Content.{Name, OfField, Class, Program, Value, Values, Named, Enum, Array, no_values, more_values, values}
 use Rattle.program_types.specs.Mentions.{NamesHold, AllNamesHold, names_of_value, names_of_values}
-use Rattle.tables_names.specs.Closure.{Five, Holds, NameRanks}
+use Rattle.tables_names.specs.Closure.{Five, NameRanks}
+use Rattle.tables_names.specs.inner.Closure.{Holds}
 use Rattle.tables_names.specs.Needed.{needed}
-use Rattle.file_renumber.specs.Marked.{Columns}
-use Rattle.file_renumber.specs.Numbers.{Carries}
+use Rattle.file_renumber.specs.inner.Marked.{Columns}
+use Rattle.file_renumber.specs.inner.Numbers.{Carries}
 use Rattle.tables_rows.specs.Stands.{NameStands}
-use Rattle.file_renumber.specs.CarriedArrays.{IsCarriedArray, IsItemOf}
-use Rattle.file_strip.specs.Keeping.{Keeps}
-use Rattle.file_strip.specs.Moved.{IsItem}
-use Rattle.file_strip.specs.Statics.{AreCarriedStatics, IsCarriedStatics}
-use Rattle.file_strip.specs.Words.{AreClassWords}
+use Rattle.file_renumber.specs.inner.CarriedArrays.{IsCarriedArray, IsItemOf}
+use Rattle.file_strip.specs.inner.Keeping.{Keeps}
+use Rattle.file_strip.specs.inner.Moved.{IsItem}
+use Rattle.file_strip.specs.inner.Statics.{AreCarriedStatics, IsCarriedStatics}
+use Rattle.file_strip.specs.inner.Words.{AreClassWords}
 use Rattle.file_strip.proofs.KeepLaws.{carried, class_holds}
 use Rattle.file_strip.proofs.ListLaws.{zip_of}
 use Rattle.dex_base.proofs.ListFacts.{all_front, all_back}

@@ -7,23 +7,23 @@ use Rattle.dex_base.specs.Grammar.{Appends}
 use Rattle.dex_base.specs.Words.{words_bytes}
 use Rattle.dex_base.proofs.GrammarLaws.{Each-push}
 use Rattle.dex_container.specs.Layout.{size_of}
-use Rattle.file_assemble.specs.Rows.{SpellsFieldRow, SpellsMethodRow, SpellsProtoRow, SpellsProtos, SpellsTable, SpellsTypeRow}
+use Rattle.file_assemble.specs.inner.Rows.{SpellsFieldRow, SpellsMethodRow, SpellsProtoRow, SpellsProtos, SpellsTable, SpellsTypeRow}
 use Rattle.program_types.specs.Content.{Units, Proto, FieldRef, MethodRef, Program, OfText, OfDesc, OfField, OfMethod}
 use Rattle.program_types.specs.Key.{Key, text_key, proto_key, field_ref_key, method_ref_key}
 use Rattle.program_types.specs.Shorty.{shorty}
 use Rattle.tables_names.specs.Closure.{Five}
-use Rattle.tables_names.specs.Indices.{AreIndices, HasRank, HaveRows}
+use Rattle.tables_names.specs.inner.Indices.{AreIndices, HasRank, HaveRows}
 use Rattle.tables_names.specs.Needed.{needed}
 use Rattle.tables_names.specs.Rank.{IsAt}
 use Rattle.tables_names.proofs.IndexLemmas.{closed_have_rows}
 use Rattle.tables_names.proofs.PlaceLemmas.{member_at}
-use Rattle.file_renumber.specs.Marked.{Columns, IsColumn}
-use Rattle.file_renumber.specs.Numbers.{Counts, IsKept}
+use Rattle.file_renumber.specs.inner.Marked.{Columns, IsColumn}
+use Rattle.file_renumber.specs.inner.Numbers.{Counts, IsKept}
 use Rattle.file_renumber.proofs.RankLemmas.{kept_rows_are_held, kept_protos_are_ranks}
 use Rattle.tables_rows.specs.Stands.{StringStands, TypeStands, ProtoStands}
 use Rattle.tables_rows.specs.RowFields.{type_string, proto_shorty, proto_return, member_class, member_kind, member_name}
-use Rattle.file_strip.specs.Keeping.{Keeps}
-use Rattle.file_strip.specs.Tables.{AreFirstProtos, AreFirstRows}
+use Rattle.file_strip.specs.inner.Keeping.{Keeps}
+use Rattle.file_strip.specs.inner.Tables.{AreFirstProtos, AreFirstRows}
 use Rattle.dex_base.proofs.ListFacts.{some_one}
 use Rattle.file_strip.proofs.KeepLaws.{number_is, next_kept, next_not_kept, first_number, carried}
 

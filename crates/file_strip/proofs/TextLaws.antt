@@ -16,21 +16,21 @@ use Rattle.dex_base.proofs.TextLaws.{packed_length}
 use Rattle.dex_container.specs.Layout.{size_of}
 use Rattle.dex_container.specs.Where.{slice, At, IsSectionOf}
 use Rattle.dex_container.specs.declared.section.Section.{Section}
-use Rattle.file_layout.specs.Sections.{Adds, Laying, never}
+use Rattle.file_layout.specs.inner.Sections.{Adds, Laying, never}
 use Rattle.file_layout.proofs.SectionLaws.{Laying-start, Laying-more, gap_one, unpadded}
-use Rattle.file_limits.specs.Wide.{text_values, wide_text}
+use Rattle.file_limits.specs.inner.Wide.{text_values, wide_text}
 use Rattle.file_assemble.proofs.LengthLaws.{text_some}
 use Rattle.program_types.specs.Content.{Units, Program, OfText}
 use Rattle.program_types.specs.Key.{Key, text_key}
 use Rattle.tables_names.specs.Needed.{needed}
 use Rattle.tables_names.specs.Rows.{first_of}
 use Rattle.tables_names.proofs.PlaceLemmas.{member_at}
-use Rattle.file_renumber.specs.Marked.{Columns}
-use Rattle.file_renumber.specs.Numbers.{IsKept}
+use Rattle.file_renumber.specs.inner.Marked.{Columns}
+use Rattle.file_renumber.specs.inner.Numbers.{IsKept}
 use Rattle.file_renumber.proofs.RankLemmas.{kept_rows_are_held, totals_are_lengths}
 use Rattle.tables_rows.specs.Stands.{StringStands}
-use Rattle.file_strip.specs.Keeping.{Keeps}
-use Rattle.file_strip.specs.Texts.{AreFirstTexts}
+use Rattle.file_strip.specs.inner.Keeping.{Keeps}
+use Rattle.file_strip.specs.inner.Texts.{AreFirstTexts}
 use Rattle.file_strip.proofs.KeepLaws.{number_is, numbers_long, next_kept, next_not_kept, first_number, carried}
 use Rattle.code_put.proofs.ListLaws.{all-at}
 use Rattle.dex_base.proofs.ListFacts.{all_append}

@@ -17,7 +17,7 @@ use Rattle.tables_names.specs.Needed.{needed}
 use Rattle.program_types.specs.Content.{Class, Code, Method, Name, Program, Units}
 use Rattle.file_read.specs.Means.{Means}
 use Rattle.file_read.proofs.WellLaws.{run_entry}
-use Rattle.file_strip.specs.AtLeast.{AreNoFurther, FitsButHandlers}
+use Rattle.file_strip.specs.inner.AtLeast.{AreNoFurther, FitsButHandlers}
 use Rattle.file_strip.proofs.RowsFrom.{holds_at_least, no_further}
 use Rattle.file_strip.proofs.StandingFits.{standing-fits}
 use Rattle.dex_base.proofs.ListFacts.{all_append, all_get, all_there}

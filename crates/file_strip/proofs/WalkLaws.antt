@@ -8,7 +8,7 @@ use Rattle.std.proofs.lemmas.Option.{get_or_from_slice_get, slice_get_within}
 use Rattle.dex_insn.specs.declared.opcode.IndexKind.TheVariants as kind
 use Rattle.program_types.specs.Content.{Name, OfMethod, Units, Member, Method}
 use Rattle.program_types.specs.Mentions.{field_of_class, names_of_method}
-use Rattle.file_renumber.specs.Marked.{AddsNames, HasMarks, IsRowOf, Marked}
+use Rattle.file_renumber.specs.inner.Marked.{AddsNames, HasMarks, IsRowOf, Marked}
 use Rattle.file_renumber.proofs.MarkLemmas.{adds_more}
 use Rattle.file_layout.specs.Sections.{wide_all}
 use Rattle.file_limits.specs.Wide.{bodies_in, wide_body}
@@ -17,10 +17,10 @@ use Rattle.file_classes.specs.ClassData.{FieldEntry, MethodEntry, EntriesAre, in
 use Rattle.file_classes.specs.Classes.{IsField, IsMethod}
 use Rattle.file_classes.specs.declared.class_data.FieldEntry.{FieldEntry as Field}
 use Rattle.file_classes.specs.declared.class_data.MethodEntry.{MethodEntry as Entry}
-use Rattle.file_classes.specs.Reading.{field_entry, method_entry}
+use Rattle.file_classes.specs.inner.Reading.{field_entry, method_entry}
 use Rattle.file_classes.proofs.EntryLaws.{entry_at}
 use Rattle.file_classes.proofs.MemberLaws.{next_index, there}
-use Rattle.file_strip.specs.Survey.{FindsNames}
+use Rattle.file_strip.specs.inner.Survey.{FindsNames}
 use Rattle.file_strip.specs.declared.survey.Surveyed.{Surveyed}
 use Rattle.file_strip.proofs.FoundLaws.{finds_more}
 

@@ -1,16 +1,2 @@
 pub mod AtLeast
-pub mod Words
-pub mod Keeping
-pub mod Moved
-pub mod Lists
-pub mod Statics
-pub mod Texts
-pub mod Tables
-pub mod Names
-pub mod ClassRow
-pub mod Members
-pub mod Sites
-pub mod Sizes
-pub mod Bodies
-pub mod Ready
-pub mod Survey
+pub mod inner

@@ -5,13 +5,13 @@ ghost use Rattle.dex_base.specs.Grammar.{Appends, Each};
 ghost use Rattle.dex_container.specs.Layout.{size_of};
 ghost use Rattle.dex_container.specs.Section as section;
 ghost use Rattle.file_classes.specs.ClassRows.{IndexOrNone};
-ghost use Rattle.file_assemble.specs.ClassDefs.{SpellsClassRow, StringRanks, TypeRanks, with_places};
+ghost use Rattle.file_assemble.specs.inner.ClassDefs.{SpellsClassRow, StringRanks, TypeRanks, with_places};
 ghost use Rattle.program_types.specs.Content.{Program, Units};
 ghost use Rattle.tables_names.specs.Closure.{Five};
 ghost use Rattle.tables_names.specs.Needed.{needed};
-ghost use Rattle.file_strip.specs.Keeping.{Keeps};
-ghost use Rattle.file_strip.specs.Names.{StringOrNone, TypeOrNone};
-ghost use Rattle.file_strip.specs.ClassRow.{IsRowWithPlaces};
+ghost use Rattle.file_strip.specs.inner.Keeping.{Keeps};
+ghost use Rattle.file_strip.specs.inner.Names.{StringOrNone, TypeOrNone};
+ghost use Rattle.file_strip.specs.inner.ClassRow.{IsRowWithPlaces};
 
 use dex_base::{Fault, push_words};
 use dex_container::Sections;

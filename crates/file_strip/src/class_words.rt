@@ -1,7 +1,7 @@
 //! The rows of class_defs, word by word ("class_def_item").
 ghost use Rattle.std.specs.Prelude.{◌<◌, IfOk, IsOkUnless};
 ghost use Rattle.dex_base.specs.Fault.{memory};
-ghost use Rattle.file_strip.specs.Words.{AreClassWords};
+ghost use Rattle.file_strip.specs.inner.Words.{AreClassWords};
 
 use dex_base::Fault;
 use dex_container::Sections;

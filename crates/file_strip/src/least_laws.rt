@@ -8,7 +8,8 @@ ghost use Rattle.file_read.specs.Means.{Means};
 ghost use Rattle.file_limits.specs.Limits.{IsLowestLimit};
 ghost use Rattle.tables_names.specs.Needed.{needed};
 ghost use Rattle.program_types.specs.Content.{Program};
-ghost use Rattle.file_strip.specs.AtLeast.{HoldsAtLeast, CodesFit};
+ghost use Rattle.file_strip.specs.AtLeast.{HoldsAtLeast};
+ghost use Rattle.file_strip.specs.inner.AtLeast.{CodesFit};
 
 /// Each file of a program has a row for every name that the program needs, at its rank among them or after it; so no table is shorter
 /// than the list of the needed names of its kind.

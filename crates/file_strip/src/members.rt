@@ -5,12 +5,12 @@ ghost use Rattle.std.specs.List.{flat_map};
 ghost use Rattle.dex_base.specs.Fault.{memory};
 ghost use Rattle.program_types.specs.Content.{Code};
 ghost use Rattle.program_types.specs.Mentions.{if_any, field_of_class, names_of_code, names_of_method};
-ghost use Rattle.file_renumber.specs.Marked.{HasMarks, AddsNames};
+ghost use Rattle.file_renumber.specs.inner.Marked.{HasMarks, AddsNames};
 ghost use Rattle.file_layout.specs.Sections.{wide_all};
-ghost use Rattle.file_limits.specs.Sum.{IsSum};
+ghost use Rattle.file_limits.specs.inner.Sum.{IsSum};
 ghost use Rattle.file_limits.specs.Wide.{bodies_in, wide_body};
 ghost use Rattle.file_classes.specs.Classes.{CodeAt};
-ghost use Rattle.file_strip.specs.Survey.{FindsNames, HasFields, HasFound, HasMethods};
+ghost use Rattle.file_strip.specs.inner.Survey.{FindsNames, HasFields, HasFound, HasMethods};
 
 use crate::survey::Surveyed;
 use dex_base::Fault;

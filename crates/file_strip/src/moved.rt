@@ -3,8 +3,8 @@
 ghost use Rattle.std.specs.Prelude.{◌≡◌, ◌+◌, ◌<◌, ◌^◌, [], nat_eq, Some, IfOk, IfSome, IsOkUnless, length};
 ghost use Rattle.dex_base.specs.Fault.{memory};
 ghost use Rattle.std.specs.HashMap.{IsEmpty, Updates, get};
-ghost use Rattle.file_layout.specs.Sections.{IsItself, is_empty_list};
-ghost use Rattle.file_layout.specs.Sharing.{UsesItem};
+ghost use Rattle.file_layout.specs.inner.Sections.{IsItself, is_empty_list};
+ghost use Rattle.file_layout.specs.inner.Sharing.{UsesItem};
 
 use dex_base::{Fault, Seed};
 use file_layout::Items;

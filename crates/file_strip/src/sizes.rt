@@ -4,13 +4,14 @@ ghost use Rattle.dex_container.specs.Layout.{size_of};
 ghost use Rattle.dex_container.specs.Section as section;
 ghost use Rattle.dex_container.specs.Where.{IsSectionOf};
 ghost use Rattle.file_layout.specs.Sections.{wide_all};
-ghost use Rattle.file_limits.specs.Sum.{IsSum};
-ghost use Rattle.file_limits.specs.Wide.{wide_list, wide_names, wide_proto, wide_string, wide_text};
+ghost use Rattle.file_limits.specs.inner.Sum.{IsSum};
+ghost use Rattle.file_limits.specs.Wide.{wide_list, wide_names, wide_proto, wide_string};
+ghost use Rattle.file_limits.specs.inner.Wide.{wide_text};
 ghost use Rattle.program_types.specs.Content.{Program, Units};
 ghost use Rattle.tables_names.specs.Needed.{needed};
 ghost use Rattle.tables_rows.specs.Stands.{StringStands, TypesAt};
-ghost use Rattle.file_strip.specs.Keeping.{Keeps};
-ghost use Rattle.file_strip.specs.Sizes.{IsFirstSum};
+ghost use Rattle.file_strip.specs.inner.Keeping.{Keeps};
+ghost use Rattle.file_strip.specs.inner.Sizes.{IsFirstSum};
 
 use crate::texts::{text_at, units_of};
 use dex_base::read_uleb;

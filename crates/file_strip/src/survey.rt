@@ -10,14 +10,14 @@ ghost use Rattle.program_types.specs.Content.{Class, OfDesc, OfText, Program, Un
 ghost use Rattle.program_types.specs.Mentions.{if_any, names_of_class, names_of_value};
 ghost use Rattle.tables_rows.specs.Names.{AreRows};
 ghost use Rattle.tables_rows.specs.Stands.{StringStands, TypeStands};
-ghost use Rattle.file_renumber.specs.Marked.{AddsNames, HasMarks};
+ghost use Rattle.file_renumber.specs.inner.Marked.{AddsNames, HasMarks};
 ghost use Rattle.dex_value.specs.Wide.{wide_values};
-ghost use Rattle.file_limits.specs.Sum.{IsSum};
+ghost use Rattle.file_limits.specs.inner.Sum.{IsSum};
 ghost use Rattle.file_limits.specs.Wide.{wide_class};
 ghost use Rattle.file_classes.specs.ClassRows.{IndexOrNone};
 ghost use Rattle.file_classes.specs.Classes.{SpellsClass, StaticsAt};
-ghost use Rattle.file_strip.specs.Survey.{FindsNames, HasFound, IsSurvey, SpellsMembers, names_of_head, names_of_members, wide_members};
-ghost use Rattle.file_classes.specs.Reading.{entries};
+ghost use Rattle.file_strip.specs.inner.Survey.{FindsNames, HasFound, IsSurvey, SpellsMembers, names_of_head, names_of_members, wide_members};
+ghost use Rattle.file_classes.specs.inner.Reading.{entries};
 
 use crate::members::{look_at_methods, mark_fields};
 use crate::sizes::list_size;

@@ -5,12 +5,12 @@ ghost use Rattle.dex_base.specs.Fields.{u16_bytes, u32_bytes};
 ghost use Rattle.dex_base.specs.Grammar.{Appends};
 ghost use Rattle.dex_container.specs.Layout.{size_of};
 ghost use Rattle.dex_container.specs.Section as section;
-ghost use Rattle.file_assemble.specs.Rows.{SpellsFieldRow, SpellsMethodRow, SpellsProtos, SpellsRows, SpellsTable, SpellsTypeRow};
+ghost use Rattle.file_assemble.specs.inner.Rows.{SpellsFieldRow, SpellsMethodRow, SpellsProtos, SpellsRows, SpellsTable, SpellsTypeRow};
 ghost use Rattle.program_types.specs.Content.{Program};
 ghost use Rattle.program_types.specs.Key.{field_ref_key, method_ref_key, text_key};
 ghost use Rattle.tables_names.specs.Needed.{needed};
-ghost use Rattle.file_strip.specs.Keeping.{Keeps};
-ghost use Rattle.file_strip.specs.Tables.{AreFirstProtos, AreFirstRows};
+ghost use Rattle.file_strip.specs.inner.Keeping.{Keeps};
+ghost use Rattle.file_strip.specs.inner.Tables.{AreFirstProtos, AreFirstRows};
 
 use dex_base::{Fault, push_words};
 use dex_container::{Sections, kind};

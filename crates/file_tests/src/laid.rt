@@ -1,7 +1,7 @@
 //! Files laid by hand: their data and their rows in, the finished file out.
 
 ghost use Rattle.std.specs.Prelude.{◌≡◌};
-ghost use Rattle.file_layout.specs.Plan.{IsPlanned, tables_end};
+ghost use Rattle.file_layout.specs.inner.Plan.{IsPlanned, tables_end};
 
 use dex_base::Fault;
 use dex_samples::{Case, ONE_CLASS, WITHOUT_CLASSES, all_hold};

@@ -8,15 +8,16 @@ use Rattle.code_read.specs.Code.{SpellsCode, CodeStands}
 use Rattle.code_read.proofs.CarryLaws.{SpellsCode-weaker}
 use Rattle.code_put.proofs.PackedLaws.{packed-spells}
 use Rattle.file_layout.specs.declared.plan.Part.{Part}
-use Rattle.file_layout.specs.Parts.{HasPart}
-use Rattle.file_layout.specs.Tiles.{Among, Lays, Refers, gap}
+use Rattle.file_layout.specs.inner.Parts.{HasPart}
+use Rattle.file_layout.specs.Tiles.{Among, gap}
+use Rattle.file_layout.specs.inner.Tiles.{Lays, Refers}
 use Rattle.file_layout.proofs.StandLaws.{at_item, even_four}
 use Rattle.file_limits.specs.Wide.{bodies_in}
 use Rattle.tables_names.specs.Closure.{Five, NameRanks}
 use Rattle.program_types.specs.Content.{Name, Code, Method}
-use Rattle.file_assemble.specs.Codes.{PacksBody, is_bodiless}
+use Rattle.file_assemble.specs.inner.Codes.{PacksBody, is_bodiless}
 use Rattle.file_assemble.specs.Data.{code_offs}
-use Rattle.file_assemble.specs.Named.{BodyCanBePut}
+use Rattle.file_assemble.specs.inner.Named.{BodyCanBePut}
 use Rattle.tables_rows.specs.Stands.{NameStands}
 
 -- the bytes are a code_item of the body, if there is one

@@ -3,29 +3,31 @@ use Rattle.std.proofs.Common.{◌≡◌, ℕ, ◌+◌, ◌<◌, List, ◌++◌, 
 use Rattle.std.proofs.lemmas.List.{length-map}
 use Rattle.std.proofs.lemmas.Option.{slice_get-map}
 use Rattle.std.specs.List.{AllZip}
-use Rattle.file_assemble.specs.Assembled.{Assembled}
+use Rattle.file_assemble.specs.inner.Assembled.{Assembled}
 use Rattle.file_assemble.proofs.FitsLaws.{room_of}
 use Rattle.file_assemble.proofs.ReadyLaws.{class_can}
 use Rattle.file_classes.specs.ClassData.{EntriesAt}
 use Rattle.file_classes.specs.ClassRows.{InOrder, class_word}
 use Rattle.file_classes.specs.Classes.{CodeAt, SpellsClass, StaticsAt}
 use Rattle.file_classes.proofs.EntryLaws.{entry_at}
-use Rattle.file_assemble.specs.ClassDefs.{TypeRanks}
+use Rattle.file_assemble.specs.inner.ClassDefs.{TypeRanks}
 use Rattle.dex_container.specs.Layout.{size_of}
 use Rattle.file_read.specs.Means.{Means}
-use Rattle.file_layout.specs.Sections.{is_empty_list}
-use Rattle.file_layout.specs.Tiles.{Refers}
+use Rattle.file_layout.specs.inner.Sections.{is_empty_list}
+use Rattle.file_layout.specs.inner.Tiles.{Refers}
 use Rattle.file_layout.proofs.FrameLaws.{arrays_part, codes_part, datas_part}
 use Rattle.file_layout.proofs.StandLaws.{zip_at}
 use Rattle.file_limits.specs.Limits.{Fits}
-use Rattle.file_limits.specs.Wide.{array_values, bodies_in, bodies_of, body_values}
+use Rattle.file_limits.specs.Wide.{bodies_in, bodies_of}
+use Rattle.file_limits.specs.inner.Wide.{array_values, body_values}
 use Rattle.tables_names.specs.Closure.{NameRanks}
 use Rattle.tables_names.specs.Needed.{needed}
 use Rattle.program_types.specs.Content.{Class, Name, Program}
 use Rattle.program_rules.specs.WellFormed.{WellFormed}
-use Rattle.file_assemble.specs.Codes.{is_bodiless}
-use Rattle.file_assemble.specs.Data.{code_offs, has_no_members, method_count, with_code_places}
-use Rattle.file_assemble.specs.Named.{BodyCanBePut}
+use Rattle.file_assemble.specs.inner.Codes.{is_bodiless}
+use Rattle.file_assemble.specs.Data.{code_offs}
+use Rattle.file_assemble.specs.inner.Data.{has_no_members, method_count, with_code_places}
+use Rattle.file_assemble.specs.inner.Named.{BodyCanBePut}
 use Rattle.file_assemble.proofs.SitedLaws.{count_of_bodies, rest_after}
 use Rattle.tables_rows.specs.Names.{AreRows}
 use Rattle.tables_rows.specs.Stands.{NameStands}

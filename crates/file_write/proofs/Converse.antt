@@ -13,7 +13,7 @@ use Rattle.dex_container.specs.Where.{At, slice}
 use Rattle.dex_value.specs.Spelling.{SpellsArray}
 use Rattle.dex_value.specs.Wide.{wide_array}
 use Rattle.dex_value.proofs.Lengths.{SpellsArray-most}
-use Rattle.file_assemble.specs.Assembled.{Assembled, DataLies, Places, SpellsTables, StandOnce, rows_of}
+use Rattle.file_assemble.specs.inner.Assembled.{Assembled, DataLies, Places, SpellsTables, StandOnce, rows_of}
 use Rattle.file_assemble.proofs.OnceLaws.{datas_shared}
 use Rattle.file_classes.specs.ClassData.{Entries}
 use Rattle.file_classes.specs.ClassRows.{class_data_off, interfaces_off, static_values_off}
@@ -21,20 +21,22 @@ use Rattle.file_classes.specs.Classes.{CodeAt, CodesAre, MembersAre}
 use Rattle.file_classes.proofs.EntryLaws.{entries_one}
 use Rattle.file_read.proofs.RangeLaws.{well_formed}
 use Rattle.file_layout.specs.declared.plan.Plan.{Plan}
-use Rattle.file_layout.specs.Plan.{IsPlanned, IsWritten, spans_of, tables_end}
-use Rattle.file_layout.specs.Sections.{is_empty_list, never}
-use Rattle.file_layout.specs.Spans.{has_items}
+use Rattle.file_layout.specs.inner.Plan.{IsPlanned, IsWritten, spans_of, tables_end}
+use Rattle.file_layout.specs.inner.Sections.{is_empty_list, never}
+use Rattle.file_layout.specs.inner.Spans.{has_items}
 use Rattle.file_layout.specs.Tiles.{gap}
 use Rattle.file_layout.proofs.PartLaws.{length_slice, slice_more}
 use Rattle.file_layout.proofs.TileLaws.{Tiles-le}
-use Rattle.file_limits.specs.Wide.{array_values, bodies_in, bodies_of, body_values, list_values, params_of, text_values, wide_body, wide_list, wide_of, wide_text}
+use Rattle.file_limits.specs.Wide.{bodies_in, bodies_of, params_of, wide_body, wide_list, wide_of}
+use Rattle.file_limits.specs.inner.Wide.{array_values, body_values, list_values, text_values, wide_text}
 use Rattle.file_limits.proofs.PartLaws.{by_parts}
 use Rattle.file_read.specs.Means.{Means}
-use Rattle.file_assemble.specs.ClassDefs.{SpellsClassRow, with_places}
-use Rattle.file_assemble.specs.Rows.{SpellsRows}
-use Rattle.file_assemble.specs.Codes.{PacksBody, is_bodiless}
-use Rattle.file_assemble.specs.Data.{PacksData, ClassWithCodes, code_offs, has_no_members, method_count, with_code_places, wide_with_codes}
-use Rattle.file_assemble.specs.Lists.{SpellsRanks}
+use Rattle.file_assemble.specs.inner.ClassDefs.{SpellsClassRow, with_places}
+use Rattle.file_assemble.specs.inner.Rows.{SpellsRows}
+use Rattle.file_assemble.specs.inner.Codes.{PacksBody, is_bodiless}
+use Rattle.file_assemble.specs.Data.{code_offs}
+use Rattle.file_assemble.specs.inner.Data.{PacksData, ClassWithCodes, has_no_members, method_count, with_code_places, wide_with_codes}
+use Rattle.file_assemble.specs.inner.Lists.{SpellsRanks}
 use Rattle.file_assemble.proofs.OneBody.{packed_room}
 use Rattle.file_assemble.proofs.DataLengths.{data_length}
 use Rattle.file_assemble.proofs.RankedLists.{gap_four, list_most}

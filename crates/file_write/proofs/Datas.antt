@@ -7,13 +7,15 @@ use Rattle.file_classes.specs.Classes.{IsField, IsMethod, MembersAre}
 use Rattle.file_classes.proofs.StaticsLaws.{at_none, at_other}
 use Rattle.dex_container.specs.Where.{At}
 use Rattle.file_layout.specs.declared.plan.Part.{Part}
-use Rattle.file_layout.specs.Parts.{HasPart}
-use Rattle.file_layout.specs.Sections.{is_empty_list}
-use Rattle.file_layout.specs.Tiles.{Among, Lays, Refers}
+use Rattle.file_layout.specs.inner.Parts.{HasPart}
+use Rattle.file_layout.specs.inner.Sections.{is_empty_list}
+use Rattle.file_layout.specs.Tiles.{Among}
+use Rattle.file_layout.specs.inner.Tiles.{Lays, Refers}
 use Rattle.file_layout.proofs.StandLaws.{at_item, even_one}
 use Rattle.tables_names.specs.Closure.{Five, NameRanks}
 use Rattle.program_types.specs.Content.{Name}
-use Rattle.file_assemble.specs.Data.{PacksData, ClassWithCodes, code_offs, has_no_members, method_count}
+use Rattle.file_assemble.specs.Data.{code_offs}
+use Rattle.file_assemble.specs.inner.Data.{PacksData, ClassWithCodes, has_no_members, method_count}
 use Rattle.tables_rows.specs.Stands.{NameStands}
 use Rattle.file_write.proofs.Members.{empty_run, entries_spelled, members_stand}
 use Rattle.std.proofs.lemmas.Bool.{and_parts}

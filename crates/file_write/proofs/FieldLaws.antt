@@ -8,8 +8,9 @@ use Rattle.dex_base.specs.Words.{words_bytes}
 use Rattle.dex_base.proofs.FieldBounds.{u16_at-drop, u16_at-front, u16_at-take, u32_at-append, u32_at-bytes, u32_at-drop, u32_at-front, u32_at-take}
 use Rattle.dex_base.proofs.WordsBytes.{u32_at-words}
 use Rattle.dex_container.specs.Where.{slice}
-use Rattle.file_layout.specs.Sections.{never}
-use Rattle.file_layout.specs.Tiles.{Among, Refers}
+use Rattle.file_layout.specs.inner.Sections.{never}
+use Rattle.file_layout.specs.Tiles.{Among}
+use Rattle.file_layout.specs.inner.Tiles.{Refers}
 use Rattle.file_layout.proofs.FinishLaws.{row_u16, row_u32}
 
 -- ---- where a field stands

@@ -4,7 +4,7 @@ use Rattle.std.proofs.lemmas.List.{take-append-drop, nil_from_length}
 use Rattle.std.proofs.lemmas.Option.{slice_get-get_or}
 use Rattle.std.specs.Prelude.{if◌then◌else◌, ◌==◌}
 use Rattle.std.specs.List.{flat_map}
-use Rattle.file_assemble.specs.Assembled.{Assembled}
+use Rattle.file_assemble.specs.inner.Assembled.{Assembled}
 use Rattle.file_assemble.proofs.AssembledLaws.{array_count, data_count, list_count, text_count}
 use Rattle.dex_base.specs.Mutf8.{PacksText}
 use Rattle.dex_base.specs.Leb128.{Shortest}
@@ -12,22 +12,24 @@ use Rattle.file_classes.specs.ClassData.{Entries, EntriesAt}
 use Rattle.file_classes.specs.ClassRows.{class_word}
 use Rattle.file_classes.proofs.EntryLaws.{entry_at}
 use Rattle.dex_container.specs.Layout.{data_begin, offset_of, size_of}
-use Rattle.file_layout.specs.Header.{HasHeader}
-use Rattle.file_layout.specs.Plan.{class_defs_begin, field_ids_begin, method_ids_begin, proto_ids_begin, table_offset, type_ids_begin}
-use Rattle.file_layout.specs.Sections.{is_empty_list, never}
-use Rattle.file_layout.specs.Tiles.{IsNext, Refers}
+use Rattle.file_layout.specs.inner.Header.{HasHeader}
+use Rattle.file_layout.specs.inner.Plan.{class_defs_begin, field_ids_begin, method_ids_begin, proto_ids_begin, table_offset, type_ids_begin}
+use Rattle.file_layout.specs.inner.Sections.{is_empty_list, never}
+use Rattle.file_layout.specs.Tiles.{IsNext}
+use Rattle.file_layout.specs.inner.Tiles.{Refers}
 use Rattle.file_layout.proofs.FrameLaws.{arrays_part, codes_part, data_end_is, datas_part, header_of, kinds_known, lists_part, strings_part}
 use Rattle.file_limits.specs.Limits.{Fits}
-use Rattle.file_limits.specs.Wide.{array_values, bodies_of, body_values, list_values, text_values}
+use Rattle.file_limits.specs.Wide.{bodies_of}
+use Rattle.file_limits.specs.inner.Wide.{array_values, body_values, list_values, text_values}
 use Rattle.tables_names.specs.Closure.{NameRanks}
 use Rattle.tables_names.specs.Needed.{needed}
 use Rattle.tables_names.specs.Rank.{IsAt}
 use Rattle.program_types.specs.Content.{Class, Program, Proto, Value}
 use Rattle.program_types.specs.Key.{proto_key}
 use Rattle.program_rules.specs.WellFormed.{WellFormed}
-use Rattle.file_assemble.specs.Codes.{PacksBody, is_bodiless}
-use Rattle.file_assemble.specs.Data.{PacksData, has_no_members, method_count, with_code_places}
-use Rattle.file_assemble.specs.Lists.{SpellsRanks}
+use Rattle.file_assemble.specs.inner.Codes.{PacksBody, is_bodiless}
+use Rattle.file_assemble.specs.inner.Data.{PacksData, has_no_members, method_count, with_code_places}
+use Rattle.file_assemble.specs.inner.Lists.{SpellsRanks}
 use Rattle.file_assemble.proofs.SitedLaws.{count_of_bodies, rest_after}
 use Rattle.tables_rows.specs.RowFields.{proto_parameters, string_place}
 use Rattle.dex_value.specs.Spelling.{SpellsArray}

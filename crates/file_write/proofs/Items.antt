@@ -3,7 +3,8 @@ use Rattle.std.proofs.Common.{◌≡◌, ◌≢◌, ℕ, suc, ◌<◌, Bool, tru
 use Rattle.std.specs.Prelude.{MatchBool, ◌==◌, ◌||◌, if◌then◌else◌}
 use Rattle.std.specs.List.{AllByRecursion, AllZip, fold, list_any, slice_get}
 use Rattle.std.proofs.lemmas.Bool.{eq-eqb}
-use Rattle.file_layout.specs.Tiles.{Among, Lays, Refers, add_place, distinct_places}
+use Rattle.file_layout.specs.Tiles.{Among, add_place, distinct_places}
+use Rattle.file_layout.specs.inner.Tiles.{Lays, Refers}
 use Rattle.dex_base.proofs.ListFacts.{all_weaker, all_append}
 
 -- ---- a place has one item

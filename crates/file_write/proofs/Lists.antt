@@ -1,9 +1,10 @@
 -- Lists whose elements refer to those of another list, one by one.
 use Rattle.std.proofs.Common.{◌≡◌, ℕ, zero, suc, List, [], ◌∷◌, ◌++◌, length, take, drop, ap, subst, arith, Option, Some, slice_get}
 use Rattle.std.specs.List.{AllByRecursion, AllZip}
-use Rattle.file_limits.specs.Wide.{bodies_of, body_values}
+use Rattle.file_limits.specs.Wide.{bodies_of}
+use Rattle.file_limits.specs.inner.Wide.{body_values}
 use Rattle.program_types.specs.Content.{Class, Code, Program}
-use Rattle.file_assemble.specs.Data.{ClassWithCodes, method_count, with_code_places}
+use Rattle.file_assemble.specs.inner.Data.{ClassWithCodes, method_count, with_code_places}
 use Rattle.file_assemble.proofs.SitedLaws.{count_of_bodies, rest_after}
 
 -- ---- two lists, element by element

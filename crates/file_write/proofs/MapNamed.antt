@@ -11,8 +11,8 @@ use Rattle.file_layout.specs.declared.plan.Part.{Part}
 use Rattle.file_layout.specs.declared.plan.Plan.{Plan}
 use Rattle.file_layout.specs.declared.plan.Rows.{Rows}
 use Rattle.file_layout.specs.Parts.{IsWrittenKind}
-use Rattle.file_layout.specs.Plan.{type_ids_begin, proto_ids_begin, field_ids_begin, method_ids_begin, class_defs_begin, tables_end, table_offset, header_words, part_span, spans_of, Follows, IsPlanned, IsWritten}
-use Rattle.file_layout.specs.Spans.{Span, has_items, span_at, MapNames}
+use Rattle.file_layout.specs.inner.Plan.{type_ids_begin, proto_ids_begin, field_ids_begin, method_ids_begin, class_defs_begin, tables_end, table_offset, header_words, part_span, spans_of, Follows, IsPlanned, IsWritten}
+use Rattle.file_layout.specs.inner.Spans.{Span, has_items, span_at, MapNames}
 use Rattle.file_layout.specs.Tiles.{IsNext, Tiles, gap}
 use Rattle.file_layout.proofs.MapLaws.{Has}
 use Rattle.file_layout.proofs.TileLaws.{Tiles-le}

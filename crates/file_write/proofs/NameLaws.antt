@@ -8,13 +8,14 @@ use Rattle.dex_base.specs.Descriptor.{IsDescriptor}
 use Rattle.dex_base.specs.Mutf8.{PacksText, SpellsText}
 use Rattle.dex_base.proofs.TextLaws.{packed_is_text}
 use Rattle.dex_container.specs.Where.{At, AtOrNone}
-use Rattle.file_layout.specs.Sections.{is_empty_list, never}
-use Rattle.file_layout.specs.Tiles.{Refers}
+use Rattle.file_layout.specs.inner.Sections.{is_empty_list, never}
+use Rattle.file_layout.specs.inner.Tiles.{Refers}
 use Rattle.file_layout.proofs.FrameLaws.{lists_part, strings_part}
 use Rattle.file_layout.proofs.StandLaws.{at_item, at_list, even_four, even_one, zip_at}
-use Rattle.file_limits.specs.Wide.{list_values, params_of, text_values}
+use Rattle.file_limits.specs.Wide.{params_of}
+use Rattle.file_limits.specs.inner.Wide.{list_values, text_values}
 use Rattle.tables_names.specs.Closure.{Five, NameRanks}
-use Rattle.tables_names.specs.Indices.{AreIndices}
+use Rattle.tables_names.specs.inner.Indices.{AreIndices}
 use Rattle.tables_names.specs.Needed.{needed}
 use Rattle.tables_names.specs.Rank.{IsAt}
 use Rattle.tables_names.specs.Rows.{first_of}
@@ -24,10 +25,10 @@ use Rattle.program_types.specs.Kinds.{void}
 use Rattle.program_types.specs.Shorty.{shorty}
 use Rattle.program_rules.specs.WellFormed.{WellFormed}
 use Rattle.program_rules.specs.Valid.{IsValidField, IsValidMethod, IsValidName, IsValidProto, IsValueType}
-use Rattle.file_assemble.specs.Lists.{SpellsRanks}
+use Rattle.file_assemble.specs.inner.Lists.{SpellsRanks}
 use Rattle.tables_rows.specs.RowFields.{member_class, member_kind, member_name, proto_return, proto_shorty, type_string}
 use Rattle.tables_rows.specs.Stands.{FieldStands, MethodStands, NameStands, ProtoStands, SpellsIndexes, SpellsTypes, StringStands, TypeStands, TypesAt}
-use Rattle.file_assemble.specs.Assembled.{Assembled}
+use Rattle.file_assemble.specs.inner.Assembled.{Assembled}
 use Rattle.file_assemble.proofs.NamedLaws.{mentions_hold}
 use Rattle.file_write.proofs.RowLaws.{field_count, field_row, method_count, method_row, proto_count, proto_row, string_count, string_row, type_count, type_row}
 use Rattle.file_write.proofs.ValidNames.{AreValid, IsFieldKey, IsMethodKey, IsProtoKey, IsTypeKey, member_is, needed_valid}

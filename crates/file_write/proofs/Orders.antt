@@ -4,12 +4,12 @@ use Rattle.std.proofs.lemmas.Option.{slice_get-map}
 use Rattle.std.specs.Prelude.{IfSome}
 use Rattle.file_classes.specs.ClassRows.{InOrder, IndexOrNone, NoneDefines, class_word, no_index}
 use Rattle.file_classes.proofs.EntryLaws.{entry_at}
-use Rattle.file_assemble.specs.ClassDefs.{TypeRanks}
+use Rattle.file_assemble.specs.inner.ClassDefs.{TypeRanks}
 use Rattle.dex_container.specs.Frame.{IsFramed}
 use Rattle.dex_container.specs.Layout.{size_of}
 use Rattle.dex_container.specs.Where.{AtOrNone}
 use Rattle.tables_names.specs.Closure.{Five}
-use Rattle.tables_names.specs.Indices.{AreIndices}
+use Rattle.tables_names.specs.inner.Indices.{AreIndices}
 use Rattle.program_types.specs.Content.{Class, Descriptor, Program}
 use Rattle.program_types.specs.Key.{text_key}
 use Rattle.program_rules.specs.Rules.{IsOfType, NoneFrom, OrderHolds}

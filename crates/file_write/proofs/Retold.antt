@@ -6,7 +6,8 @@ use Rattle.std.proofs.lemmas.Bool.{eq-eqb}
 use Rattle.std.proofs.lemmas.Option.{slice_get_within}
 use Rattle.dex_container.specs.Where.{slice}
 use Rattle.file_classes.proofs.EntryLaws.{entry_at}
-use Rattle.file_layout.specs.Tiles.{Among, AreShared, Lays, Refers, add_place, distinct_places}
+use Rattle.file_layout.specs.Tiles.{Among, add_place, distinct_places}
+use Rattle.file_layout.specs.inner.Tiles.{AreShared, Lays, Refers}
 use Rattle.file_layout.proofs.TileLaws.{Tiles-among, refers_some, zip_there}
 use Rattle.file_write.specs.Packed.{IsPackedSection}
 use Rattle.file_write.proofs.Items.{among_kept, places_kept}

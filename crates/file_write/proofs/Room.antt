@@ -5,7 +5,8 @@ use Rattle.std.specs.Prelude.{MatchBool, ◌==◌}
 use Rattle.std.specs.List.{AllByRecursion, AllZip, fold, list_any}
 use Rattle.dex_container.specs.Where.{slice}
 use Rattle.file_layout.specs.Sections.{wide_all}
-use Rattle.file_layout.specs.Tiles.{Among, Done, Item, Lays, Refers, Tiles, add_place, distinct_places, gap}
+use Rattle.file_layout.specs.Tiles.{Among, Done, Item, Tiles, add_place, distinct_places, gap}
+use Rattle.file_layout.specs.inner.Tiles.{Lays, Refers}
 use Rattle.file_layout.proofs.PartLaws.{length_slice}
 use Rattle.file_layout.proofs.TileLaws.{Tiles-le, refers_some}
 use Rattle.file_layout.proofs.LayingOnce.{grows, one_there, firsts, tiles_none}

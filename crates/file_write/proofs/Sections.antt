@@ -4,8 +4,9 @@ use Rattle.std.proofs.lemmas.List.{length-map}
 use Rattle.std.specs.List.{slice_get}
 use Rattle.dex_container.specs.Where.{slice}
 use Rattle.file_layout.specs.declared.plan.Part.{Part}
-use Rattle.file_layout.specs.Parts.{HasPart}
-use Rattle.file_layout.specs.Tiles.{Among, AreShared, Done, Item, Lays, Tiles, distinct_places, gap}
+use Rattle.file_layout.specs.inner.Parts.{HasPart}
+use Rattle.file_layout.specs.Tiles.{Among, Done, Item, Tiles, distinct_places, gap}
+use Rattle.file_layout.specs.inner.Tiles.{AreShared, Lays}
 use Rattle.file_write.specs.Packed.{IsPackedSection, MapSays}
 use Rattle.file_write.proofs.Items.{items_used}
 use Rattle.file_layout.proofs.LayingOnce.{one_there}

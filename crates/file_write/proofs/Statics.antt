@@ -6,9 +6,9 @@ use Rattle.dex_base.specs.Leb128.{Shortest}
 use Rattle.file_classes.specs.Classes.{StaticsAt}
 use Rattle.dex_container.specs.Where.{At, AtOrNone}
 use Rattle.file_layout.specs.declared.plan.Part.{Part}
-use Rattle.file_layout.specs.Parts.{HasPart}
-use Rattle.file_layout.specs.Sections.{is_empty_list}
-use Rattle.file_layout.specs.Tiles.{Lays, Refers}
+use Rattle.file_layout.specs.inner.Parts.{HasPart}
+use Rattle.file_layout.specs.inner.Sections.{is_empty_list}
+use Rattle.file_layout.specs.inner.Tiles.{Lays, Refers}
 use Rattle.file_layout.proofs.StandLaws.{at_list, even_one}
 use Rattle.tables_names.specs.Closure.{Five, NameRanks}
 use Rattle.program_types.specs.Content.{Name, Value}

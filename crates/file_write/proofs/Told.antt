@@ -19,16 +19,18 @@ use Rattle.file_classes.specs.ClassData.{Entries, EntriesAt, FieldEntry, MethodE
 use Rattle.file_classes.specs.Classes.{CodeAt, CodesAre, IsField, IsMethod, MembersAre, SomeCodeStands, StaticsAt}
 use Rattle.file_classes.proofs.EntryLaws.{entries_unique}
 use Rattle.file_classes.proofs.OnceLaws.{one_of_kind}
-use Rattle.file_layout.specs.Sections.{is_empty_list, never}
+use Rattle.file_layout.specs.inner.Sections.{is_empty_list, never}
 use Rattle.file_layout.proofs.SectionLaws.{not_none}
-use Rattle.file_limits.specs.Wide.{bodies_in, bodies_of, body_values}
-use Rattle.file_assemble.specs.Codes.{PacksBody, is_bodiless}
-use Rattle.file_assemble.specs.Data.{FieldRanks, MembersRank, MethodRanks, PacksData, ClassWithCodes, code_offs, has_no_members, method_count, with_code_places}
-use Rattle.file_assemble.specs.Lists.{SpellsRanks}
+use Rattle.file_limits.specs.Wide.{bodies_in, bodies_of}
+use Rattle.file_limits.specs.inner.Wide.{body_values}
+use Rattle.file_assemble.specs.inner.Codes.{PacksBody, is_bodiless}
+use Rattle.file_assemble.specs.Data.{code_offs}
+use Rattle.file_assemble.specs.inner.Data.{FieldRanks, MembersRank, MethodRanks, PacksData, ClassWithCodes, has_no_members, method_count, with_code_places}
+use Rattle.file_assemble.specs.inner.Lists.{SpellsRanks}
 use Rattle.program_types.specs.Content.{Class, Code, Descriptor, Member, Method, Name, OfDesc, OfField, OfMethod, Program, Units, Value}
 use Rattle.program_types.specs.Key.{text_key}
 use Rattle.tables_names.specs.Closure.{Five, NameRanks}
-use Rattle.tables_names.specs.Indices.{AreIndices}
+use Rattle.tables_names.specs.inner.Indices.{AreIndices}
 use Rattle.tables_names.specs.Rank.{IsAt}
 use Rattle.tables_rows.specs.Stands.{NameStands, SpellsIndexes, SpellsTypes, TypeStands, TypesAt}
 use Rattle.tables_rows.proofs.HalvesLaws.{indexes_unique}

@@ -11,7 +11,7 @@ use Rattle.tables_names.proofs.PlaceLemmas.{member_at}
 use Rattle.tables_names.proofs.SubsetLemmas.{added_cases, or_cases}
 use Rattle.program_types.specs.Content.{FieldRef, MethodRef, Name, OfDesc, OfField, OfMethod, OfText, Program, Proto, Units}
 use Rattle.program_types.specs.Key.{Key, field_ref_key, key_cmp, method_ref_key, proto_key, text_key}
-use Rattle.program_types.specs.KeyLaws.{key_cmp-same}
+use Rattle.program_types.specs.inner.KeyLaws.{key_cmp-same}
 use Rattle.program_types.specs.Mentions.{mentions}
 use Rattle.program_rules.specs.Valid.{IsValidField, IsValidMethod, IsValidName, IsValidProto, IsValueType}
 use Rattle.dex_base.proofs.DescriptorLaws.{class_is_descriptor, owner_is_descriptor}

@@ -5,7 +5,8 @@ use lib.Dec.{eqb}
 use Rattle.listing_words.specs.Words.{up_to_space}
 use Rattle.listing_slots.specs.Keys.{key_text, same}
 use Rattle.listing_labels.specs.Lines.{is_skipped}
-use Rattle.listing_labels.specs.Labels.{Label, labels_ahead, insns_ahead, with_label, first_word, is_stop, is_mark}
+use Rattle.listing_labels.specs.Labels.{Label, labels_ahead, with_label, first_word, is_stop, is_mark}
+use Rattle.listing_labels.specs.inner.Labels.{insns_ahead}
 
 pub ahead_none : (es : List Label) (line k : ℕ) → labels_ahead es line k [] ≡ es
 unfolding labels_ahead

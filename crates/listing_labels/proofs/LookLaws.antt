@@ -6,7 +6,7 @@ use Rattle.indexmap.specs.IndexMap.{insert_entry}
 use Rattle.listing_slots.specs.Keys.{same}
 use Rattle.listing_slots.proofs.KeyLaws.{same_true}
 use Rattle.listing_labels.specs.Labels.{Label, lookup, with_label}
-use Rattle.listing_labels.specs.View.{label, place_in}
+use Rattle.listing_labels.specs.inner.View.{label, place_in}
 use Rattle.listing_labels.specs.declared.known.Place.{Place}
 use Rattle.dex_base.proofs.ListFacts.{by_kind}
 

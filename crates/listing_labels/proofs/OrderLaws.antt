@@ -19,8 +19,8 @@ use Rattle.std.proofs.lemmas.List.Sorted.{searchable_from_sorted}
 use Rattle.listing_slots.specs.Keys.{same}
 use Rattle.listing_labels.specs.declared.known.Place.{Place}
 use Rattle.listing_labels.specs.Labels.{Label, lookup, with_label}
-use Rattle.listing_labels.specs.Order.{shortlex, is_above, LabelsRise}
-use Rattle.listing_labels.specs.View.{label, place_in}
+use Rattle.listing_labels.specs.inner.Order.{shortlex, is_above, LabelsRise}
+use Rattle.listing_labels.specs.inner.View.{label, place_in}
 use Rattle.listing_slots.proofs.KeyLaws.{same_true}
 use Rattle.listing_slots.proofs.ShownLaws.{same_refl}
 

@@ -1,6 +1,6 @@
 -- Words say one thing in the slots of the second form, and a fault stands only where they say nothing.
 use Rattle.std.proofs.Common.{◌≡◌, ℕ, ◌+◌, ◌<◌, ◌≤◌, Bool, true, false, inl, inr, List, [], ◌∷◌, length, get_or, drop, map, refl, sym, ap, ◌∙◌, arith, add-one, drop-cons, drop_of_length-le}
-use Rattle.listing_words.specs.View.{word as word_of}
+use Rattle.listing_words.specs.inner.View.{word as word_of}
 use Rattle.listing_words.specs.declared.words.Word.{Word as Made}
 use Rattle.listing_words.specs.Words.{Word}
 use Rattle.listing_slots.specs.declared.slot.Slot.{Slot}

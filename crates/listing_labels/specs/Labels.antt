@@ -65,15 +65,6 @@ labels_ahead es line k (l ∷ ls) =
     else (if is_mark (first_word l) then labels_ahead (with_label es (record { name = first_word l; line = line; number = k })) (line + 1) k ls
     else labels_ahead es (line + 1) (k + 1) ls))
 
--- How many instructions stand in these lines, up to the instructions' end.
-unfoldable pub insns_ahead : List (List ℕ) → ℕ
-insns_ahead [] = 0
-insns_ahead (l ∷ ls) =
-    if is_skipped l then insns_ahead ls
-    else (if is_stop (first_word l) then 0
-    else (if is_mark (first_word l) then insns_ahead ls
-    else insns_ahead ls + 1))
-
 -- The instruction that the label marks, at most the highest number of 32 bits, which a name that is no label has.
 abbrev pub marked_by : Option Label → ℕ
 marked_by None = 4294967295

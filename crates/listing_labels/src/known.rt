@@ -3,8 +3,8 @@
 ghost use Rattle.std.specs.Prelude.{◌≡◌, [], Some, map, IfSome, OnOk, IsOkUnless};
 ghost use Rattle.dex_base.specs.Fault.{memory};
 ghost use Rattle.listing_labels.specs.Labels.{Label, lookup, with_label};
-ghost use Rattle.listing_labels.specs.Order.{shortlex, is_above, LabelsRise};
-ghost use Rattle.listing_labels.specs.View.{label, place_in};
+ghost use Rattle.listing_labels.specs.inner.Order.{shortlex, is_above, LabelsRise};
+ghost use Rattle.listing_labels.specs.inner.View.{label, place_in};
 
 use dex_base::{Fault, Seed};
 use indexmap::IndexMap;
@@ -39,8 +39,8 @@ impl<'t> Drop for Labels<'t> {
 impl<'t> Model for Labels<'t> {
     ghost use Rattle.std.specs.Prelude.{List, ◌++◌, map};
     ghost use Rattle.listing_labels.specs.Labels.{Label};
-    ghost use Rattle.listing_labels.specs.Order.{LabelsRise};
-    ghost use Rattle.listing_labels.specs.View.{label};
+    ghost use Rattle.listing_labels.specs.inner.Order.{LabelsRise};
+    ghost use Rattle.listing_labels.specs.inner.View.{label};
 
     ghost Value = { List Label };
 

@@ -1,16 +1,17 @@
 //! Labels: how they are spelled, what they mark, and what words say where they stand.
 
-ghost use Rattle.std.specs.Prelude.{◌≡◌, ◌<◌, ◌+◌, ◌^◌, ◌∷◌, [], Some, map, length, IfOk, IfSome, IfNone, OnOk, IsOkUnless};
+ghost use Rattle.std.specs.Prelude.{◌≡◌, ◌<◌, ◌+◌, ◌^◌, ◌∷◌, [], false, Some, map, length, IfOk, IfSome, IfNone, OnOk, IsOkUnless};
 ghost use Rattle.dex_base.specs.Fault.{memory};
-ghost use Rattle.listing_words.specs.Words.{up_to_space};
-ghost use Rattle.listing_words.specs.View.{word};
-ghost use Rattle.listing_slots.specs.Data.{Datum as Said};
-ghost use Rattle.listing_slots.specs.ValidNames.{IsValidDatum, StayValid};
-ghost use Rattle.listing_slots.specs.View.{datum};
+ghost use Rattle.listing_words.specs.Words.{plain_word, up_to_space};
+ghost use Rattle.listing_words.specs.inner.View.{word};
+ghost use Rattle.listing_slots.specs.Data.{Datum as Said, word as word_said};
+ghost use Rattle.listing_slots.specs.inner.ValidNames.{IsValidDatum, StayValid};
+ghost use Rattle.listing_slots.specs.inner.View.{datum};
 ghost use Rattle.listing_slots.specs.Slots.{SpellsSlot};
 ghost use Rattle.listing_slots.specs.declared.slot.Slot.TheVariants as Slot;
 ghost use Rattle.listing_labels.specs.Lines.{lines, is_comment};
 ghost use Rattle.listing_labels.specs.Labels as says;
+ghost use Rattle.listing_labels.specs.inner.Labels as inner_says;
 ghost use Rattle.listing_labels.specs.Labels.{SpellsHere, SpellsAll, MisspellsAll};
 
 use crate::known::{Labels, Place};
@@ -105,7 +106,7 @@ fn is_stop(words: &[u8]) -> bool
 pub fn look_ahead<'t>(labels: &mut Labels<'t>, text: &'t [u8], first: u64) -> Result<usize, Fault>
     requires { first + length text.now < 2 ^ 64 }
     ensures ahead { OnOk result (labels.new ≡ says.labels_ahead [] first 0 (lines text.now)) }
-    ensures count { IfOk result (λ count. count ≡ says.insns_ahead (lines text.now)) }
+    ensures count { IfOk result (λ count. count ≡ inner_says.insns_ahead (lines text.now)) }
     ensures memory { IsOkUnless result memory }
 {
     labels.clear();
@@ -149,6 +150,23 @@ fn is_target(slot: Slot) -> bool
     ensures { result ≡ says.is_target slot }
 {
     matches!(slot, Slot::Word(Mark::Target, _))
+}
+
+/// The number of the instruction that a label marks, as a target says it; none where the text is no label. The label at
+/// the index `near` is found without hashing its name. A label that isn't there marks the highest number of 32 bits,
+/// which is no instruction.
+///
+/// ```text
+/// read_target(&labels, 0, b":1")   // Some(5), where `:1` stands before the sixth instruction; None for `1`
+/// ```
+pub fn read_target(labels: &Labels<'_>, near: usize, text: &[u8]) -> Option<u32>
+    ensures found { IfSome result (λ n. says.SpellsLabel labels.now (plain_word text.now) (word_said n)) }
+    ensures none { IfNone result (says.is_label text.now ≡ false) }
+{
+    if is_label(text) {
+        return Some(marked(labels, near, text));
+    }
+    None
 }
 
 /// What a word says where a target stands.

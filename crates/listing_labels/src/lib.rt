@@ -14,5 +14,5 @@ mod labels;
 mod pieces;
 
 pub use known::{Labels, Place};
-pub use labels::{is_label, is_mark, look_ahead, read_all};
+pub use labels::{is_label, is_mark, look_ahead, read_all, read_target};
 pub use pieces::{is_skipped, split_line};

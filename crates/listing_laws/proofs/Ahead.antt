@@ -6,7 +6,8 @@ use Rattle.std.proofs.lemmas.Fmt.{decimal_is_IsNumeral}
 use Rattle.std.proofs.lemmas.Bool.{cases_eq, false_from_ne_true}
 use Rattle.std.proofs.lemmas.List.{append-nil}
 use Rattle.program_types.specs.Content.{Insn}
-use Rattle.listing_words.specs.Words.{Word, plain_word, up_to_space, IsWritable, line_bytes}
+use Rattle.listing_words.specs.Words.{Word, plain_word, up_to_space}
+use Rattle.listing_words.specs.inner.Words.{IsWritable, line_bytes}
 use Rattle.listing_slots.specs.Keys.{key_text, same}
 use Rattle.listing_slots.proofs.ShownLaws.{same_refl}
 use Rattle.listing_lines.specs.declared.form.Form.TheVariants.{Two}
@@ -16,7 +17,7 @@ use Rattle.listing_labels.proofs.AheadLaws.{ahead_marks, ahead_counts}
 use Rattle.listing_print.specs.Operands.{insn_operands, label_name}
 use Rattle.listing_print.specs.Printed.{insn_word, insn_text, label_text}
 use Rattle.listing_print.specs.Canon.{is_named, label_if_named, insns_text}
-use Rattle.listing_print.specs.Reading.{words_in, FitOperands, OpcodeFits}
+use Rattle.listing_print.specs.inner.Reading.{words_in, FitOperands, OpcodeFits}
 use Rattle.listing_laws.proofs.Printable.{InstructionsFit}
 use Rattle.listing_laws.proofs.RunLaws.{IsLine, line_first, line_is, graphic_line, spaced_words}
 use Rattle.listing_laws.proofs.FormWords.{label_written}

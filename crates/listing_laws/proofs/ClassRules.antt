@@ -13,7 +13,7 @@ use Rattle.program_rules.specs.WellFormed.{WellFormed}
 use Rattle.listing_slots.specs.declared.key.Key.TheVariants as key
 use Rattle.listing_print.specs.Operands.{keyword, value_operands, values_operands}
 use Rattle.listing_print.specs.Printed.{member_operands}
-use Rattle.listing_print.specs.Reading.{FitOperands}
+use Rattle.listing_print.specs.inner.Reading.{FitOperands}
 use Rattle.listing_laws.proofs.Printable.{FieldFits, GivenFits, givens, BodyFits, MethodFits, SuperFits, SourceFits, InterfaceFits, ClassFits, IsPrintable}
 use Rattle.listing_laws.proofs.NameFits.{IsNamed, proto_fits, name_fits}
 use Rattle.listing_laws.proofs.InsnFits.{operands_append, signed8, signed16, signed32, signed64}

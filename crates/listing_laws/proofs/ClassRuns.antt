@@ -12,7 +12,8 @@ use Rattle.listing_lines.specs.Lines.{first_line, end_class, instance_line}
 use Rattle.listing_lines.specs.Places.{may_stand}
 use Rattle.listing_parse.specs.States.{State, Open, at_heads, start, add, closed}
 use Rattle.listing_parse.specs.Text.{line_of_form, IsListing}
-use Rattle.listing_words.specs.Words.{Word, plain_word, IsWritable, line_bytes}
+use Rattle.listing_words.specs.Words.{Word, plain_word}
+use Rattle.listing_words.specs.inner.Words.{IsWritable, line_bytes}
 use Rattle.listing_words.proofs.PrintLaws.{line_again}
 use Rattle.listing_slots.proofs.ShownLaws.{word_written}
 use Rattle.listing_print.specs.Printed.{keyed_text}

@@ -18,7 +18,7 @@ use Rattle.listing_parse.specs.declared.form_line.FormLine.TheVariants.{Mark}
 use Rattle.listing_print.specs.Operands.{insn_operands, label_name}
 use Rattle.listing_print.specs.Printed.{insn_text, label_text}
 use Rattle.listing_print.specs.Canon.{is_named, label_if_named, insns_text}
-use Rattle.listing_print.specs.Reading.{FitOperands, OpcodeFits}
+use Rattle.listing_print.specs.inner.Reading.{FitOperands, OpcodeFits}
 use Rattle.listing_laws.proofs.Runs.{Frame, RunsTo, NeedsFit, among, frame, at}
 use Rattle.listing_laws.proofs.Printable.{InstructionsFit}
 use Rattle.listing_laws.proofs.RunLaws.{runs_join, line_runs}

@@ -11,7 +11,7 @@ use Rattle.listing_parse.specs.Members.{Given, given_key, given_length, value_or
 use Rattle.listing_parse.specs.States.{State, Open, ClassPart, at_members, stage_of, counted, add, inside, with_static, with_instance}
 use Rattle.listing_print.specs.Printed.{line_operands, keyed_text}
 use Rattle.listing_print.specs.Canon.{statics_text}
-use Rattle.listing_print.specs.Reading.{FitOperands}
+use Rattle.listing_print.specs.inner.Reading.{FitOperands}
 use Rattle.listing_lines.specs.declared.form.Form.{Form}
 use Rattle.listing_laws.proofs.Runs.{bare, RunsTo, within}
 use Rattle.listing_laws.proofs.Printable.{KeysAreSorted, AllBelow, FieldFits, GivenFits, givens}

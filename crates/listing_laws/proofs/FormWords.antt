@@ -6,20 +6,22 @@ use Rattle.std.specs.Char.{digit_value}
 use Rattle.std.specs.Str.Parse.{AllDigits}
 use Rattle.std.proofs.lemmas.Fmt.{decimal_is_IsNumeral, length-decimal-le}
 use Rattle.std.proofs.lemmas.Bool.{le-leb, lt-ltb}
-use Rattle.listing_words.specs.Words.{plain_word, IsWritable, word_bytes}
+use Rattle.listing_words.specs.Words.{plain_word, word_bytes}
+use Rattle.listing_words.specs.inner.Words.{IsWritable}
 use Rattle.listing_slots.specs.declared.slot.Mark.TheVariants as mark
 use Rattle.listing_slots.specs.declared.slot.Mark.TheVariants.{Target}
 use Rattle.listing_slots.specs.declared.slot.Slot.{Slot}
 use Rattle.listing_slots.specs.declared.slot.Slot.TheVariants as slot
 use Rattle.listing_slots.specs.Data.{Datum, word}
-use Rattle.listing_slots.specs.Shown.{shown, FitsSlot}
+use Rattle.listing_slots.specs.Shown.{shown}
+use Rattle.listing_slots.specs.inner.Shown.{FitsSlot}
 use Rattle.listing_slots.proofs.ShownLaws.{shown_says, shown_written, number_written}
 use Rattle.listing_lines.specs.declared.form.Form.{Form}
 use Rattle.listing_lines.specs.declared.form.Form.TheVariants.{One, Two}
 use Rattle.listing_labels.specs.Labels.{Label, is_name_byte, are_name_bytes, is_label, lookup, marked_by, SpellsHere, SpellsAll}
 use Rattle.listing_parse.specs.Forms.{SpellsInForm}
 use Rattle.listing_print.specs.Operands.{Operand, label_name, operand_text, operand_text_in, shown_in}
-use Rattle.listing_print.specs.Reading.{slots_of, data_of, words_in, FitOperands}
+use Rattle.listing_print.specs.inner.Reading.{slots_of, data_of, words_in, FitOperands}
 use Rattle.listing_print.proofs.PrintedLaws.{words_of, printed_spelled}
 use Rattle.listing_laws.proofs.RunLaws.{spaced_words}
 

@@ -21,7 +21,7 @@ use Rattle.listing_lines.specs.declared.form.Form.TheVariants.{One, Two}
 use Rattle.listing_labels.specs.Labels.{Label}
 use Rattle.listing_parse.specs.Forms.{HasShapeInForm, SpellsInForm}
 use Rattle.listing_laws.proofs.FreeSlots.{AreFree, row_is_free, value_is_free, said_here, said_anywhere}
-use Rattle.listing_laws.specs.Values.{word_of_key, SayGiven, IsReadAsValue, IsReadAsLine}
+use Rattle.listing_laws.specs.inner.Values.{word_of_key, SayGiven, IsReadAsValue, IsReadAsLine}
 use Rattle.listing_laws.proofs.SpelledValues.{spelled_is_read, plain_form}
 use Rattle.listing_laws.proofs.ReadValues.{read_is_spelled, key_is}
 use Rattle.std.proofs.lemmas.Bool.{and_parts}

@@ -10,7 +10,7 @@ use Rattle.listing_lines.specs.Places.{may_stand}
 use Rattle.listing_parse.specs.States.{Open, at_heads, with_superclass, with_interface, with_source, add, inside, opened, is_among}
 use Rattle.listing_print.specs.Printed.{line_operands, keyed_text}
 use Rattle.listing_print.specs.Canon.{super_text, source_text, heads_text}
-use Rattle.listing_print.specs.Reading.{FitOperands}
+use Rattle.listing_print.specs.inner.Reading.{FitOperands}
 use Rattle.listing_lines.specs.declared.form.Form.{Form}
 use Rattle.listing_laws.proofs.Runs.{bare, RunsTo, outside, within}
 use Rattle.listing_laws.proofs.Printable.{SuperFits, SourceFits, InterfaceFits, ClassFits}

@@ -6,7 +6,7 @@ use Rattle.std.specs.declared.cmp.Ordering.TheVariants as ordering
 use Rattle.program_types.specs.Content.{Class}
 use Rattle.std.specs.Ordering.{is_eq, ordering_reverse}
 use Rattle.program_types.specs.Key.{Key, key_cmp}
-use Rattle.program_types.specs.KeyLaws.{key_cmp-total}
+use Rattle.program_types.specs.inner.KeyLaws.{key_cmp-total}
 use Rattle.listing_parse.specs.Members.{is_held, put_in, with_member}
 use Rattle.listing_parse.specs.States.{State, Open, ClassPart}
 use Rattle.listing_laws.proofs.Printable.{IsBelowAll, KeysAreSorted, AllBelow}

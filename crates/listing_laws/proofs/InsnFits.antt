@@ -16,7 +16,7 @@ use Rattle.listing_slots.specs.Slots.{IsSignedWithin}
 use Rattle.listing_slots.specs.Shapes.{name_slot}
 use Rattle.listing_lines.specs.Needs.{insn_needs, most_needed}
 use Rattle.listing_print.specs.Operands.{Operand, insn_operands, name_operand, v4, to, keyword, pair_operands, element_operands}
-use Rattle.listing_print.specs.Reading.{FitOperands, OpcodeFits, IsNameOfOpcode}
+use Rattle.listing_print.specs.inner.Reading.{FitOperands, OpcodeFits, IsNameOfOpcode}
 use Rattle.listing_slots.specs.declared.key.Key.TheVariants as key
 use Rattle.listing_laws.proofs.NameFits.{IsNamed, name_fits}
 

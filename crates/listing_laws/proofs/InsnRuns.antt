@@ -13,7 +13,8 @@ use Rattle.dex_insn.specs.Mnemonics.{mnemonics, mnemonic_of, is_mnemonic_byte}
 use Rattle.dex_insn.proofs.Rows.{used_named, mnemonic_plain}
 use Rattle.program_types.specs.Content as content
 use Rattle.program_types.specs.Content.{Insn}
-use Rattle.listing_words.specs.Words.{Word, plain_word, IsGraphic, IsWritable, line_bytes}
+use Rattle.listing_words.specs.Words.{Word, plain_word, IsGraphic}
+use Rattle.listing_words.specs.inner.Words.{IsWritable, line_bytes}
 use Rattle.listing_words.specs.Numbers.{is_number}
 use Rattle.listing_words.proofs.PrintLaws.{line_again}
 use Rattle.listing_slots.specs.declared.key.Key.TheVariants as key
@@ -35,7 +36,7 @@ use Rattle.listing_parse.specs.declared.form_line.FormLine.TheVariants as line_o
 use Rattle.listing_parse.specs.Text.{TakesLine, LineSays, is_second, line_of_form, labels_after}
 use Rattle.listing_print.specs.Operands.{insn_operands, operand_text_in}
 use Rattle.listing_print.specs.Printed.{insn_word, insn_text}
-use Rattle.listing_print.specs.Reading.{slots_of, data_of, words_in, FitOperands, insn_kind, OpcodeFits}
+use Rattle.listing_print.specs.inner.Reading.{slots_of, data_of, words_in, FitOperands, insn_kind, OpcodeFits}
 use Rattle.listing_print.proofs.InsnLaws.{insn_has_shape, insn_has_bare_shape, number_printed, insn_says, all_at}
 use Rattle.listing_laws.proofs.Runs.{RunsTo, frame, at}
 use Rattle.listing_laws.proofs.RunLaws.{IsLine, line_runs, line_is, words_line, spaced_words}

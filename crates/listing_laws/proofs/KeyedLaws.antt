@@ -4,7 +4,8 @@ use Rattle.std.specs.List.{AllByRecursion}
 use Rattle.std.proofs.lemmas.List.{append-nil}
 use Rattle.program_types.specs.Content as content
 use Rattle.program_types.specs.Content.{Value, Values, no_values, more_values, OfText, OfDesc, OfField, OfMethod}
-use Rattle.listing_words.specs.Words.{Word, plain_word, IsWritable, line_bytes}
+use Rattle.listing_words.specs.Words.{Word, plain_word}
+use Rattle.listing_words.specs.inner.Words.{IsWritable, line_bytes}
 use Rattle.listing_words.proofs.PrintLaws.{line_again}
 use Rattle.listing_slots.specs.declared.key.Key.TheVariants as key
 use Rattle.listing_slots.specs.declared.kind.Kind.TheVariants as kind
@@ -27,7 +28,7 @@ use Rattle.listing_parse.specs.declared.form_line.FormLine.{FormLine}
 use Rattle.listing_parse.specs.declared.form_line.FormLine.TheVariants.{Nothing}
 use Rattle.listing_print.specs.Operands.{Operand, keyword, value_operands, values_operands}
 use Rattle.listing_print.specs.Printed.{line_key, line_operands, keyed_text, keyed_text_in}
-use Rattle.listing_print.specs.Reading.{slots_of, data_of, words_in, FitOperands, line_kind, IsKeyedLine}
+use Rattle.listing_print.specs.inner.Reading.{slots_of, data_of, words_in, FitOperands, line_kind, IsKeyedLine}
 use Rattle.listing_print.proofs.PrintedLaws.{words_of, value_words}
 use Rattle.listing_print.proofs.RowLaws.{keyed_has_shape, keyed_says_line}
 use Rattle.listing_laws.proofs.Runs.{Frame, bare, at, RunsInto, RunsTo}

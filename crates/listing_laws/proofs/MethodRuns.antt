@@ -6,7 +6,7 @@ use Rattle.std.specs.Ordering.{is_eq, ordering_reverse}
 use Rattle.std.specs.declared.cmp.Ordering.{Ordering}
 use Rattle.std.specs.declared.cmp.Ordering.TheVariants as ordering
 use Rattle.program_types.specs.Key.{Key, key_cmp}
-use Rattle.program_types.specs.KeyLaws.{key_cmp-total}
+use Rattle.program_types.specs.inner.KeyLaws.{key_cmp-total}
 use Rattle.program_rules.specs.Rules.{method_key}
 use Rattle.program_types.specs.Content.{Code, Method, Class}
 use Rattle.listing_lines.specs.Lines.{direct_line, virtual_line}

@@ -6,7 +6,7 @@ use Rattle.program_types.specs.Content.{Descriptor, Proto, Name, OfText, OfDesc,
 use Rattle.program_rules.specs.Valid.{IsValueType, IsValidProto, IsValidName}
 use Rattle.program_rules.specs.Ranges.{ProtoInRange, NameInRange}
 use Rattle.listing_words.specs.Written.{proto_units}
-use Rattle.listing_slots.specs.Shown.{IsProto, FitsSlot}
+use Rattle.listing_slots.specs.inner.Shown.{IsProto, FitsSlot}
 use Rattle.listing_print.specs.Operands.{name_operand}
 use Rattle.dex_base.proofs.ListFacts.{all_append, all_weaker}
 use Rattle.dex_base.proofs.DescriptorLaws.{class_is_descriptor, owner_is_descriptor}

@@ -2,7 +2,7 @@
 use Rattle.std.proofs.Common.{◌≡◌, suc, ◌+◌, List, [], ◌∷◌, arith}
 use Rattle.std.specs.declared.cmp.Ordering.TheVariants as ordering
 use Rattle.program_types.specs.Key.{Key, key_cmp}
-use Rattle.program_types.specs.KeyLaws.{key_cmp-total}
+use Rattle.program_types.specs.inner.KeyLaws.{key_cmp-total}
 use Rattle.program_rules.specs.Rules.{KeysRise}
 use Rattle.listing_laws.proofs.Printable.{IsBelowAll, KeysAreSorted}
 

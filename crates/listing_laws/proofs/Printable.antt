@@ -10,7 +10,7 @@ use Rattle.listing_lines.specs.Needs.{insn_needs}
 use Rattle.listing_parse.specs.Members.{Given}
 use Rattle.listing_print.specs.Printed.{line_operands}
 use Rattle.listing_print.specs.Operands.{insn_operands}
-use Rattle.listing_print.specs.Reading.{FitOperands, OpcodeFits}
+use Rattle.listing_print.specs.inner.Reading.{FitOperands, OpcodeFits}
 
 -- ---- orders of keys
 

@@ -19,9 +19,9 @@ use Rattle.listing_slots.proofs.ShapeLaws.{chosen}
 use Rattle.listing_lines.specs.Lines.{value_of}
 use Rattle.listing_print.specs.Operands.{value_operands, values_operands}
 use Rattle.listing_print.specs.Operands as print
-use Rattle.listing_print.specs.Reading.{data_of}
+use Rattle.listing_print.specs.inner.Reading.{data_of}
 use Rattle.listing_print.proofs.MadeLaws.{data_join, value_made}
-use Rattle.listing_laws.specs.Values.{word_of_key, SaysValue, SayValues, IsReadAsValue}
+use Rattle.listing_laws.specs.inner.Values.{word_of_key, SaysValue, SayValues, IsReadAsValue}
 use Rattle.listing_laws.proofs.WordRuns.{Runs, run_of}
 use Rattle.listing_slots.proofs.KeyLaws.{same_true}
 

@@ -6,7 +6,8 @@ use Rattle.std.specs.List.{flat_map, AllByRecursion}
 use Rattle.program_types.specs.Content.{Program}
 use Rattle.program_rules.specs.WellFormed.{WellFormed}
 use Rattle.listing_words.specs.Texts.{glyph, escape_text, unit_text}
-use Rattle.listing_words.specs.Words.{Word, plain_word, text_in_quotes, IsGraphic, IsWritable, word_bytes, line_bytes}
+use Rattle.listing_words.specs.Words.{Word, plain_word, text_in_quotes, IsGraphic, word_bytes}
+use Rattle.listing_words.specs.inner.Words.{IsWritable, line_bytes}
 use Rattle.listing_parse.specs.States.{at_top, State, start}
 use Rattle.listing_labels.specs.Lines.{lines}
 use Rattle.listing_parse.specs.Text.{Reading, TakesLine, Reads, IsListing}

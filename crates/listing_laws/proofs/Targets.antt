@@ -14,7 +14,7 @@ use Rattle.listing_lines.specs.declared.form.Form.TheVariants.{One, Two}
 use Rattle.listing_labels.specs.Labels.{Label, lookup, marked_by}
 use Rattle.listing_print.specs.Operands.{Operand, keyword, v4, to, name_operand, label_name, pair_operands, element_operands, insn_operands}
 use Rattle.listing_print.specs.Canon.{try_numbers, code_numbers, is_named}
-use Rattle.listing_print.specs.Reading.{FitOperands}
+use Rattle.listing_print.specs.inner.Reading.{FitOperands}
 use Rattle.listing_laws.proofs.FormWords.{TargetIsMarked, TargetsAreMarked, first_marked}
 use Rattle.listing_laws.proofs.Ahead.{labels_from, none_before, found_each}
 use Rattle.dex_base.proofs.ListFacts.{all_append}

@@ -10,7 +10,7 @@ use Rattle.listing_lines.specs.Needs.{Need, with_need}
 use Rattle.listing_parse.specs.States.{State, Open, OpenBody, CodePart, after_try, all_tries, add, inside}
 use Rattle.listing_print.specs.Printed.{line_operands, keyed_text_in}
 use Rattle.listing_print.specs.Canon.{all_numbers, try_numbers, is_named, catches_text, catch_all_text, try_text}
-use Rattle.listing_print.specs.Reading.{FitOperands}
+use Rattle.listing_print.specs.inner.Reading.{FitOperands}
 use Rattle.listing_lines.specs.declared.form.Form.{Form}
 use Rattle.listing_lines.specs.declared.form.Form.TheVariants.{One, Two}
 use Rattle.listing_labels.specs.Labels.{Label}

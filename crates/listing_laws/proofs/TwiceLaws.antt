@@ -12,7 +12,7 @@ use Rattle.listing_lines.specs.declared.stage.Stage.TheVariants.{Heads, Insns, C
 use Rattle.listing_lines.specs.Places.{is_start, is_top, is_heads, is_in_class, is_after, is_insns, is_in_code, is_caught, may_stand}
 use Rattle.listing_parse.specs.Members.{Given, given_key, is_held, with_member}
 use Rattle.listing_parse.specs.States.{Open, ClassPart, OpenBody, at_heads, after_method, CodePart, at_insns, in_try, Block, at_start, at_top, in_class, in_code, State, stage_of, code_stage, is_among, with_superclass, with_source, with_interface, with_static, with_instance, with_direct, with_virtual, class_line, noted, code_line, inside, class_of, owner_of, code_ended, add}
-use Rattle.listing_laws.specs.Twice.{has_already, is_twice}
+use Rattle.listing_laws.specs.inner.Twice.{has_already, is_twice}
 
 some_map : {X Y : Type 0} (f : X → Y) (o : Option X) → is_some (option_map f o) ≡ is_some o
 some_map f None = refl

@@ -4,7 +4,8 @@ use Rattle.std.specs.List.{AllByRecursion, flat_map}
 use Rattle.std.proofs.lemmas.Bool.{le-ltb}
 use Rattle.program_types.specs.Content.{Try, Code, Class}
 use Rattle.program_types.specs.Formed.{insn_leads}
-use Rattle.listing_words.specs.Words.{plain_word, line_bytes}
+use Rattle.listing_words.specs.Words.{plain_word}
+use Rattle.listing_words.specs.inner.Words.{line_bytes}
 use Rattle.listing_slots.specs.declared.key.Key.TheVariants as key
 use Rattle.listing_slots.specs.declared.slot.Slot.TheVariants as slot
 use Rattle.listing_slots.specs.Data.{said}
@@ -23,7 +24,7 @@ use Rattle.listing_labels.proofs.AheadLaws.{ahead_stops}
 use Rattle.listing_parse.specs.Text.{Reading, Reads, labels_after}
 use Rattle.listing_print.specs.Printed.{line_operands, keyed_text, keyed_text_in}
 use Rattle.listing_print.specs.Canon.{try_numbers, code_numbers, insns_text, catches_text, catch_all_text, try_text, code_text}
-use Rattle.listing_print.specs.Reading.{words_in, FitOperands}
+use Rattle.listing_print.specs.inner.Reading.{words_in, FitOperands}
 use Rattle.listing_laws.proofs.Runs.{Frame, bare, frame, at, RunsInto, RunsTo, NeedsFit, within, coding, among, with_handlers}
 use Rattle.listing_laws.proofs.Printable.{TryFits, CodeFits}
 use Rattle.listing_laws.proofs.RunLaws.{runs_joined, line_first, line_is, spaced_words}

@@ -6,7 +6,7 @@ ghost use Rattle.listing_slots.specs.Data.{Datum};
 ghost use Rattle.listing_lines.specs.Lines.{line_of};
 ghost use Rattle.listing_lines.specs.Places.{may_stand};
 ghost use Rattle.listing_parse.specs.States.{State, stage_of, add};
-ghost use Rattle.listing_laws.specs.Twice.{is_twice};
+ghost use Rattle.listing_laws.specs.inner.Twice.{is_twice};
 
 /// Where its line may stand, a listing goes on, unless the line gives the open class again what it has: a superclass,
 /// an interface, a source file, or a member. Nothing else is refused as given twice.

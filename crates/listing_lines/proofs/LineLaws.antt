@@ -1,7 +1,7 @@
 -- Every other word.
 use Rattle.std.proofs.Common.{◌≡◌, ℕ, ◌+◌, ◌<◌, Bool, true, false, List, [], ◌∷◌, ◌++◌, length, get_or, drop, map, refl, sym, ap, ◌∙◌, append_assoc, add-one, drop-cons, not, inl, inr, ◌⊎◌}
 use Rattle.listing_slots.specs.Data.{Datum}
-use Rattle.listing_slots.specs.View.{datum}
+use Rattle.listing_slots.specs.inner.View.{datum}
 use Rattle.listing_slots.specs.declared.datum.Datum.{Datum as Made}
 use Rattle.listing_lines.specs.Lines.{alternate}
 

@@ -2,7 +2,7 @@
 use Rattle.std.proofs.Common.{◌≡◌, ℕ, ◌+◌, ◌<◌, ◌≤◌, List, [], ◌∷◌, ◌++◌, length, get_or, drop, take, map, refl, sym, ap, ◌∙◌, arith, drop_of_length-le, min}
 use Rattle.std.specs.Prelude.{fold, reverse}
 use Rattle.listing_slots.specs.Data.{Datum, said}
-use Rattle.listing_slots.specs.View.{datum}
+use Rattle.listing_slots.specs.inner.View.{datum}
 use Rattle.listing_slots.specs.declared.datum.Datum.{Datum as Made}
 use Rattle.std.proofs.lemmas.List.{reverse-append, take-map, drop-map, take_min, drop_min}
 use Rattle.program_types.specs.Content as content
@@ -13,7 +13,7 @@ use Rattle.program_types.specs.declared.value.Value.{Value as Put}
 use Rattle.program_types.specs.declared.value.Value.TheVariants as made
 use Rattle.listing_slots.specs.declared.key.Key.TheVariants as key
 use Rattle.listing_lines.specs.declared.making.Making.{Making as InMaking}
-use Rattle.listing_lines.specs.MakingView.{making}
+use Rattle.listing_lines.specs.inner.MakingView.{making}
 use Rattle.listing_lines.specs.Lines.{Making, with_word, value_of, first_value}
 
 pub fold_end : (m : Making) (ds : List Made) (i : ℕ) → length ds ≤ i → fold with_word m (map datum (drop i ds)) ≡ m

@@ -1,6 +1,6 @@
 -- What a line says.
 -- Page: docs/LISTING.md, "The lines", "Values".
-use Rattle.std.specs.Prelude.{ℕ, Bool, min, ◌-◌, List, [], ◌∷◌, ◌++◌, length, take, drop, map, fold, Option, Some, None, true, false}
+use Rattle.std.specs.Prelude.{ℕ, min, ◌-◌, List, [], ◌∷◌, ◌++◌, length, take, drop, map, fold, Option, Some, None, true, false}
 use Rattle.dex_insn.specs.declared.opcode.Format.{Format}
 use Rattle.dex_insn.specs.declared.opcode.Format.TheVariants as format
 use Rattle.dex_insn.specs.Opcodes.{format_of}
@@ -122,13 +122,6 @@ unfoldable pub alternate : {A : Type 0} → List A → List A
 alternate [] = []
 alternate (x ∷ []) = x ∷ []
 alternate (x ∷ y ∷ xs) = x ∷ alternate xs
-
--- A line of this kind holds a value or lists of numbers, which take memory.
-unfoldable pub takes_memory : Kind → Bool
-takes_memory kind.Given = true
-takes_memory kind.Packed = true
-takes_memory kind.Sparse = true
-takes_memory _ = false
 
 -- The line of this kind whose slots say this.
 unfoldable pub line_of : Kind → List Datum → Line

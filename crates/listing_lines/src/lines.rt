@@ -4,10 +4,11 @@ ghost use Rattle.std.specs.Prelude.{◌≡◌, map, drop, false, IfOk, IsOkUnles
 ghost use Rattle.dex_base.specs.Fault.{memory};
 ghost use Rattle.dex_insn.specs.Opcodes.{format_of};
 ghost use Rattle.program_types.specs.View.{insn};
-ghost use Rattle.listing_slots.specs.View.{datum};
+ghost use Rattle.listing_slots.specs.inner.View.{datum};
 ghost use Rattle.listing_slots.specs.Data.{int_of, word_of};
-ghost use Rattle.listing_lines.specs.Lines.{line_of, takes_memory, insn_of, alternate};
-ghost use Rattle.listing_lines.specs.LineView.{line};
+ghost use Rattle.listing_lines.specs.Lines.{line_of, insn_of, alternate};
+ghost use Rattle.listing_lines.specs.inner.Lines.{takes_memory};
+ghost use Rattle.listing_lines.specs.inner.LineView.{line};
 
 use crate::line::Line;
 use crate::make::{make_member, make_method, plain_insn};
@@ -85,7 +86,7 @@ fn words_between<'a>(alloc: &'a Bump, said: &[Datum<'_>]) -> Result<&'a [u32], F
 
 /// The line of a kind that takes no memory.
 #[rattlefmt::skip]
-#[tactic(auto, unfolding(crate::specs::Lines::line_of, crate::specs::Lines::takes_memory))]
+#[tactic(auto, unfolding(crate::specs::Lines::line_of, crate::specs::inner::Lines::takes_memory))]
 fn flat_line<'a>(kind: Kind, said: &[Datum<'a>]) -> Line<'a>
     requires { takes_memory kind ≡ false }
     ensures { line result ≡ line_of kind (map datum said.now) }
@@ -115,7 +116,7 @@ fn flat_line<'a>(kind: Kind, said: &[Datum<'a>]) -> Line<'a>
 }
 
 /// The line of this kind whose slots say this.
-#[tactic(auto, unfolding(crate::specs::Lines::line_of, crate::specs::Lines::takes_memory))]
+#[tactic(auto, unfolding(crate::specs::Lines::line_of, crate::specs::inner::Lines::takes_memory))]
 pub fn make_line<'a>(arena: &'a Bump, kind: Kind, said: &[Datum<'a>]) -> Result<Line<'a>, Fault>
     ensures ok { IfOk result (λ l. line l ≡ line_of kind (map datum said.now)) }
     ensures memory { IsOkUnless result memory }

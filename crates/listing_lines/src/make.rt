@@ -2,7 +2,7 @@
 
 ghost use Rattle.std.specs.Prelude.{◌≡◌, map, Some};
 ghost use Rattle.program_types.specs.View.{insn, member, method};
-ghost use Rattle.listing_slots.specs.View.{datum};
+ghost use Rattle.listing_slots.specs.inner.View.{datum};
 ghost use Rattle.listing_lines.specs.Lines.{insn_of, member_of, method_of};
 
 use dex_insn::Format;

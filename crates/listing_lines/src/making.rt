@@ -6,9 +6,9 @@ ghost use Rattle.program_types.specs.Content as content;
 ghost use Rattle.program_types.specs.View.{value, name};
 ghost use Rattle.listing_slots.specs.declared.datum.Datum.TheVariants as Datum;
 ghost use Rattle.listing_slots.specs.declared.key.Key.TheVariants as Key;
-ghost use Rattle.listing_slots.specs.View.{datum};
+ghost use Rattle.listing_slots.specs.inner.View.{datum};
 ghost use Rattle.listing_lines.specs.Lines.{value_of, with_word, with_value};
-ghost use Rattle.listing_lines.specs.MakingView.{making};
+ghost use Rattle.listing_lines.specs.inner.MakingView.{making};
 
 use bumpalo::Bump;
 use dex_base::Fault;
@@ -44,7 +44,7 @@ fn array_of<'a>(alloc: &'a Bump, inner: &[Value<'a>]) -> Result<Value<'a>, Fault
 }
 
 impl<'a> Making<'a> {
-    #[tactic(auto, unfolding(crate::specs::MakingView::making))]
+    #[tactic(auto, unfolding(crate::specs::inner::MakingView::making))]
     fn put(&mut self, one: Value<'a>) -> Result<(), Fault>
         ensures put { OnOk result (making self.new ≡ with_value (making self.old) (value one.entry)) }
         ensures memory { IsOkUnless result memory }
@@ -69,7 +69,7 @@ impl<'a> Making<'a> {
         Ok(())
     }
 
-    #[tactic(auto, unfolding(crate::specs::MakingView::making))]
+    #[tactic(auto, unfolding(crate::specs::inner::MakingView::making))]
     fn put_key(&mut self, alloc: &'a Bump, key: Key) -> Result<(), Fault>
         ensures put { OnOk result (making self.new ≡ with_word (making self.old) (datum (Datum.Key key))) }
         ensures memory { IsOkUnless result memory }

@@ -2,9 +2,9 @@
 
 ghost use Rattle.std.specs.Prelude.{◌≡◌, ◌+◌, ◌<◌, map, max};
 ghost use Rattle.program_types.specs.View.{insn};
-ghost use Rattle.listing_lines.specs.LineView.{line};
+ghost use Rattle.listing_lines.specs.inner.LineView.{line};
 ghost use Rattle.listing_lines.specs.Needs as said;
-ghost use Rattle.listing_lines.specs.NeedView.{need};
+ghost use Rattle.listing_lines.specs.inner.NeedView.{need};
 
 use crate::line::Line;
 use program_types::{Insn, leads_of};

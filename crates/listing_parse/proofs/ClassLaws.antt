@@ -10,7 +10,7 @@ use Rattle.listing_parse.specs.Members.{Given, given_key, values_of}
 use Rattle.listing_parse.specs.States.{Open, at_heads, at_top, State, opened, closed, with_block, add}
 use Rattle.listing_parse.specs.Codes.{Numbered, said}
 use Rattle.listing_parse.specs.Classes.{AreSorted, entry_lines, static_in, instance_in, direct_in, virtual_in, ClassText, ClassesText}
-use Rattle.listing_parse.specs.Runs.{at_line, Runs, with_class, with_classes, RunsBehindClass, RunsToClasses}
+use Rattle.listing_parse.specs.inner.Runs.{at_line, Runs, with_class, with_classes, RunsBehindClass, RunsToClasses}
 use Rattle.listing_parse.proofs.CodeLaws.{next, again}
 use Rattle.listing_parse.proofs.HeldLaws.{ArePut, put_are_held, held_are_put}
 use Rattle.listing_parse.proofs.ValueLaws.{values_one, values_there}

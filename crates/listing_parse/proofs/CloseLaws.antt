@@ -5,7 +5,7 @@ use Rattle.program_types.specs.View.{member, value}
 use Rattle.program_types.specs.declared.class.Member.{Member as Field}
 use Rattle.program_types.specs.declared.value.Value.{Value as Put}
 use Rattle.listing_parse.specs.Members.{Given, value_or_zero}
-use Rattle.listing_parse.specs.View.{given}
+use Rattle.listing_parse.specs.inner.View.{given}
 use Rattle.listing_parse.specs.declared.close.Given.{Given as Made}
 
 -- after i fields, of which the last with a value ends at n

@@ -6,8 +6,9 @@ use Rattle.program_types.specs.Content.{Insn, Catch, Try, Code, Class}
 use Rattle.listing_lines.specs.Lines.{Line, open_code, end_code, insn_line, try_line, catch_line, catch_all_line}
 use Rattle.listing_lines.specs.Needs.{Need, first_late, earliest}
 use Rattle.listing_parse.specs.States.{Open, Owner, OpenBody, OpenTry, at_members, CodePart, at_insns, after_try, in_try, in_class, in_code, State, begun, noted, with_insn, with_tries, try_of, whole_code, with_code_at, add, inside}
-use Rattle.listing_parse.specs.Codes.{Numbered, said, insn_lines, catch_lines, catch_all_lines, try_lines, inner_lines, code_lines, late_line}
-use Rattle.listing_parse.specs.Runs.{at_line, Runs, is_outside, after_its_method, with_its_code, RunsBehindCode}
+use Rattle.listing_parse.specs.Codes.{Numbered, said, insn_lines, catch_lines, catch_all_lines, try_lines, inner_lines, code_lines}
+use Rattle.listing_parse.specs.inner.Codes.{late_line}
+use Rattle.listing_parse.specs.inner.Runs.{at_line, Runs, is_outside, after_its_method, with_its_code, RunsBehindCode}
 use Rattle.listing_parse.proofs.LateLaws.{needs_from, late_is}
 use Rattle.listing_parse.proofs.Numbering.{none_said, Front, more_front, Behind}
 use Rattle.listing_parse.proofs.StageLaws.{code_goes_on}

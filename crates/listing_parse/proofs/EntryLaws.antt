@@ -20,7 +20,7 @@ use Rattle.listing_parse.specs.declared.open_class.Static.{Static}
 use Rattle.listing_parse.specs.declared.open_class.Defined.{Defined}
 use Rattle.listing_parse.specs.Members.{given_key, is_held, put_in, with_member}
 use Rattle.listing_parse.specs.States.{Open, with_static, with_instance, with_direct, with_virtual, with_code}
-use Rattle.listing_parse.specs.View.{held_static, held_instance, held_method}
+use Rattle.listing_parse.specs.inner.View.{held_static, held_instance, held_method}
 
 -- Entries whose view has their key, and keys that compare as those do.
 pub record Holds {K V X : Type 0} (cmp : K → K → Ordering) (told : K → Key) (view : K × V → X) (key : X → Key) : Type 0 where

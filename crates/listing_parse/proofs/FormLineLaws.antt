@@ -2,13 +2,13 @@
 use Rattle.std.proofs.Common.{◌≡◌, ◌≢◌, ℕ, ◌==◌, Bool, true, false, List, [], ◌∷◌, Option, Some, None, length, map, refl, ap, ◌∙◌, arith, codes}
 use Rattle.std.proofs.lemmas.Bool.{eq-eqb, ne_eqb}
 use Rattle.listing_labels.specs.Labels.{Label, is_label, lookup}
-use Rattle.listing_labels.specs.View.{place_in}
+use Rattle.listing_labels.specs.inner.View.{place_in}
 use Rattle.listing_labels.specs.declared.known.Place.{Place}
 use Rattle.listing_parse.specs.States.{stage_of}
 use Rattle.listing_lines.specs.Forms.{is_two}
 use Rattle.listing_lines.specs.Places.{is_start, is_insns}
 use Rattle.listing_words.specs.Words.{Word, plain_word}
-use Rattle.listing_words.specs.View.{word}
+use Rattle.listing_words.specs.inner.View.{word}
 use Rattle.listing_words.specs.declared.words.Word.{Word as Made}
 use Rattle.listing_parse.specs.Text.{Reading, is_on, is_second, line_of_label, line_of_mark, line_of_form}
 use Rattle.listing_parse.specs.declared.form_line.FormLine.{FormLine}

@@ -9,7 +9,7 @@ use Rattle.listing_slots.specs.Keys.{same}
 use Rattle.listing_parse.specs.States.{Open, ClassPart, at_heads, at_members, at_top, in_class, State, is_among, with_superclass, with_interface, with_source, with_block, class_line, inside, add}
 use Rattle.listing_parse.specs.Codes.{Numbered, said}
 use Rattle.listing_parse.specs.Classes.{is_head, superclass_in, interface_in, source_in, at_most_one, NoneTwice}
-use Rattle.listing_parse.specs.Runs.{at_line, Runs}
+use Rattle.listing_parse.specs.inner.Runs.{at_line, Runs}
 use Rattle.listing_parse.proofs.HeldLaws.{first_false, second_false}
 use Rattle.listing_parse.proofs.Numbering.{Front, more_front, Behind, goes, starts, none_said, within, class_open}
 

@@ -11,7 +11,7 @@ use Rattle.std.proofs.lemmas.List.Sorted.{IsPermutation-refl, IsPermutation-sym,
 use Rattle.std.proofs.lemmas.Map.Keys.{IsDistinct-IsPermutation, IsDistinct-cons, IsDistinct-head}
 use Rattle.program_types.specs.Content.{Code, Method}
 use Rattle.program_types.specs.Key.{Key, key_cmp}
-use Rattle.program_types.specs.KeyLaws.{key_cmp-total}
+use Rattle.program_types.specs.inner.KeyLaws.{key_cmp-total}
 use Rattle.program_rules.specs.Rules.{method_key}
 use Rattle.listing_parse.specs.Members.{is_held, put_in}
 use Rattle.listing_parse.specs.States.{with_code}

@@ -8,8 +8,9 @@ use Rattle.listing_lines.specs.Lines.{Line, first_line, open_class, end_class, o
 use Rattle.listing_lines.specs.Places.{is_start, is_top}
 use Rattle.listing_lines.specs.Needs.{Need, most_needed, insn_needs, line_needs, with_need, first_late, earliest}
 use Rattle.listing_parse.specs.States.{State, at_top, at_heads, in_class, stage_of, opened, closed, begun, class_of, owner_of, with_body, code_ended, late_in, with_block, inside, add}
-use Rattle.listing_parse.specs.Codes.{Numbered, said, leads_into, late_line}
-use Rattle.listing_parse.specs.Runs.{at_line, Runs}
+use Rattle.listing_parse.specs.Codes.{Numbered, said, leads_into}
+use Rattle.listing_parse.specs.inner.Codes.{late_line}
+use Rattle.listing_parse.specs.inner.Runs.{at_line, Runs}
 use Rattle.dex_base.proofs.ListFacts.{by_kind}
 
 -- What the targets of these lines need besides.

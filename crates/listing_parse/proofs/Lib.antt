@@ -23,3 +23,4 @@ pub mod LabelLaws
 pub mod ReadOn
 pub mod ReadBack
 pub mod ListingLaws
+pub mod ShortLaws

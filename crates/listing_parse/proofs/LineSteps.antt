@@ -22,7 +22,7 @@ use Rattle.listing_parse.specs.Forms.{HasShapeInForm, may_stand_in_form}
 use Rattle.listing_parse.specs.Text.{Reading, is_second, line_of_form, labels_after, LineSays, TakesLine}
 use Rattle.listing_parse.specs.declared.form_line.FormLine.TheVariants.{Nothing}
 use Rattle.listing_parse.specs.Texts.{is_numbered, SaysLine}
-use Rattle.listing_parse.specs.Runs.{line_stands, Steps}
+use Rattle.listing_parse.specs.inner.Runs.{line_stands, Steps}
 use Rattle.listing_parse.proofs.SecondFormLaws.{no_line_of_form}
 use Rattle.listing_parse.proofs.LateLaws.{mapped, chosen}
 use Rattle.std.proofs.lemmas.Bool.{and_parts}

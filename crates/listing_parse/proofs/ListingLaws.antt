@@ -22,8 +22,8 @@ use Rattle.listing_parse.specs.Text.{Reading, is_second, line_of_form, in_second
 use Rattle.listing_parse.specs.declared.form_line.FormLine.TheVariants.{Nothing, First, Mark}
 use Rattle.listing_parse.specs.Codes.{Numbered, said}
 use Rattle.listing_parse.specs.Classes.{ClassesText}
-use Rattle.listing_parse.specs.Reads.{AreRead, SayRun}
-use Rattle.listing_parse.specs.Runs.{at_line, Steps, Runs, with_classes, is_outside}
+use Rattle.listing_parse.specs.inner.Reads.{AreRead, SayRun}
+use Rattle.listing_parse.specs.inner.Runs.{at_line, Steps, Runs, with_classes, is_outside}
 use Rattle.listing_parse.specs.Texts.{SaysLine, outside, SayLines, BeginsForm, ListingText}
 use Rattle.listing_parse.proofs.SecondFormLaws.{one_after}
 use Rattle.listing_parse.proofs.ClassLaws.{classes_read, classes_go}

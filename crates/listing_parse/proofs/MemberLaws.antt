@@ -9,9 +9,10 @@ use Rattle.listing_lines.specs.Needs.{earliest}
 use Rattle.listing_parse.specs.Members.{Given, given_key, is_held, put_in, with_member}
 use Rattle.listing_parse.specs.States.{Open, Owner, ClassPart, at_members, after_method, at_top, in_class, State, with_code_at, with_static, with_instance, with_direct, with_virtual, at_part, with_block, inside, add}
 use Rattle.dex_base.proofs.ListFacts.{all_append, all_back, all_front, by_kind}
-use Rattle.listing_parse.specs.Codes.{Numbered, said, code_lines, leads_into, late_line}
+use Rattle.listing_parse.specs.Codes.{Numbered, said, code_lines, leads_into}
+use Rattle.listing_parse.specs.inner.Codes.{late_line}
 use Rattle.listing_parse.specs.Classes.{at_most_one, ListedMember, static_entry, instance_entry, direct_entry, virtual_entry, its_code, entry_lines, method_with, static_in, instance_in, direct_in, virtual_in, code_in, LeadsInside}
-use Rattle.listing_parse.specs.Runs.{at_line, Steps, Runs, is_outside, with_its_code}
+use Rattle.listing_parse.specs.inner.Runs.{at_line, Steps, Runs, is_outside, with_its_code}
 use Rattle.listing_parse.proofs.LateLaws.{earliest_none, none_late, all_lead, neither_late, runs_late}
 use Rattle.listing_parse.proofs.CodeLaws.{again, code_read, text_runs}
 use Rattle.listing_parse.proofs.HeldLaws.{ArePut, code_put}

@@ -7,12 +7,13 @@ use Rattle.dex_base.proofs.ListFacts.{all_append}
 use Rattle.dex_insn.specs.declared.opcode.Format.{Format}
 use Rattle.dex_insn.specs.declared.opcode.Format.TheVariants as format
 use Rattle.dex_insn.specs.Opcodes.{format_of}
-use Rattle.program_types.specs.Content.{Descriptor, Units, Member, Method, Code}
+use Rattle.program_types.specs.Content.{Descriptor, Units, Insn, Member, Method, Code}
 use Rattle.program_types.specs.Key.{Key, key_cmp}
 use Rattle.program_rules.specs.Rules.{CodesHold, member_key, method_key}
-use Rattle.program_rules.specs.Valid.{IsValidName, InsnIsNamed, InsnsAreNamed}
+use Rattle.program_rules.specs.Valid.{IsValidName}
+use Rattle.program_rules.specs.inner.Valid.{InsnIsNamed, InsnsAreNamed}
 use Rattle.listing_slots.specs.Data.{Datum, named, at, name_of}
-use Rattle.listing_slots.specs.ValidNames.{IsValidDatum, Spellings, StayValid}
+use Rattle.listing_slots.specs.inner.ValidNames.{IsValidDatum, Spellings, StayValid}
 use Rattle.listing_slots.specs.declared.kind.Kind.{Kind}
 use Rattle.listing_slots.specs.declared.kind.Kind.TheVariants as kind
 use Rattle.listing_lines.specs.Lines.{Line, first_line, open_class, end_class, super_line, implements_line, source_line, static_line, instance_line, direct_line, virtual_line, open_code, end_code, insn_line, try_line, catch_line, catch_all_line, insn_of, line_of}
@@ -20,7 +21,7 @@ use Rattle.listing_lines.specs.Needs.{earliest}
 use Rattle.listing_lines.specs.Places.{is_start, is_top}
 use Rattle.listing_parse.specs.Members.{Given, given_key, is_held, put_in, with_member}
 use Rattle.listing_parse.specs.States.{Open, Owner, ClassPart, at_heads, at_members, after_method, OpenBody, CodePart, after_try, Block, at_top, in_class, in_code, State, stage_of, opened, closed, with_code, with_code_at, is_among, with_static, with_instance, with_direct, with_virtual, with_superclass, with_source, with_interface, at_part, class_line, begun, noted, with_tries, with_catch, is_in_try, whole_code, code_line, inside, class_of, owner_of, with_body, code_ended, late_in, with_block, add}
-use Rattle.listing_parse.specs.Named.{MethodsAreNamed, OpenIsNamed, BlockIsNamed, StateIsNamed, ReadingIsNamed}
+use Rattle.listing_parse.specs.inner.Named.{MethodsAreNamed, OpenIsNamed, BlockIsNamed, StateIsNamed, ReadingIsNamed, StayNamed}
 use Rattle.listing_parse.specs.Text.{Reading, begin, in_second, line_counted}
 use Rattle.dex_base.proofs.OptionLaws.{IfSome-map}
 
@@ -174,6 +175,11 @@ pub said_named : (old new : Spellings) (r t : Reading) (k : Kind) (ds : List Dat
 said_named old new r t k ds stay e n = λ valid.
     let h = stay valid in
     subst (λ (o : Option State). IfSome o StateIsNamed) e (add_named r.base (line_of k ds) (line_named k ds h.1) (n h.0))
+
+pub insn_said_named : (old new : Spellings) (r t : Reading) (i : Insn) → StayNamed old new i → add r.base (insn_line i) ≡ Some t.base → ReadingIsNamed old r → ReadingIsNamed new t
+insn_said_named old new r t i stay e n = λ valid.
+    let h = stay valid in
+    subst (λ (o : Option State). IfSome o StateIsNamed) e (add_named r.base (insn_line i) h.1 (n h.0))
 
 pub second_named : (k : Spellings) (r t : Reading) → t ≡ in_second r → ReadingIsNamed k r → ReadingIsNamed k t
 second_named k r t e n = λ valid. subst (λ (x : Reading). StateIsNamed x.base) (sym e) (record { done = (n valid).done; block = tt })

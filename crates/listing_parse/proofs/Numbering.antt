@@ -5,7 +5,7 @@ use Rattle.program_types.specs.Content.{Class}
 use Rattle.listing_lines.specs.Lines.{Line}
 use Rattle.listing_parse.specs.States.{Open, ClassPart, at_top, in_class, closed, State}
 use Rattle.listing_parse.specs.Codes.{Numbered, said}
-use Rattle.listing_parse.specs.Runs.{at_line, Runs, Steps}
+use Rattle.listing_parse.specs.inner.Runs.{at_line, Runs, Steps}
 
 -- The lines begin with this one.
 pub record Starts (ls : List Numbered) (x : Line) (xs : List Line) : Type 0 where

@@ -18,7 +18,7 @@ use Rattle.listing_parse.specs.Text.{Reading, is_second, begins_mark, is_on, lin
 use Rattle.listing_parse.specs.declared.form_line.FormLine.TheVariants.{Nothing, Refused, First, Mark}
 use Rattle.listing_parse.specs.Codes.{Numbered}
 use Rattle.listing_parse.specs.Classes.{NoneTwice}
-use Rattle.listing_parse.specs.Runs.{line_stands, at_line, Steps, Runs, is_outside}
+use Rattle.listing_parse.specs.inner.Runs.{line_stands, at_line, Steps, Runs, is_outside}
 use Rattle.listing_parse.specs.Texts.{SaysLine, IsLabelLine, opens_code, is_of_try, label_names, Where, outside, among, after_insns, SayLines, no_lines, silent, one_line, code_line, label_line, one_insn, no_insn, of_try, code_end}
 use Rattle.listing_parse.proofs.CodeLaws.{again}
 use Rattle.listing_parse.proofs.HeadLaws.{distinct_more}

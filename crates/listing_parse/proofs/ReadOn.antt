@@ -14,7 +14,7 @@ use Rattle.listing_parse.specs.Text.{Reading, is_on, line_of_form, TakesLine, Re
 use Rattle.listing_parse.specs.declared.form_line.FormLine.TheVariants.{Mark}
 use Rattle.listing_parse.specs.Codes.{Numbered}
 use Rattle.listing_parse.specs.Classes.{NoneTwice}
-use Rattle.listing_parse.specs.Runs.{line_stands, at_line, Steps, Runs}
+use Rattle.listing_parse.specs.inner.Runs.{line_stands, at_line, Steps, Runs}
 use Rattle.listing_parse.specs.Texts.{SaysLine, opens_code, is_of_try, label_names, Where, outside, among, after_insns, SayLines, no_lines, silent, one_line, code_line, label_line, one_insn, no_insn, of_try, code_end}
 use Rattle.listing_parse.proofs.CodeLaws.{again}
 use Rattle.listing_parse.proofs.LineSteps.{rd, insn_said, labels_by, Part, out, insns, later, part_of, part_after, part_moves, lines_kept, out_is, insns_is, later_is, step_taken}

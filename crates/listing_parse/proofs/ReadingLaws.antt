@@ -10,9 +10,10 @@ use Rattle.listing_parse.specs.declared.block.Block.TheVariants.{Top}
 use Rattle.listing_parse.specs.declared.draft.Draft.{Draft}
 use Rattle.listing_parse.specs.States.{at_top, State}
 use Rattle.listing_labels.specs.Lines.{lines}
-use Rattle.listing_parse.specs.Text.{Reading, begin, line_counted, TakesLine, Reads, IsListing, LineIsRefused, IsBadLine, ListingBreaks, IsFinished, IsUnfinished}
-use Rattle.listing_parse.specs.View.{block, state}
-use Rattle.listing_parse.specs.ReadingView.{reading}
+use Rattle.listing_parse.specs.Text.{Reading, begin, line_counted, TakesLine, Reads, IsListing, LineIsRefused, IsBadLine, ListingBreaks}
+use Rattle.listing_parse.specs.inner.Text.{IsFinished, IsUnfinished}
+use Rattle.listing_parse.specs.inner.View.{block, state}
+use Rattle.listing_parse.specs.inner.ReadingView.{reading}
 use Rattle.listing_parse.specs.declared.reading.Reading.{Reading as Made}
 
 pub Reads-push : (s t u : Reading) (ls : List (List ℕ)) (l : List ℕ) (rest : List (List ℕ)) → Reads s ls (l ∷ rest) t → TakesLine t rest l u → Reads s (ls ++ l ∷ []) rest u

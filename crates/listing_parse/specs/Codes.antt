@@ -1,6 +1,6 @@
 -- The lines of a code, and the code that they mean.
 -- Page: docs/LISTING.md, "The lines", "A grammar", "Faults" (105).
-use Rattle.std.specs.Prelude.{ℕ, nat_lt, nat_le, ◌&&◌, Bool, true, if◌then◌else◌, List, [], ◌∷◌, ◌++◌, map, Option, Some, None}
+use Rattle.std.specs.Prelude.{ℕ, nat_lt, nat_le, ◌&&◌, Bool, true, List, [], ◌∷◌, ◌++◌, map, Option, Some, None}
 use Rattle.std.specs.List.{flat_map, list_all}
 use Rattle.program_types.specs.Formed.{insn_leads}
 use Rattle.program_types.specs.Content.{Insn, Catch, Try, Code}
@@ -50,8 +50,3 @@ leads_into n (try_line from to) = nat_lt from n && nat_le to n
 leads_into n (catch_line d k) = nat_lt k n
 leads_into n (catch_all_line k) = nat_lt k n
 leads_into n _ = true
-
--- The first of these lines with a target that is none of the n instructions, if there is one.
-abbrev pub late_line : ℕ → List Numbered → Option ℕ
-late_line n [] = None
-late_line n ((number, l) ∷ ls) = if leads_into n l then late_line n ls else Some number

@@ -1,13 +1,9 @@
 pub mod Zeros
 pub mod Members
 pub mod States
-pub mod View
 pub mod Forms
 pub mod Text
-pub mod ReadingView
-pub mod Named
 pub mod Codes
 pub mod Classes
-pub mod Runs
 pub mod Texts
-pub mod Reads
+pub mod inner

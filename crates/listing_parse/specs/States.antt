@@ -295,8 +295,3 @@ abbrev pub counted : State → State
 counted s = record s { lines = s.lines + 1 }
 
 -- ---- what a private helper says
-
--- The class of the open code, outside of it.
-abbrev pub class_again : Block → Block
-class_again (in_code o b p) = in_class o at_members
-class_again other = other

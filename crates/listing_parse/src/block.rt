@@ -32,16 +32,17 @@ impl<'a> Drop for Block<'a> {
 
 impl<'a> Block<'a> {
     ghost use Rattle.std.specs.Prelude.{option_map};
-    ghost use Rattle.listing_lines.specs.LineView.{line};
+    ghost use Rattle.listing_lines.specs.inner.LineView.{line};
     ghost use Rattle.listing_lines.specs.Lines.{insn_line};
     ghost use Rattle.program_types.specs.View.{insn};
     ghost use Rattle.listing_parse.specs.States.{stage_of, insn_count, owner_of, with_body, late_in};
-    ghost use Rattle.listing_parse.specs.States.{class_again, code_ended, inside};
-    ghost use Rattle.listing_parse.specs.View.{owner, open_body, block};
+    ghost use Rattle.listing_parse.specs.States.{code_ended, inside};
+    ghost use Rattle.listing_parse.specs.inner.States.{class_again};
+    ghost use Rattle.listing_parse.specs.inner.View.{owner, open_body, block};
 
     /// Where the next line stands.
     #[rattlefmt::skip]
-    #[tactic(auto, unfolding(crate::specs::View::block))]
+    #[tactic(auto, unfolding(crate::specs::inner::View::block))]
     pub fn stage(&self) -> Stage
         ensures { result ≡ stage_of (block self.now) }
     {
@@ -62,7 +63,7 @@ impl<'a> Block<'a> {
     }
 
     /// How many instructions the open code has.
-    #[tactic(auto, unfolding(crate::specs::View::block, crate::specs::View::open_body))]
+    #[tactic(auto, unfolding(crate::specs::inner::View::block, crate::specs::inner::View::open_body))]
     pub(crate) fn count(&self) -> u64
         ensures { result ≡ insn_count (block self.now) }
     {
@@ -73,7 +74,7 @@ impl<'a> Block<'a> {
     }
 
     /// The method whose code may follow.
-    #[tactic(auto, unfolding(crate::specs::View::block))]
+    #[tactic(auto, unfolding(crate::specs::inner::View::block))]
     pub(crate) fn owner(&self) -> Option<Owner<'a>>
         ensures { option_map owner result ≡ owner_of (block self.now) }
     {
@@ -87,7 +88,7 @@ impl<'a> Block<'a> {
     }
 
     /// The lowest line of the open code with a target that is none of its instructions.
-    #[tactic(auto, unfolding(crate::specs::View::block, crate::specs::View::open_body))]
+    #[tactic(auto, unfolding(crate::specs::inner::View::block, crate::specs::inner::View::open_body))]
     pub(crate) fn late_line(&self) -> Option<u64>
         ensures { result ≡ late_in (block self.now) }
     {
@@ -100,7 +101,7 @@ impl<'a> Block<'a> {
     }
 
     /// The code begins.
-    #[tactic(auto, unfolding(crate::specs::View::block))]
+    #[tactic(auto, unfolding(crate::specs::inner::View::block))]
     fn with_body(self, body: OpenBody<'a>) -> Block<'a>
         ensures { block result ≡ with_body (block self.entry) (open_body body.entry) }
     {
@@ -126,7 +127,7 @@ impl<'a> Block<'a> {
     }
 
     /// The class of the open code, outside of it.
-    #[tactic(auto, unfolding(crate::specs::View::block))]
+    #[tactic(auto, unfolding(crate::specs::inner::View::block))]
     fn without_body(self) -> Block<'a>
         ensures { block result ≡ class_again (block self.entry) }
     {
@@ -147,7 +148,7 @@ impl<'a> Block<'a> {
     }
 
     /// The method that the open code belongs to has it; false where no code is open.
-    #[tactic(auto, unfolding(crate::specs::View::block))]
+    #[tactic(auto, unfolding(crate::specs::inner::View::block))]
     fn alloc_code(&mut self, arena: &'a Bump) -> Result<bool, Fault>
         ensures placed { IfOk result (λ yes. MatchBool yes
             (code_ended (block self.old) ≡ Some (class_again (block self.new)))
@@ -180,7 +181,7 @@ impl<'a> Block<'a> {
 
     /// A line that may stand inside the open block is added to it, the one with this number; false where it gives again
     /// what may be given once.
-    #[tactic(auto, unfolding(crate::specs::View::block, crate::specs::States::inside))]
+    #[tactic(auto, unfolding(crate::specs::inner::View::block, crate::specs::States::inside))]
     pub(crate) fn add(
         &mut self,
         arena: &'a Bump,
@@ -200,7 +201,7 @@ impl<'a> Block<'a> {
     }
 
     /// An instruction is added to the open code, on the line with this number; false where no code is open.
-    #[tactic(auto, unfolding(crate::specs::View::block, crate::specs::States::inside))]
+    #[tactic(auto, unfolding(crate::specs::inner::View::block, crate::specs::States::inside))]
     pub(crate) fn add_insn(&mut self, number: u64, new: Insn<'a>) -> Result<bool, Fault>
         ensures added { IfOk result (λ yes. MatchBool yes
             (inside (block self.old) number (insn_line (insn new.entry)) ≡ Some (block self.new))
@@ -217,7 +218,7 @@ impl<'a> Block<'a> {
     }
 
     /// Room for so many instructions more in the open code, if one is open.
-    #[tactic(auto, unfolding(crate::specs::View::block))]
+    #[tactic(auto, unfolding(crate::specs::inner::View::block))]
     pub(crate) fn make_room(&mut self, count: usize) -> Result<(), Fault>
         ensures same { block self.new ≡ block self.old }
         ensures memory { IsOkUnless result memory }

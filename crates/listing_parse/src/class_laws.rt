@@ -5,7 +5,7 @@ ghost use Rattle.program_types.specs.Content.{Descriptor};
 ghost use Rattle.listing_lines.specs.Lines.{open_class};
 ghost use Rattle.listing_parse.specs.States.{State, at_top, with_block};
 ghost use Rattle.listing_parse.specs.Codes.{Numbered};
-ghost use Rattle.listing_parse.specs.Runs.{Runs, RunsBehindClass, RunsToClasses};
+ghost use Rattle.listing_parse.specs.inner.Runs.{Runs, RunsBehindClass, RunsToClasses};
 
 /// Where no class is open, lines that begin with `class` lead to where none is, with no target late, exactly if they are the
 /// text of a class and lines after it, which lead there from where this class is whole after the others.

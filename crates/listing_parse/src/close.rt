@@ -7,7 +7,7 @@ ghost use Rattle.program_types.specs.View.{desc, str, proto, member, method, val
 ghost use Rattle.listing_parse.specs.Zeros.{zero_of};
 ghost use Rattle.listing_parse.specs.Members.{value_or_zero, given_length, values_of};
 ghost use Rattle.listing_parse.specs.States.{closed, with_code};
-ghost use Rattle.listing_parse.specs.View.{given, held_static, held_instance, held_method, open_class};
+ghost use Rattle.listing_parse.specs.inner.View.{given, held_static, held_instance, held_method, open_class};
 
 use crate::open_class::{Defined, FieldKey, MethodKey, Open, Static};
 use bumpalo::Bump;
@@ -154,7 +154,7 @@ fn methods_of<'a>(
 }
 
 /// The class that was open.
-#[tactic(auto, unfolding(crate::specs::View::open_class))]
+#[tactic(auto, unfolding(crate::specs::inner::View::open_class))]
 pub(crate) fn alloc_class<'a>(alloc: &'a Bump, whole: &Open<'a>) -> Result<Class<'a>, Fault>
     ensures ok { IfOk result (λ c. class c ≡ closed (open_class whole.now)) }
     ensures memory { IsOkUnless result memory }

@@ -4,7 +4,7 @@ ghost use Rattle.std.specs.Prelude.{◌≡◌, ◌↔◌, ◌∷◌, ℕ, true, 
 ghost use Rattle.listing_lines.specs.Lines.{open_code};
 ghost use Rattle.listing_parse.specs.States.{State, Open, Owner};
 ghost use Rattle.listing_parse.specs.Codes.{Numbered};
-ghost use Rattle.listing_parse.specs.Runs.{Runs, is_outside, after_its_method, RunsBehindCode};
+ghost use Rattle.listing_parse.specs.inner.Runs.{Runs, is_outside, after_its_method, RunsBehindCode};
 
 /// After a method, lines that begin with `code` lead to where no code is open exactly if they are the text of a code and
 /// lines after it, which lead there from where just that method has this code, and where the code's first line that leads

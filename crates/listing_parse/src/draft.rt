@@ -36,14 +36,14 @@ impl<'a> Draft<'a> {
     ghost use Rattle.listing_slots.specs.declared.slot.Slot.{Slot};
     ghost use Rattle.program_types.specs.View.{desc, class, insn};
     ghost use Rattle.listing_lines.specs.Lines as says;
-    ghost use Rattle.listing_lines.specs.LineView.{line};
+    ghost use Rattle.listing_lines.specs.inner.LineView.{line};
     ghost use Rattle.listing_lines.specs.Needs.{earliest};
-    ghost use Rattle.listing_slots.specs.ShapeView.{shape};
+    ghost use Rattle.listing_slots.specs.inner.ShapeView.{shape};
     ghost use Rattle.listing_parse.specs.States.{start, stage_of, counted, add, stands, late_in};
-    ghost use Rattle.listing_parse.specs.View.{state, block};
+    ghost use Rattle.listing_parse.specs.inner.View.{state, block};
 
     /// Nothing was read. Hashes begin with the seed.
-    #[tactic(auto, unfolding(crate::specs::View::state, crate::specs::View::block))]
+    #[tactic(auto, unfolding(crate::specs::inner::View::state, crate::specs::inner::View::block))]
     pub fn new(alloc: Global, seed: Seed, arena: &'a Bump) -> Draft<'a>
         ensures { state result ≡ start }
     {
@@ -58,7 +58,7 @@ impl<'a> Draft<'a> {
     }
 
     /// The classes that are whole.
-    #[tactic(auto, unfolding(crate::specs::View::state))]
+    #[tactic(auto, unfolding(crate::specs::inner::View::state))]
     pub fn into_classes(self) -> &'a [Class<'a>]
         ensures { map class result.now ≡ (state self.entry).done }
     {
@@ -74,7 +74,7 @@ impl<'a> Draft<'a> {
     }
 
     /// Where the next line stands.
-    #[tactic(auto, unfolding(crate::specs::View::state))]
+    #[tactic(auto, unfolding(crate::specs::inner::View::state))]
     pub fn stage(&self) -> Stage
         ensures { result ≡ stage_of (state self.now).block }
     {
@@ -82,7 +82,7 @@ impl<'a> Draft<'a> {
     }
 
     /// Whether a line of this shape may stand here.
-    #[tactic(auto, unfolding(crate::specs::View::state))]
+    #[tactic(auto, unfolding(crate::specs::inner::View::state))]
     pub fn stands(&self, found: Found<'_>) -> bool
         ensures { (ss : List Slot) (ws : List Word) → result ≡ stands (state self.now) (shape found.entry ss ws) }
     {
@@ -96,7 +96,7 @@ impl<'a> Draft<'a> {
     }
 
     /// Counts one line more as read.
-    #[tactic(auto, unfolding(crate::specs::View::state))]
+    #[tactic(auto, unfolding(crate::specs::inner::View::state))]
     pub fn count_line(&mut self)
         requires { self.old.lines + 1 < 2 ^ 64 }
         ensures state { state self.new ≡ counted (state self.old) }
@@ -106,7 +106,7 @@ impl<'a> Draft<'a> {
     }
 
     /// The lowest line with a target that is no instruction of its code, if the open code is whole now.
-    #[tactic(auto, unfolding(crate::specs::View::state))]
+    #[tactic(auto, unfolding(crate::specs::inner::View::state))]
     fn late_line(&self) -> Option<u64>
         ensures { result ≡ earliest (state self.now).late (late_in (state self.now).block) }
     {
@@ -117,7 +117,7 @@ impl<'a> Draft<'a> {
     }
 
     /// The first line; false where a line was read.
-    #[tactic(auto, unfolding(crate::specs::View::state, crate::specs::View::block, crate::specs::States::add))]
+    #[tactic(auto, unfolding(crate::specs::inner::View::state, crate::specs::inner::View::block, crate::specs::States::add))]
     fn begin(&mut self) -> bool
         ensures begun { MatchBool result
             (add (state self.old) says.first_line ≡ Some (state self.new))
@@ -134,7 +134,7 @@ impl<'a> Draft<'a> {
     }
 
     /// A class begins; false where a block is open.
-    #[tactic(auto, unfolding(crate::specs::View::state, crate::specs::View::block, crate::specs::States::add))]
+    #[tactic(auto, unfolding(crate::specs::inner::View::state, crate::specs::inner::View::block, crate::specs::States::add))]
     fn open_class(&mut self, ty: Desc<'a>, flags: u32) -> bool
         ensures opened { MatchBool result
             (add (state self.old) (says.open_class (desc ty.entry) flags) ≡ Some (state self.new))
@@ -154,7 +154,7 @@ impl<'a> Draft<'a> {
     }
 
     /// A code begins; false where the line before gave no method.
-    #[tactic(auto, unfolding(crate::specs::View::state, crate::specs::States::add))]
+    #[tactic(auto, unfolding(crate::specs::inner::View::state, crate::specs::States::add))]
     fn open_code(&mut self, registers: u16, ins: u16, outs: u16) -> bool
         ensures opened { MatchBool result
             (add (state self.old) (says.open_code registers ins outs) ≡ Some (state self.new))
@@ -170,7 +170,7 @@ impl<'a> Draft<'a> {
     }
 
     /// The class is whole; false where none is open.
-    #[tactic(auto, unfolding(crate::specs::View::state, crate::specs::View::block, crate::specs::States::add))]
+    #[tactic(auto, unfolding(crate::specs::inner::View::state, crate::specs::inner::View::block, crate::specs::States::add))]
     fn end_class(&mut self, arena: &'a Bump) -> Result<bool, Fault>
         ensures ended { IfOk result (λ yes. MatchBool yes
             (add (state self.old) says.end_class ≡ Some (state self.new))
@@ -188,7 +188,7 @@ impl<'a> Draft<'a> {
     }
 
     /// The code is whole, and the method that it belongs to has it; false where none is open.
-    #[tactic(auto, unfolding(crate::specs::View::state, crate::specs::States::add))]
+    #[tactic(auto, unfolding(crate::specs::inner::View::state, crate::specs::States::add))]
     fn end_code(&mut self, arena: &'a Bump) -> Result<bool, Fault>
         ensures ended { IfOk result (λ yes. MatchBool yes
             (add (state self.old) says.end_code ≡ Some (state self.new))
@@ -206,7 +206,7 @@ impl<'a> Draft<'a> {
 
     /// A line that may stand here is added; false where it gives again what may be given once.
     #[rattlefmt::skip]
-    #[tactic(auto, unfolding(crate::specs::View::state, crate::specs::States::add))]
+    #[tactic(auto, unfolding(crate::specs::inner::View::state, crate::specs::States::add))]
     pub fn add(&mut self, arena: &'a Bump, next: Line<'a>) -> Result<bool, Fault>
         ensures added { IfOk result (λ yes. MatchBool yes
             (add (state self.old) (line next.entry) ≡ Some (state self.new))
@@ -225,7 +225,7 @@ impl<'a> Draft<'a> {
     }
 
     /// An instruction is added to the open code, as `add` does it with its line; false where no code is open.
-    #[tactic(auto, unfolding(crate::specs::View::state, crate::specs::States::add))]
+    #[tactic(auto, unfolding(crate::specs::inner::View::state, crate::specs::States::add))]
     pub fn add_insn(&mut self, new: Insn<'a>) -> Result<bool, Fault>
         ensures added { IfOk result (λ yes. MatchBool yes
             (add (state self.old) (says.insn_line (insn new.entry)) ≡ Some (state self.new))
@@ -238,7 +238,7 @@ impl<'a> Draft<'a> {
 
     /// Room for so many instructions more in the open code, if one is open, so that they are added without moving those
     /// before them. It is taken for `MOST_ROOM` at most, whatever a listing says.
-    #[tactic(auto, unfolding(crate::specs::View::state))]
+    #[tactic(auto, unfolding(crate::specs::inner::View::state))]
     pub fn make_room(&mut self, count: usize) -> Result<(), Fault>
         ensures same { state self.new ≡ state self.old }
         ensures lines { self.new.lines ≡ self.old.lines }

@@ -23,6 +23,8 @@ mod laws;
 mod lines;
 mod listing;
 mod reading;
+mod short;
+mod short_pieces;
 
 // Laws: what lines mean, without a reader's state.
 mod class_laws;

@@ -1,24 +1,25 @@
 //! A line of a listing, read and added to what the lines before it make.
 
-ghost use Rattle.std.specs.Prelude.{◌≡◌, ◌≢◌, false, ◌+◌, ◌<◌, ◌^◌, map, length, drop, IfOk, IfErr, IfSome, IfNone, OnOk, IsOkUnless, MatchBool, Some, None};
+ghost use Rattle.std.specs.Prelude.{◌≡◌, ◌≢◌, ℕ, false, List, ◌+◌, ◌<◌, ◌^◌, map, length, drop, IfOk, IfErr, IfSome, IfNone, OnOk, IsOkUnless, MatchBool, Some, None};
 ghost use Rattle.dex_base.specs.Fault.{memory};
-ghost use Rattle.listing_words.specs.View.{word};
-ghost use Rattle.listing_slots.specs.ValidNames.{StayValid};
-ghost use Rattle.listing_slots.specs.View.{datum};
+ghost use Rattle.listing_words.specs.inner.View.{word};
+ghost use Rattle.listing_slots.specs.inner.ValidNames.{StayValid};
+ghost use Rattle.listing_slots.specs.inner.View.{datum};
 ghost use Rattle.listing_slots.specs.Shapes.{Shape};
-ghost use Rattle.listing_slots.specs.ShapeView.{shape};
+ghost use Rattle.listing_slots.specs.inner.ShapeView.{shape};
 ghost use Rattle.listing_lines.specs.Lines.{line_of};
 ghost use Rattle.listing_parse.specs.States.{add};
-ghost use Rattle.listing_parse.specs.View.{state};
+ghost use Rattle.listing_parse.specs.inner.View.{state};
 ghost use Rattle.listing_labels.specs.Lines.{lines, is_skipped};
 ghost use Rattle.listing_parse.specs.Forms.{HasShapeInForm, SpellsInForm, MisspellsInForm};
-ghost use Rattle.listing_parse.specs.Named.{ReadingIsNamed};
+ghost use Rattle.listing_parse.specs.inner.Named.{ReadingIsNamed};
 ghost use Rattle.listing_parse.specs.Text.{line_counted, LineSays, IsUnsaid, AddsLine, TakesLine, LineIsRefused};
-ghost use Rattle.listing_parse.specs.ReadingView.{reading};
+ghost use Rattle.listing_parse.specs.inner.ReadingView.{reading};
 
 use crate::draft::Draft;
 use crate::form_line::FormLine;
 use crate::reading::Reading;
+use crate::short::read_short;
 use bumpalo::Bump;
 use dex_base::{Fault, fault};
 use listing_labels::{is_skipped, read_all};
@@ -186,13 +187,33 @@ fn add_line<'a, 'b>(
 }
 
 /// Counts one line more as read.
-#[tactic(auto, unfolding(crate::specs::ReadingView::reading))]
+#[tactic(auto, unfolding(crate::specs::inner::ReadingView::reading))]
 fn count_line(listing: &mut Reading<'_, '_>)
     requires { listing.old.draft.lines + 1 < 2 ^ 64 }
     ensures state { reading listing.new ≡ line_counted (reading listing.old) }
     ensures lines { listing.new.draft.lines ≡ listing.old.draft.lines + 1 }
 {
     listing.draft.count_line();
+}
+
+/// Adds the instruction of a line that is spelled as listings are printed; false where the line is to be read as others
+/// are, and then nothing is changed.
+fn add_short<'a, 'b>(
+    scratch: &mut Scratch<'a, 'b>,
+    listing: &mut Reading<'a, 'b>,
+    line: &'b [u8],
+) -> Result<bool, Fault>
+    ensures added { IfOk result (λ yes. MatchBool yes
+        ((is_skipped line.now ≡ false) × ((ls : List (List ℕ)) → AddsLine (reading listing.old) ls line.now (reading listing.new)))
+        (reading listing.new ≡ reading listing.old)) }
+    ensures named { IfOk result (λ yes. ReadingIsNamed scratch.old.spelled (reading listing.old) → ReadingIsNamed scratch.new.spelled (reading listing.new)) }
+    ensures lines { listing.new.draft.lines ≡ listing.old.draft.lines }
+    ensures memory { IsOkUnless result memory }
+{
+    let Some(new) = read_short(scratch, listing, line)? else {
+        return Ok(false);
+    };
+    listing.draft.add_insn(new)
 }
 
 /// Reads a line; else refuses it, at its number.
@@ -210,6 +231,9 @@ pub(crate) fn read_line<'a, 'b>(
     ensures lines { OnOk result (listing.new.draft.lines ≡ listing.old.draft.lines + 1) }
 {
     count_line(listing);
+    if add_short(scratch, listing, line)? {
+        return Ok(());
+    }
     if is_skipped(line) {
         return Ok(());
     }

@@ -3,12 +3,13 @@
 ghost use Rattle.std.specs.Prelude.{◌≡◌, ◌≢◌, [], length, IsTrue, IfOk, IfErr, OnOk};
 ghost use Rattle.dex_base.specs.Fault.{memory};
 ghost use Rattle.program_types.specs.View.{program};
-ghost use Rattle.listing_parse.specs.View.{state};
+ghost use Rattle.listing_parse.specs.inner.View.{state};
 ghost use Rattle.listing_labels.specs.Lines.{lines};
-ghost use Rattle.listing_parse.specs.Named.{StateIsNamed};
+ghost use Rattle.listing_parse.specs.inner.Named.{StateIsNamed};
 ghost use Rattle.listing_parse.specs.Text as spec;
-ghost use Rattle.listing_parse.specs.Text.{begin, Reads, IsListing, IsBadLine, ListingBreaks, IsFinished, IsUnfinished};
-ghost use Rattle.listing_parse.specs.ReadingView.{reading};
+ghost use Rattle.listing_parse.specs.Text.{begin, Reads, IsListing, IsBadLine, ListingBreaks};
+ghost use Rattle.listing_parse.specs.inner.Text.{IsFinished, IsUnfinished};
+ghost use Rattle.listing_parse.specs.inner.ReadingView.{reading};
 
 use crate::block::Block;
 use crate::draft::Draft;
@@ -30,7 +31,7 @@ const BYTES_A_NAME: usize = 256;
 const MOST_NAMES: usize = 16384;
 
 /// Nothing was read.
-#[tactic(auto, unfolding(crate::specs::ReadingView::reading))]
+#[tactic(auto, unfolding(crate::specs::inner::ReadingView::reading))]
 fn begin<'a, 't>(alloc: Global, seed: Seed, arena: &'a Bump) -> Reading<'a, 't>
     ensures { reading result ≡ begin }
 {

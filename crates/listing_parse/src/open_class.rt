@@ -74,11 +74,11 @@ pub struct InClass<'a> {
 impl<'a> Open<'a> {
     ghost use Rattle.program_types.specs.View.{desc, str, member, method, value, code};
     ghost use Rattle.listing_parse.specs.States.{opened, with_superclass, with_source, with_interface, with_static, with_instance, with_direct, with_virtual, with_code_at};
-    ghost use Rattle.listing_parse.specs.View.{open_class, owner};
+    ghost use Rattle.listing_parse.specs.inner.View.{open_class, owner};
     ghost use Rattle.std.specs.Prelude.{option_map};
 
     /// A class without anything.
-    #[tactic(auto, unfolding(crate::specs::View::open_class))]
+    #[tactic(auto, unfolding(crate::specs::inner::View::open_class))]
     pub(crate) fn new(alloc: Global, seed: Seed, ty: Desc<'a>, flags: u32) -> Open<'a>
         ensures { open_class result ≡ opened (desc ty.entry) flags }
     {
@@ -95,7 +95,7 @@ impl<'a> Open<'a> {
         }
     }
 
-    #[tactic(auto, unfolding(crate::specs::View::open_class, crate::specs::States::with_superclass))]
+    #[tactic(auto, unfolding(crate::specs::inner::View::open_class, crate::specs::States::with_superclass))]
     fn put_superclass(&mut self, ty: Desc<'a>) -> bool
         ensures { MatchBool result
             (with_superclass (open_class self.old) (desc ty.entry) ≡ Some (open_class self.new))
@@ -108,7 +108,7 @@ impl<'a> Open<'a> {
         true
     }
 
-    #[tactic(auto, unfolding(crate::specs::View::open_class, crate::specs::States::with_source))]
+    #[tactic(auto, unfolding(crate::specs::inner::View::open_class, crate::specs::States::with_source))]
     fn put_source(&mut self, text: Str<'a>) -> bool
         ensures { MatchBool result
             (with_source (open_class self.old) (str text.entry) ≡ Some (open_class self.new))
@@ -121,7 +121,7 @@ impl<'a> Open<'a> {
         true
     }
 
-    #[tactic(auto, unfolding(crate::specs::View::open_class, crate::specs::States::with_interface))]
+    #[tactic(auto, unfolding(crate::specs::inner::View::open_class, crate::specs::States::with_interface))]
     fn put_interface(&mut self, ty: Desc<'a>) -> Result<bool, Fault>
         ensures put { IfOk result (λ yes. MatchBool yes
             (with_interface (open_class self.old) (desc ty.entry) ≡ Some (open_class self.new))
@@ -131,7 +131,7 @@ impl<'a> Open<'a> {
         Ok(self.interfaces.insert(ty)?)
     }
 
-    #[tactic(auto, unfolding(crate::specs::View::open_class, crate::specs::States::with_static))]
+    #[tactic(auto, unfolding(crate::specs::inner::View::open_class, crate::specs::States::with_static))]
     fn put_static(&mut self, field: Member<'a>, initial: Option<Value<'a>>) -> Result<bool, Fault>
         ensures put { IfOk result (λ yes. MatchBool yes
             (with_static (open_class self.old) (record { field = member field.entry; value = option_map value initial.entry }) ≡ Some (open_class self.new))
@@ -146,7 +146,7 @@ impl<'a> Open<'a> {
         Ok(old.is_none())
     }
 
-    #[tactic(auto, unfolding(crate::specs::View::open_class, crate::specs::States::with_instance))]
+    #[tactic(auto, unfolding(crate::specs::inner::View::open_class, crate::specs::States::with_instance))]
     fn put_instance(&mut self, field: Member<'a>) -> Result<bool, Fault>
         ensures put { IfOk result (λ yes. MatchBool yes
             (with_instance (open_class self.old) (member field.entry) ≡ Some (open_class self.new))
@@ -157,7 +157,7 @@ impl<'a> Open<'a> {
         Ok(old.is_none())
     }
 
-    #[tactic(auto, unfolding(crate::specs::View::open_class, crate::specs::States::with_direct))]
+    #[tactic(auto, unfolding(crate::specs::inner::View::open_class, crate::specs::States::with_direct))]
     fn put_direct(&mut self, new: Method<'a>) -> Result<bool, Fault>
         ensures put { IfOk result (λ yes. MatchBool yes
             (with_direct (open_class self.old) (method new.entry) ≡ Some (open_class self.new))
@@ -172,7 +172,7 @@ impl<'a> Open<'a> {
         Ok(old.is_none())
     }
 
-    #[tactic(auto, unfolding(crate::specs::View::open_class, crate::specs::States::with_virtual))]
+    #[tactic(auto, unfolding(crate::specs::inner::View::open_class, crate::specs::States::with_virtual))]
     fn put_virtual(&mut self, new: Method<'a>) -> Result<bool, Fault>
         ensures put { IfOk result (λ yes. MatchBool yes
             (with_virtual (open_class self.old) (method new.entry) ≡ Some (open_class self.new))
@@ -188,7 +188,7 @@ impl<'a> Open<'a> {
     }
 
     /// The method that the code belongs to has it.
-    #[tactic(auto, unfolding(crate::specs::View::open_class))]
+    #[tactic(auto, unfolding(crate::specs::inner::View::open_class))]
     pub(crate) fn put_code(&mut self, of: Owner<'a>, whole: &'a Code<'a>)
         ensures { open_class self.new ≡ with_code_at (open_class self.old) (owner of.entry) (code whole.now) }
     {
@@ -201,9 +201,9 @@ impl<'a> Open<'a> {
 }
 
 impl<'a> InClass<'a> {
-    ghost use Rattle.listing_lines.specs.LineView.{line};
+    ghost use Rattle.listing_lines.specs.inner.LineView.{line};
     ghost use Rattle.listing_parse.specs.States.{class_line};
-    ghost use Rattle.listing_parse.specs.View.{open_class, class_part};
+    ghost use Rattle.listing_parse.specs.inner.View.{open_class, class_part};
 
     /// A line of the class alone; false where what it gives is given already, or where it is of another kind.
     #[rattlefmt::skip]

@@ -62,7 +62,7 @@ pub struct InCode<'a> {
 impl<'a> OpenTry<'a> {
     ghost use Rattle.std.specs.Prelude.{◌++◌, ◌∷◌, []};
     ghost use Rattle.program_types.specs.View.{catch};
-    ghost use Rattle.listing_parse.specs.View.{open_try};
+    ghost use Rattle.listing_parse.specs.inner.View.{open_try};
 
     fn put_catch(&mut self, new: Catch<'a>) -> Result<(), Fault>
         ensures put { OnOk result (open_try self.new
@@ -77,7 +77,7 @@ impl<'a> OpenTry<'a> {
 impl<'a> CodePart<'a> {
     ghost use Rattle.program_types.specs.View.{catch};
     ghost use Rattle.listing_parse.specs.States.{with_catch, is_in_try};
-    ghost use Rattle.listing_parse.specs.View.{code_part};
+    ghost use Rattle.listing_parse.specs.inner.View.{code_part};
 
     /// One catch more in the open try; false where no try is open.
     fn put_catch(&mut self, new: Catch<'a>) -> Result<bool, Fault>
@@ -107,10 +107,10 @@ impl<'a> OpenBody<'a> {
     ghost use Rattle.listing_lines.specs.Needs.{with_need};
     ghost use Rattle.program_types.specs.View.{insn, code};
     ghost use Rattle.listing_parse.specs.States.{begun, with_insn, with_tries, whole_code};
-    ghost use Rattle.listing_parse.specs.View.{owner, open_body, code_part};
+    ghost use Rattle.listing_parse.specs.inner.View.{owner, open_body, code_part};
 
     /// A code without anything.
-    #[tactic(auto, unfolding(crate::specs::View::open_body))]
+    #[tactic(auto, unfolding(crate::specs::inner::View::open_body))]
     pub(crate) fn new(
         alloc: Global,
         of: Owner<'a>,
@@ -133,7 +133,7 @@ impl<'a> OpenBody<'a> {
     }
 
     /// What a line needs is noted.
-    #[tactic(auto, unfolding(crate::specs::View::open_body))]
+    #[tactic(auto, unfolding(crate::specs::inner::View::open_body))]
     fn note(&mut self, number: u64, count: u64) -> Result<(), Fault>
         ensures put { OnOk result (open_body self.new
             ≡ record (open_body self.old) { needs = with_need (open_body self.old).needs number count }) }
@@ -148,7 +148,7 @@ impl<'a> OpenBody<'a> {
         Ok(())
     }
 
-    #[tactic(auto, unfolding(crate::specs::View::open_body))]
+    #[tactic(auto, unfolding(crate::specs::inner::View::open_body))]
     fn put_insn(&mut self, new: Insn<'a>) -> Result<(), Fault>
         ensures put { OnOk result (open_body self.new ≡ with_insn (open_body self.old) (insn new.entry)) }
         ensures memory { IsOkUnless result memory }
@@ -158,7 +158,7 @@ impl<'a> OpenBody<'a> {
     }
 
     /// The open try is whole, if one is open.
-    #[tactic(auto, unfolding(crate::specs::View::open_body))]
+    #[tactic(auto, unfolding(crate::specs::inner::View::open_body))]
     pub(crate) fn end_try(
         &mut self,
         arena: &'a Bump,
@@ -183,7 +183,7 @@ impl<'a> OpenBody<'a> {
     }
 
     /// Room for so many instructions more.
-    #[tactic(auto, unfolding(crate::specs::View::open_body))]
+    #[tactic(auto, unfolding(crate::specs::inner::View::open_body))]
     pub(crate) fn make_room(&mut self, count: usize) -> Result<(), Fault>
         ensures same { open_body self.new ≡ open_body self.old }
         ensures memory { IsOkUnless result memory }
@@ -193,7 +193,7 @@ impl<'a> OpenBody<'a> {
     }
 
     /// The code, when its tries are whole.
-    #[tactic(auto, unfolding(crate::specs::View::open_body))]
+    #[tactic(auto, unfolding(crate::specs::inner::View::open_body))]
     pub(crate) fn alloc_code(&self, arena: &'a Bump) -> Result<Code<'a>, Fault>
         ensures ok { IfOk result (λ c. code c ≡ whole_code (open_body self.now)) }
         ensures memory { IsOkUnless result memory }
@@ -211,11 +211,11 @@ impl<'a> OpenBody<'a> {
 }
 
 impl<'a> InCode<'a> {
-    ghost use Rattle.listing_lines.specs.LineView.{line};
+    ghost use Rattle.listing_lines.specs.inner.LineView.{line};
     ghost use Rattle.listing_lines.specs.Lines.{insn_line};
     ghost use Rattle.program_types.specs.View.{insn, code};
     ghost use Rattle.listing_parse.specs.States.{at_insns, noted, with_insn, with_tries, whole_code, with_code_at, code_line};
-    ghost use Rattle.listing_parse.specs.View.{owner, open_class, open_body, code_part};
+    ghost use Rattle.listing_parse.specs.inner.View.{owner, open_class, open_body, code_part};
 
     /// A line of the code alone, whose needs are noted; false where it is of another kind, or a catch where no try is
     /// open.

@@ -3,13 +3,13 @@
 
 ghost use Rattle.std.specs.Prelude.{◌≡◌, ◌+◌, ◌<◌, ◌^◌, map, length, OnOk, IsOkUnless};
 ghost use Rattle.dex_base.specs.Fault.{memory};
-ghost use Rattle.listing_words.specs.View.{word};
-ghost use Rattle.listing_slots.specs.ShapeView.{shape};
-ghost use Rattle.listing_parse.specs.View.{state};
+ghost use Rattle.listing_words.specs.inner.View.{word};
+ghost use Rattle.listing_slots.specs.inner.ShapeView.{shape};
+ghost use Rattle.listing_parse.specs.inner.View.{state};
 ghost use Rattle.listing_labels.specs.Lines.{lines};
 ghost use Rattle.listing_parse.specs.Forms.{may_stand_in_form};
 ghost use Rattle.listing_parse.specs.Text.{word_is, is_second, begins_mark, labels_after};
-ghost use Rattle.listing_parse.specs.ReadingView.{reading};
+ghost use Rattle.listing_parse.specs.inner.ReadingView.{reading};
 
 use crate::block::Block;
 use crate::draft::Draft;
@@ -79,11 +79,11 @@ impl<'a, 't> Reading<'a, 't> {
     ghost use Rattle.std.specs.Prelude.{List};
     ghost use Rattle.listing_slots.specs.declared.slot.Slot.{Slot};
     ghost use Rattle.listing_words.specs.Words as words;
-    ghost use Rattle.listing_slots.specs.ShapeView.{shape};
+    ghost use Rattle.listing_slots.specs.inner.ShapeView.{shape};
     ghost use Rattle.listing_parse.specs.Text.{line_of_label, line_of_mark, line_of_form, in_second};
 
     /// What the line of a label is.
-    #[tactic(auto, unfolding(crate::specs::ReadingView::reading))]
+    #[tactic(auto, unfolding(crate::specs::inner::ReadingView::reading))]
     fn line_of_label(&self, name: &[u8]) -> FormLine
         ensures { result ≡ line_of_label (reading self.now) name.now }
     {
@@ -102,7 +102,7 @@ impl<'a, 't> Reading<'a, 't> {
     }
 
     /// What a line is that begins with a label.
-    #[tactic(auto, unfolding(crate::specs::ReadingView::reading))]
+    #[tactic(auto, unfolding(crate::specs::inner::ReadingView::reading))]
     fn line_of_mark(&self, words: &[Word<'_, '_>]) -> FormLine
         ensures { result ≡ line_of_mark (reading self.now) (map word words.now) }
     {
@@ -119,7 +119,7 @@ impl<'a, 't> Reading<'a, 't> {
     }
 
     /// What a line of these words is if it says nothing of the program.
-    #[tactic(auto, unfolding(crate::specs::ReadingView::reading, crate::specs::Text::line_of_form))]
+    #[tactic(auto, unfolding(crate::specs::inner::ReadingView::reading, crate::specs::Text::line_of_form))]
     pub(crate) fn line_of_form(&self, words: &[Word<'_, '_>]) -> FormLine
         ensures { result ≡ line_of_form (reading self.now) (map word words.now) }
     {
@@ -142,7 +142,7 @@ impl<'a, 't> Reading<'a, 't> {
     }
 
     /// The listing is of the second form.
-    #[tactic(auto, unfolding(crate::specs::ReadingView::reading))]
+    #[tactic(auto, unfolding(crate::specs::inner::ReadingView::reading))]
     pub(crate) fn begin_second(&mut self)
         ensures second { reading self.new ≡ in_second (reading self.old) }
         ensures lines { self.new.draft.lines ≡ self.old.draft.lines }
@@ -153,7 +153,7 @@ impl<'a, 't> Reading<'a, 't> {
     }
 
     /// The line of a label was read. The number of such lines is the index of the next label ahead, which is looked at first.
-    #[tactic(auto, unfolding(crate::specs::ReadingView::reading))]
+    #[tactic(auto, unfolding(crate::specs::inner::ReadingView::reading))]
     pub(crate) fn pass_label(&mut self)
         ensures same { reading self.new ≡ reading self.old }
         ensures lines { self.new.draft.lines ≡ self.old.draft.lines }
@@ -162,7 +162,7 @@ impl<'a, 't> Reading<'a, 't> {
     }
 
     /// Whether a line of this shape may stand here.
-    #[tactic(auto, unfolding(crate::specs::ReadingView::reading))]
+    #[tactic(auto, unfolding(crate::specs::inner::ReadingView::reading))]
     pub(crate) fn may_be(&self, found: Found<'_>) -> bool
         ensures { (ss : List Slot) (ws : List words.Word) → result ≡ may_stand_in_form self.now.form (state self.now.draft) (shape found.entry ss ws) }
     {
@@ -173,7 +173,7 @@ impl<'a, 't> Reading<'a, 't> {
     }
 
     /// The labels ahead of a line of this kind.
-    #[tactic(auto, unfolding(crate::specs::ReadingView::reading))]
+    #[tactic(auto, unfolding(crate::specs::inner::ReadingView::reading))]
     pub(crate) fn find_labels(&mut self, kind: Kind, after: &'t [u8]) -> Result<(), Fault>
         requires { self.old.draft.lines + 1 + length after.now < 2 ^ 64 }
         ensures looked { OnOk result (reading self.new ≡ record (reading self.old) { labels = labels_after self.old.form kind (self.old.draft.lines + 1) (lines after.now) (reading self.old).labels }) }

@@ -4,8 +4,8 @@ ghost use Rattle.std.specs.Prelude.{◌≡◌, ◌↔◌, ℕ, true, false, List
 ghost use Rattle.listing_lines.specs.declared.form.Form.{Form};
 ghost use Rattle.listing_lines.specs.Places.{is_start};
 ghost use Rattle.listing_parse.specs.States.{State, stage_of};
-ghost use Rattle.listing_parse.specs.Reads.{AreRead, SayRun};
-ghost use Rattle.listing_parse.specs.Runs.{is_outside};
+ghost use Rattle.listing_parse.specs.inner.Reads.{AreRead, SayRun};
+ghost use Rattle.listing_parse.specs.inner.Runs.{is_outside};
 
 /// In a text of either form, after its first line and outside of codes, as after a method, lines are read to where no code
 /// is open exactly if they say lines of a program that lead there, in codes with their labels, whether a target is late or

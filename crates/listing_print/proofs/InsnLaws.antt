@@ -29,7 +29,7 @@ use Rattle.listing_lines.specs.declared.form.Form.TheVariants.{One, Two}
 use Rattle.listing_lines.specs.Lines.{insn_line, line_of, insn_of, alternate}
 use Rattle.listing_print.specs.Operands.{Operand, keyword, v4, to, name_operand, pair_operands, insn_operands}
 use Rattle.listing_print.specs.Printed.{insn_word}
-use Rattle.listing_print.specs.Reading.{slots_of, data_of, words_in, FitOperands, insn_kind, IsNameOfOpcode, OpcodeFits}
+use Rattle.listing_print.specs.inner.Reading.{slots_of, data_of, words_in, FitOperands, insn_kind, IsNameOfOpcode, OpcodeFits}
 use Rattle.listing_print.proofs.PrintedLaws.{forms_in, join_in, slots_join}
 use Rattle.listing_slots.proofs.ShownLaws.{natural_printed}
 

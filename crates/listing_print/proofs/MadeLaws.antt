@@ -8,7 +8,7 @@ use Rattle.listing_slots.specs.declared.key.Key.TheVariants as key
 use Rattle.listing_slots.specs.Data.{Datum, said}
 use Rattle.listing_lines.specs.Lines.{Making, with_word, with_value, value_of, first_value}
 use Rattle.listing_print.specs.Operands.{Operand, keyword, named_operands, value_operands, values_operands}
-use Rattle.listing_print.specs.Reading.{data_of}
+use Rattle.listing_print.specs.inner.Reading.{data_of}
 use Rattle.std.proofs.Math.Seq.{take-append_seam, drop-append_seam}
 use Rattle.program_types.proofs.Nesting.{listed, values-listed}
 

@@ -3,7 +3,7 @@ use Rattle.std.proofs.Common.{◌≡◌, ℕ, zero, suc, ◌+◌, ◌<◌, Bool,
 use Rattle.std.specs.List.{flat_map}
 use Rattle.std.proofs.lemmas.Grind.{flat_map-append}
 use Rattle.std.proofs.lemmas.List.{append-nil, map-append, take_more, take_all, drop_all}
-use Rattle.listing_print.specs.Marks.{IsMarked}
+use Rattle.listing_print.specs.inner.Marks.{IsMarked}
 
 -- ---- one number more, and one after the other
 

@@ -12,13 +12,14 @@ use Rattle.listing_slots.specs.Keys.{key_text, same, find_key, value_keys}
 use Rattle.listing_slots.specs.declared.slot.Mark.TheVariants.{Target}
 use Rattle.listing_slots.specs.Data.{Datum, word}
 use Rattle.listing_slots.specs.Slots.{SpellsSlots, has_form, have_forms}
-use Rattle.listing_slots.specs.Shown.{shown, FitsSlot}
+use Rattle.listing_slots.specs.Shown.{shown}
+use Rattle.listing_slots.specs.inner.Shown.{FitsSlot}
 use Rattle.listing_slots.proofs.ShownLaws.{shown_all, FitSlots, shown_form, shown_spelled}
 use Rattle.listing_lines.specs.declared.form.Form.{Form}
 use Rattle.listing_lines.specs.declared.form.Form.TheVariants.{One, Two}
 use Rattle.listing_slots.specs.declared.due.Due.TheVariants as due
 use Rattle.listing_slots.specs.Shapes.{value_slots, slot_at, due_after_word, due_after, due_of_key}
-use Rattle.listing_print.specs.Reading.{slots_of, data_of, words_in, FitOperands}
+use Rattle.listing_print.specs.inner.Reading.{slots_of, data_of, words_in, FitOperands}
 use Rattle.listing_print.specs.Operands.{Operand, shown_in, target_word, keyword, named_operands, truth_key, value_operands, values_operands}
 use Rattle.listing_slots.proofs.ValueSlotLaws.{after_slots}
 

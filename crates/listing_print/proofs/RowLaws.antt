@@ -12,7 +12,7 @@ use Rattle.listing_print.specs.Operands.{value_operands}
 use Rattle.listing_print.specs.Printed.{line_key, line_operands}
 use Rattle.listing_lines.specs.declared.form.Form.{Form}
 use Rattle.listing_print.proofs.PrintedLaws.{forms_in, value_words, value_whole}
-use Rattle.listing_print.specs.Reading.{slots_of, data_of, words_in, FitOperands, line_kind, IsKeyedLine}
+use Rattle.listing_print.specs.inner.Reading.{slots_of, data_of, words_in, FitOperands, line_kind, IsKeyedLine}
 use Rattle.listing_print.proofs.MadeLaws.{value_made}
 
 lead_of : (l : Line) → IsKeyedLine l → Some (line_key l) ≡ find_key lead_keys (key_text (line_key l))

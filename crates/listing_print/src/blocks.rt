@@ -7,7 +7,7 @@ ghost use Rattle.program_types.specs.View.{desc, str, member, method, value, ins
 ghost use Rattle.listing_lines.specs.Lines as says;
 ghost use Rattle.listing_print.specs.Printed.{keyed_text};
 ghost use Rattle.listing_print.specs.Canon.{super_text, source_text, insns_text, catches_text, try_text, code_text, direct_text, virtual_text, statics_text, heads_text, fields_text, methods_text, class_text, label_if_named, first_text, text_in, canon, canon_1};
-ghost use Rattle.listing_print.specs.Marks.{IsMarked};
+ghost use Rattle.listing_print.specs.inner.Marks.{IsMarked};
 
 use crate::lines::{
     put_catch_all_line, put_catch_line, put_class_line, put_code_line, put_given_line,

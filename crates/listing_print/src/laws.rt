@@ -9,7 +9,7 @@ ghost use Rattle.listing_slots.specs.Shapes.{HasShape, HasBareShape, IsKeyed, va
 ghost use Rattle.listing_lines.specs.declared.form.Form.{Form};
 ghost use Rattle.listing_lines.specs.declared.form.Form.TheVariants.{One, Two};
 ghost use Rattle.listing_print.specs.Printed.{line_key, line_operands, insn_word};
-ghost use Rattle.listing_print.specs.Reading.{slots_of, data_of, words_in, FitOperands, line_kind, IsKeyedLine, insn_kind, OpcodeFits};
+ghost use Rattle.listing_print.specs.inner.Reading.{slots_of, data_of, words_in, FitOperands, line_kind, IsKeyedLine, insn_kind, OpcodeFits};
 ghost use Rattle.program_types.specs.Content.{Value, Insn};
 ghost use Rattle.listing_slots.specs.declared.due.Due.TheVariants as due;
 ghost use Rattle.listing_slots.specs.Shown.{shown};

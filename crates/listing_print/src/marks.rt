@@ -5,7 +5,7 @@ ghost use Rattle.std.specs.List.{flat_map};
 ghost use Rattle.program_types.specs.View.{insn, catch, try, code};
 ghost use Rattle.program_types.specs.Formed.{insn_leads};
 ghost use Rattle.listing_print.specs.Canon.{try_numbers, code_numbers};
-ghost use Rattle.listing_print.specs.Marks.{IsMarked};
+ghost use Rattle.listing_print.specs.inner.Marks.{IsMarked};
 
 use program_types::{Catch, Code, Insn, Try, leads_of};
 use std::alloc::{AllocError, Global};

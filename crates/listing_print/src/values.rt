@@ -5,7 +5,7 @@ ghost use Rattle.program_types.specs.View.{value, name};
 ghost use Rattle.std.specs.Fmt.{signed_decimal};
 ghost use Rattle.listing_slots.specs.Keys.{key_text};
 ghost use Rattle.listing_print.specs.Operands.{operand_text, named_operands, value_operands};
-ghost use Rattle.listing_print.specs.Leaves.{IsLeaf};
+ghost use Rattle.listing_print.specs.inner.Leaves.{IsLeaf};
 
 use crate::operands::put_named;
 use listing_slots::{Key, put_bits, put_field, put_key, put_number, put_signed};

@@ -1,6 +1,6 @@
 -- Words in slots, one after the other.
 use Rattle.std.proofs.Common.{true, ◌≡◌, ℕ, ◌+◌, ◌<◌, ◌≤◌, inr, List, [], ◌∷◌, ◌++◌, length, get_or, drop, map, refl, ap, subst, ◌∙◌, arith, add-one, drop-cons, drop_of_length-le}
-use Rattle.listing_words.specs.View.{word}
+use Rattle.listing_words.specs.inner.View.{word}
 use Rattle.listing_words.specs.declared.words.Word.{Word as Made}
 use Rattle.listing_slots.specs.declared.slot.Slot.{Slot}
 use Rattle.listing_slots.specs.Data.{Datum, named}
@@ -13,9 +13,10 @@ use Rattle.listing_words.specs.Names.{SpellsUnits, IsProtoText, IsFieldText, IsM
 use Rattle.listing_words.proofs.NameLaws.{units_one}
 use Rattle.listing_slots.specs.declared.slot.Slot.TheVariants as slot
 use Rattle.listing_slots.specs.declared.datum.Datum.{Datum as Put}
-use Rattle.listing_slots.specs.ValidNames.{IsValidDatum, Spellings, StayValid}
-use Rattle.listing_slots.specs.View.{datum}
-use Rattle.listing_slots.specs.Slots.{SpellsNamed, IsMember, IsType, SpellsUnitsIn, is_name_slot, SpellsSlot, SpellsSlots, MisspellsSlots}
+use Rattle.listing_slots.specs.inner.ValidNames.{IsValidDatum, Spellings, StayValid}
+use Rattle.listing_slots.specs.inner.View.{datum}
+use Rattle.listing_slots.specs.Slots.{SpellsNamed, IsMember, IsType, is_name_slot, SpellsSlot, SpellsSlots, MisspellsSlots}
+use Rattle.listing_slots.specs.inner.Slots.{SpellsUnitsIn}
 
 pub all_end : (ss : List Slot) (ws : List Made) (i : ℕ) → length ss ≤ i → length ss ≡ length ws → SpellsSlots (drop i ss) (map word (drop i ws)) []
 all_end ss ws i h e = rw (drop_of_length-le ss {i = i} h, drop_of_length-le ws {i = i} (omega arith)) tt

@@ -6,7 +6,7 @@ use Rattle.std.specs.List.{list_all}
 use Rattle.std.proofs.lemmas.List.{append_cancel_right, length-map}
 use Rattle.dex_insn.proofs.Mnemonics.{named_once}
 use Rattle.dex_insn.specs.Mnemonics.{IsNamed, mnemonics}
-use Rattle.listing_words.specs.View.{word}
+use Rattle.listing_words.specs.inner.View.{word}
 use Rattle.listing_words.specs.declared.words.Word.{Word as Made}
 use Rattle.listing_words.specs.Words.{Word, plain_word}
 use Rattle.listing_words.specs.Numbers.{is_natural}
@@ -16,7 +16,8 @@ use Rattle.listing_slots.specs.declared.slot.Slot.{Slot}
 use Rattle.listing_slots.specs.declared.slot.Slot.TheVariants as slot
 use Rattle.listing_slots.specs.Keys.{key_text, same, find_key, lead_keys, payload_keys}
 use Rattle.listing_slots.specs.Slots.{has_form, have_forms}
-use Rattle.listing_slots.specs.Shapes.{Shape, Row, BeginsWithKey, BeginsWithInsn, IsPlainRow, IsInsnRow, IsKeyed, HasShape, HasBareShape, key_row, payload_row, onto_row, pairs, target}
+use Rattle.listing_slots.specs.Shapes.{Shape, Row, BeginsWithKey, BeginsWithInsn, IsPlainRow, IsInsnRow, IsKeyed, HasShape, HasBareShape, key_row, payload_row, pairs, target}
+use Rattle.listing_slots.specs.inner.Shapes.{onto_row}
 use Rattle.listing_slots.proofs.KeyLaws.{same_true}
 use Rattle.std.proofs.lemmas.Bool.{and_parts}
 

@@ -9,7 +9,8 @@ use Rattle.std.proofs.lemmas.Bool.{ltb-true, eq-eqb, and_parts}
 use Rattle.dex_base.specs.Descriptor.{IsMemberName}
 use Rattle.program_types.specs.Content.{OfText, OfDesc, OfField, OfMethod}
 use Rattle.listing_words.specs.Numbers.{SpellsNatural}
-use Rattle.listing_words.specs.Words.{Word, IsGraphic, IsWritable, plain_word}
+use Rattle.listing_words.specs.Words.{Word, IsGraphic, plain_word}
+use Rattle.listing_words.specs.inner.Words.{IsWritable}
 use Rattle.listing_words.specs.Written.{hex_digits, hex_width, flags_text, elements_text, name_text, proto_units, field_units, method_units}
 use Rattle.listing_words.proofs.WrittenLaws.{bits_again, flags_again, elements_again, name_again, name_writable, hex_graphic, hex_length}
 use Rattle.listing_slots.specs.declared.key.Key.{Key}
@@ -21,7 +22,8 @@ use Rattle.listing_slots.specs.declared.slot.Slot.TheVariants as slot
 use Rattle.listing_slots.specs.Keys.{key_text, same}
 use Rattle.listing_slots.specs.Data.{Datum, byte, half, word, wide, tiny, short, int, long, elements, named, constant, prototype, said}
 use Rattle.listing_slots.specs.Slots.{mark_text, SpellsNumber, SpellsInteger, IsSignedWithin, SpellsSlot, SpellsSlots, has_form}
-use Rattle.listing_slots.specs.Shown.{shown, FitsSlot}
+use Rattle.listing_slots.specs.Shown.{shown}
+use Rattle.listing_slots.specs.inner.Shown.{FitsSlot}
 use Rattle.dex_base.proofs.NameLaws.{simple_some}
 use Rattle.program_types.proofs.Letters.{descriptor_some}
 use Rattle.dex_base.proofs.ListFacts.{all_append}
@@ -142,14 +144,14 @@ key_is_word _ = refl
 pub digit_range : (c : ℕ) → digit_value c < 10 → (48 ≤ c) × (c < 58)
 digit_range c h = grind arith
 
-digits_graphic : (cs : List ℕ) → AllDigits 10 cs → AllByRecursion IsGraphic cs
+pub digits_graphic : (cs : List ℕ) → AllDigits 10 cs → AllByRecursion IsGraphic cs
 digits_graphic [] h = tt
 digits_graphic (c ∷ cs) h = let r = digit_range c h.0 in ((omega arith, omega arith), digits_graphic cs h.1)
 
 decimal_graphic : (n : ℕ) → n < 2 ^ 64 → AllByRecursion IsGraphic (decimal n)
 decimal_graphic n h = digits_graphic (decimal n) (decimal_is_IsNumeral n h).0.1
 
-digits_written : (cs : List ℕ) → 0 < length cs → AllDigits 10 cs → IsWritable (plain_word cs)
+pub digits_written : (cs : List ℕ) → 0 < length cs → AllDigits 10 cs → IsWritable (plain_word cs)
 digits_written [] s h = absurd (omega arith)
 digits_written (c ∷ cs) s h = let r = digit_range c h.0 in (s, (λ q. omega arith), digits_graphic (c ∷ cs) h)
 
@@ -157,7 +159,7 @@ decimal_written : (n : ℕ) → n < 2 ^ 64 → IsWritable (plain_word (decimal n
 decimal_written n h = let d = decimal_is_IsNumeral n h in digits_written (decimal n) d.0.0 d.0.1
 
 -- a graphic byte in front
-front_written : (c : ℕ) (cs : List ℕ) → 34 < c → c < 127 → AllByRecursion IsGraphic cs → IsWritable (plain_word (c ∷ cs))
+pub front_written : (c : ℕ) (cs : List ℕ) → 34 < c → c < 127 → AllByRecursion IsGraphic cs → IsWritable (plain_word (c ∷ cs))
 front_written c cs a b g = (omega arith, (λ q. omega arith), ((omega arith, b), g))
 
 pub number_written : (m : Mark) (n : ℕ) → n < 2 ^ 64 → IsWritable (plain_word (mark_text m ++ decimal n))

@@ -1,7 +1,7 @@
 -- Slots of values.
 use Rattle.std.proofs.Common.{◌≡◌, ℕ, ◌+◌, ◌<◌, ◌≤◌, Bool, true, false, if◌then◌else◌, List, [], ◌∷◌, ◌++◌, length, get_or, drop, map, Option, Some, None, option_map, MatchBool, refl, sym, ap, ◌∙◌, append_assoc, add-one, drop-cons, drop_of_length-le}
 use Rattle.std.proofs.lemmas.List.{append-nil}
-use Rattle.listing_words.specs.View.{word}
+use Rattle.listing_words.specs.inner.View.{word}
 use Rattle.listing_words.specs.declared.words.Word.{Word as Made}
 use Rattle.listing_slots.specs.declared.slot.Slot.{Slot}
 use Rattle.listing_slots.specs.declared.due.Due.{Due}

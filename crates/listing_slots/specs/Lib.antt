@@ -1,9 +1,6 @@
 pub mod Keys
 pub mod Data
-pub mod View
 pub mod Slots
 pub mod Shown
-pub mod ValidNames
-pub mod Spelled
 pub mod Shapes
-pub mod ShapeView
+pub mod inner

@@ -118,12 +118,6 @@ due_of_key n key.Method = due.Word slot.Method n
 due_of_key n key.Enum = due.Word slot.Enum n
 due_of_key n _ = due_after n
 
--- In how many arrays.
-abbrev pub depth_of : Due → ℕ
-depth_of (due.Value n) = n
-depth_of (due.Word s n) = n
-depth_of _ = 0
-
 -- after `}`
 abbrev pub due_after_close : ℕ → Due
 due_after_close zero = due.Refused
@@ -284,8 +278,3 @@ pub record IsUnnumbered (ws : List Word) (s : Shape) : Type 0 where
 -- The words have this shape where instructions don't give themselves numbers.
 abbrev pub HasBareShape : List Word → Shape → Type 0
 HasBareShape ws s = IsUnnumbered ws s ⊎ IsKeyed ws s
-
--- What a private helper says: after slots that are there already.
-abbrev pub onto_row : List Slot → Option Row → Option Row
-onto_row done None = None
-onto_row done (Some r) = Some (r.0, done ++ r.1)

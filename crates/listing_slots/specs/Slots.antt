@@ -93,35 +93,6 @@ is_name_slot slot.Enum = true
 is_name_slot slot.Proto = true
 is_name_slot _ = false
 
--- A signed number stands in the slot.
-abbrev pub is_signed_slot : Slot → Bool
-is_signed_slot slot.Nibble = true
-is_signed_slot slot.Tiny = true
-is_signed_slot slot.Short = true
-is_signed_slot slot.Int = true
-is_signed_slot slot.Long = true
-is_signed_slot _ = false
-
--- A number stands in the slot.
-abbrev pub is_number_slot : Slot → Bool
-is_number_slot (slot.Byte m most) = true
-is_number_slot (slot.Half m most) = true
-is_number_slot (slot.Word m most) = true
-is_number_slot slot.Flags = true
-is_number_slot slot.Float = true
-is_number_slot slot.Double = true
-is_number_slot s = is_signed_slot s
-
--- What units say in a name's slot.
-abbrev pub SpellsUnitsIn : Slot → List ℕ → Datum → Type 0
-SpellsUnitsIn slot.Member us d = IsMemberName us × (d ≡ named (OfText us))
-SpellsUnitsIn slot.Desc us d = IsDescriptor us × (d ≡ named (OfDesc us))
-SpellsUnitsIn slot.Field us d = (f : FieldRef) × IsFieldText us f × (d ≡ named (OfField f))
-SpellsUnitsIn slot.Method us d = (m : MethodRef) × IsMethodText us m × (d ≡ named (OfMethod m))
-SpellsUnitsIn slot.Enum us d = (f : FieldRef) × IsFieldText us f × (d ≡ constant f)
-SpellsUnitsIn slot.Proto us d = (p : Proto) × IsProtoText us p × (d ≡ prototype p)
-SpellsUnitsIn _ us d = ⊥
-
 -- The fault of a word that says nothing in its slot: 101 Name, 102 Number.
 abbrev pub fault_of : Slot → ℕ
 fault_of s = if is_name_slot s then 101 else 102

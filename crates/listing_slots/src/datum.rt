@@ -2,7 +2,7 @@
 
 ghost use Rattle.std.specs.Prelude.{◌≡◌, ◌<◌, map};
 ghost use Rattle.program_types.specs.View.{name, str, desc, proto};
-ghost use Rattle.listing_slots.specs.View.{datum};
+ghost use Rattle.listing_slots.specs.inner.View.{datum};
 ghost use Rattle.listing_slots.specs.Data.{at, byte_of, half_of, word_of, tiny_of, short_of, int_of, long_of, elements_of, name_of, text_of, type_of, proto_of};
 
 use crate::key::Key;

@@ -2,7 +2,7 @@
 
 ghost use Rattle.std.specs.Prelude.{◌≡◌, ◌<◌, ◌+◌, ◌++◌, ◌∷◌, [], Option, Some, map, drop, replicate, OnOk, IsOkUnless};
 ghost use Rattle.dex_base.specs.Fault.{memory};
-ghost use Rattle.listing_words.specs.View.{word};
+ghost use Rattle.listing_words.specs.inner.View.{word};
 ghost use Rattle.listing_slots.specs.Keys.{key_text};
 ghost use Rattle.listing_slots.specs.declared.key.Key.TheVariants as Key;
 ghost use Rattle.listing_slots.specs.declared.slot.Slot.TheVariants as Slot;
@@ -63,8 +63,8 @@ pub(crate) fn have_forms(slots: &[Slot], words: &[Word<'_, '_>]) -> bool
     true
 }
 
-/// The slot of what an instruction names.
-fn name_slot(index: Option<IndexKind>) -> Slot
+/// The slot of what an instruction names, by the table that its index is into; of an instruction without one, a type's.
+pub fn name_slot(index: Option<IndexKind>) -> Slot
     ensures { result ≡ name_slot index }
 {
     match index {

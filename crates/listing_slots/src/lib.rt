@@ -35,10 +35,11 @@ pub use datum::{
     Datum, byte_of, datum_at, elements_of, half_of, int_of, long_of, name_of, proto_of, short_of,
     text_of, tiny_of, type_of, word_of,
 };
+pub use forms::name_slot;
 pub use found::Found;
 pub use key::{Key, is_same, key_text};
 pub use kind::Kind;
-pub use numbers::read_marked;
+pub use numbers::{read_marked, read_signed};
 pub use put::{
     put_bits, put_decimal, put_elements, put_field, put_flags, put_key, put_method, put_name,
     put_number, put_proto, put_register, put_signed, put_target, put_text,

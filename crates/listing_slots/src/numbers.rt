@@ -3,7 +3,7 @@
 ghost use Rattle.std.specs.Prelude.{◌≡◌, ℕ, ℤ, ◌<◌, ◌≤◌, ◌^◌, ◌∷◌, [], ◌+◌, pos, neg_ℤ, List, IfSome, IfNone};
 ghost use Rattle.listing_words.specs.Numbers.{SpellsNatural};
 ghost use Rattle.listing_words.specs.Words.{plain_word};
-ghost use Rattle.listing_words.specs.View.{word};
+ghost use Rattle.listing_words.specs.inner.View.{word};
 ghost use Rattle.listing_slots.specs.Slots.{mark_text, SpellsNumber, SpellsInteger};
 
 use crate::slot::Mark;
@@ -79,8 +79,12 @@ fn read_minus(digits: &[u8], most: u64) -> Option<i64>
     Some(minus(read_natural(digits, most)?))
 }
 
-/// The number from minus one more than `most` up to `most`.
-pub(crate) fn read_signed(text: &[u8], most: u64) -> Option<i64>
+/// The number from minus one more than `most` up to `most`; none where the text spells no number, or one beyond.
+///
+/// ```text
+/// read_signed(b"-0x8", 7)   // Some(-8); None for `8`
+/// ```
+pub fn read_signed(text: &[u8], most: u64) -> Option<i64>
     requires { most < 2 ^ 63 }
     ensures found { IfSome result (λ z. SpellsInteger most (plain_word text.now) z) }
     ensures none { IfNone result ((z : ℤ) → SpellsInteger most (plain_word text.now) z → ⊥) }

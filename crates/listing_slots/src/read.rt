@@ -3,11 +3,12 @@
 ghost use Rattle.std.specs.Prelude.{◌≡◌, true, ◌∷◌, [], map, length, IfOk, IfSome, IfNone, IsOkUnless};
 ghost use Rattle.dex_base.specs.Fault.{memory};
 ghost use Rattle.listing_words.specs.Words.{plain_word, text_in_quotes};
-ghost use Rattle.listing_words.specs.View.{word};
-ghost use Rattle.listing_slots.specs.Slots.{SpellsSlot, SpellsSlots, MisspellsSlots, SpellsUnitsIn, is_name_slot, is_number_slot, is_signed_slot, fault_of};
+ghost use Rattle.listing_words.specs.inner.View.{word};
+ghost use Rattle.listing_slots.specs.Slots.{SpellsSlot, SpellsSlots, MisspellsSlots, is_name_slot, fault_of};
+ghost use Rattle.listing_slots.specs.inner.Slots.{SpellsUnitsIn, is_number_slot, is_signed_slot};
 ghost use Rattle.listing_slots.specs.Data.{Datum as Said};
-ghost use Rattle.listing_slots.specs.ValidNames.{IsValidDatum, StayValid};
-ghost use Rattle.listing_slots.specs.View.{datum};
+ghost use Rattle.listing_slots.specs.inner.ValidNames.{IsValidDatum, StayValid};
+ghost use Rattle.listing_slots.specs.inner.View.{datum};
 
 use crate::datum::Datum;
 use crate::name_parts::NameParts;
@@ -167,6 +168,7 @@ fn read_unquoted<'a, 'b>(
     ensures found { IfOk result (λ r. IfSome r (λ d. SpellsSlot slot (plain_word text.now) (datum d))) }
     ensures none { IfOk result (λ r. IfNone r ((d : Said) → SpellsSlot slot (plain_word text.now) d → ⊥)) }
     ensures valid { IfOk result (λ r. IfSome r (λ d. StayValid spelled.old spelled.new (datum d ∷ []))) }
+    ensures same { IfOk result (λ r. IfNone r (spelled.new ≡ spelled.old)) }
     ensures memory { IsOkUnless result memory }
 {
     if is_number_slot(slot) {
@@ -208,6 +210,7 @@ pub fn read_datum<'a, 'b>(
     ensures found { IfOk result (λ r. IfSome r (λ d. SpellsSlot slot (word one.entry) (datum d))) }
     ensures none { IfOk result (λ r. IfNone r ((d : Said) → SpellsSlot slot (word one.entry) d → ⊥)) }
     ensures valid { IfOk result (λ r. IfSome r (λ d. StayValid spelled.old spelled.new (datum d ∷ []))) }
+    ensures same { IfOk result (λ r. IfNone r (spelled.new ≡ spelled.old)) }
     ensures memory { IsOkUnless result memory }
 {
     match one {

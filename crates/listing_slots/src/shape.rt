@@ -4,10 +4,11 @@ ghost use Rattle.std.specs.Prelude.{◌≡◌, ◌+◌, ◌∷◌, [], ◌++◌,
 ghost use Rattle.dex_base.specs.Fault.{memory};
 ghost use Rattle.dex_insn.specs.Opcodes.{format_of, index_kind_of};
 ghost use Rattle.dex_insn.specs.Mnemonics.{IsNamed};
-ghost use Rattle.listing_words.specs.View.{word};
+ghost use Rattle.listing_words.specs.inner.View.{word};
 ghost use Rattle.listing_slots.specs.Keys.{find_key, lead_keys};
-ghost use Rattle.listing_slots.specs.Shapes.{Shape, Row, HasShape, HasBareShape, BeginsWithKey, BeginsWithInsn, IsPlainRow, IsInsnRow, plain_slots, key_row, payload_row, onto_row, is_first_key, pairs, target};
-ghost use Rattle.listing_slots.specs.ShapeView.{shape};
+ghost use Rattle.listing_slots.specs.Shapes.{Shape, Row, HasShape, HasBareShape, BeginsWithKey, BeginsWithInsn, IsPlainRow, IsInsnRow, plain_slots, key_row, payload_row, is_first_key, pairs, target};
+ghost use Rattle.listing_slots.specs.inner.Shapes.{onto_row};
+ghost use Rattle.listing_slots.specs.inner.ShapeView.{shape};
 ghost use Rattle.listing_slots.specs.declared.key.Key.TheVariants as Key;
 ghost use Rattle.listing_slots.specs.declared.slot.Slot.{Slot};
 

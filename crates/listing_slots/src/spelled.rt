@@ -5,8 +5,8 @@ ghost use Rattle.dex_base.specs.Fault.{memory};
 ghost use Rattle.listing_words.specs.Words.{plain_word};
 ghost use Rattle.listing_slots.specs.Slots.{SpellsSlot, is_name_slot};
 ghost use Rattle.listing_slots.specs.Data.{Datum as Said};
-ghost use Rattle.listing_slots.specs.ValidNames.{IsValidDatum, StayValid};
-ghost use Rattle.listing_slots.specs.View.{datum};
+ghost use Rattle.listing_slots.specs.inner.ValidNames.{IsValidDatum, StayValid};
+ghost use Rattle.listing_slots.specs.inner.View.{datum};
 
 use crate::datum::Datum;
 use crate::key::is_same;
@@ -44,11 +44,11 @@ pub struct Spelled<'a, 'b> {
 
 impl<'a, 'b> Model for Spelled<'a, 'b> {
     ghost use Rattle.std.specs.Prelude.{length};
-    ghost use Rattle.listing_slots.specs.ValidNames.{Spellings};
+    ghost use Rattle.listing_slots.specs.inner.ValidNames.{Spellings};
 
     ghost Value = { Spellings };
 
-    ghost use Rattle.listing_slots.specs.Spelled.{AreSpelled};
+    ghost use Rattle.listing_slots.specs.inner.Spelled.{AreSpelled};
 
     ghost view = { λ s. record { buckets = length s.buckets.items; valid = s.valid } };
 
@@ -192,6 +192,7 @@ impl<'a, 'b> Spelled<'a, 'b> {
         ensures found { IfOk result (λ r. IfSome r (λ d. SpellsSlot slot (plain_word text.now) (datum d))) }
         ensures none { IfOk result (λ r. IfNone r ((d : Said) → SpellsSlot slot (plain_word text.now) d → ⊥)) }
         ensures valid { IfOk result (λ r. IfSome r (λ d. StayValid self.old self.new (datum d ∷ []))) }
+        ensures same { IfOk result (λ r. IfNone r (self.new ≡ self.old)) }
         ensures memory { IsOkUnless result memory }
     {
         let at = bucket_of(text, self.buckets.len());

@@ -2,9 +2,10 @@
 
 ghost use Rattle.std.specs.Prelude.{◌≡◌, ◌≤◌, ◌+◌, ◌^◌, ◌<◌, Some, None, map, option_map, IfOk, IsOkUnless, ◌++◌, MatchBool};
 ghost use Rattle.dex_base.specs.Fault.{memory};
-ghost use Rattle.listing_words.specs.View.{word};
+ghost use Rattle.listing_words.specs.inner.View.{word};
 ghost use Rattle.listing_slots.specs.Shapes as said;
-ghost use Rattle.listing_slots.specs.Shapes.{depth_of, value_slots};
+ghost use Rattle.listing_slots.specs.Shapes.{value_slots};
+ghost use Rattle.listing_slots.specs.inner.Shapes.{depth_of};
 
 use crate::due::Due;
 use crate::key::{Key, is_same, key_text, value_key};

@@ -1,11 +1,13 @@
 //! Laws of slots. None has code: each says of the definitions what its contract says.
 
 ghost use Rattle.std.specs.Prelude.{◌≡◌, true};
-ghost use Rattle.listing_words.specs.Words.{Word, IsWritable};
+ghost use Rattle.listing_words.specs.Words.{Word};
+ghost use Rattle.listing_words.specs.inner.Words.{IsWritable};
 ghost use Rattle.listing_slots.specs.declared.slot.Slot.{Slot};
 ghost use Rattle.listing_slots.specs.Data.{Datum};
 ghost use Rattle.listing_slots.specs.Slots.{SpellsSlot, has_form};
-ghost use Rattle.listing_slots.specs.Shown.{shown, FitsSlot};
+ghost use Rattle.listing_slots.specs.Shown.{shown};
+ghost use Rattle.listing_slots.specs.inner.Shown.{FitsSlot};
 
 /// A word says one thing in a slot.
 pub fn words_say_one_thing()

@@ -66,7 +66,7 @@ fn bytes_printed(alloc: Global, form: Form, text: &str) -> Result<Vec<u8>, Fault
 #[rattlefmt::skip]
 #[test]
 fn texts_come_back_with_labels_and_members_in_their_order(rt: HostRuntime) -> Result<(), Fail> {
-    static CASES: [Printed; 14] = [
+    static CASES: [Printed; 15] = [
         Printed(Form::First, "dex 035\n", Want::Itself),
         Printed(
             Form::First,
@@ -126,6 +126,12 @@ fn texts_come_back_with_labels_and_members_in_their_order(rt: HostRuntime) -> Re
             Form::Second,
             "dex 035\nclass LA; 0x1\ndirect m ()V 0x9\ncode 2 0 0\n0: packed-switch v0 @4\n1: sparse-switch v1 @5\n2: fill-array-data v0 @6\n3: return-void\n4: packed-switch-payload -1 @0 @2\n5: sparse-switch-payload -5 @0 7 @2\n6: array-payload 1 00\ntry @0 @1\ncatch LE; @2\ncatch LF; @1\ncatchall @0\ntry @1 @7\ncatchall @2\nend code\nvirtual n ()V 0x1\ncode 1 0 0\n0: goto/32 @0\nend code\nend class\n",
             Want::BothWays("dex 035 listing 2\nclass LA; 0x1\ndirect m ()V 0x9\ncode 2 0 0\n:L0\npacked-switch v0 :L4\n:L1\nsparse-switch v1 :L5\n:L2\nfill-array-data v0 :L6\nreturn-void\n:L4\npacked-switch-payload -1 :L0 :L2\n:L5\nsparse-switch-payload -5 :L0 7 :L2\n:L6\narray-payload 1 00\n:L7\ntry :L0 :L1\ncatch LE; :L2\ncatch LF; :L1\ncatchall :L0\ntry :L1 :L7\ncatchall :L2\nend code\nvirtual n ()V 0x1\ncode 1 0 0\n:L0\ngoto/32 :L0\nend code\nend class\n"),
+        ),
+        // Operands are spelled in other ways than they are printed.
+        Printed(
+            Form::Second,
+            "dex 035 listing 2\nclass LA; 0x1\ndirect m ()V 0x9\ncode 300 1 5\n:a\n move  v0x0 v015\nmove/from16 v255 v0256 \nadd-int v00 v1 v0x2\nconst/4 v1 -0x8\nadd-int/lit8 v1 v2  0x7f\nif-eq v1 v0x2 :a \ninvoke-static { v0  v01 v0x2 } LA;->m(III)V\ninvoke-static {  } LA;->m()V\ninvoke-static/range v0x10 03 LA;->m(III)V\nsget v0x1 LA;->f:I\ngoto  :a\nend code\nend class\n",
+            Want::Text("dex 035 listing 2\nclass LA; 0x1\ndirect m ()V 0x9\ncode 300 1 5\n:L0\nmove v0 v15\nmove/from16 v255 v256\nadd-int v0 v1 v2\nconst/4 v1 -8\nadd-int/lit8 v1 v2 127\nif-eq v1 v2 :L0\ninvoke-static { v0 v1 v2 } LA;->m(III)V\ninvoke-static { } LA;->m()V\ninvoke-static/range v16 3 LA;->m(III)V\nsget v1 LA;->f:I\ngoto :L0\nend code\nend class\n"),
         ),
         // Labels of any name and number are read.
         Printed(

@@ -7,8 +7,10 @@ use Rattle.std.specs.List.{flat_map, AllByRecursion}
 use Rattle.dex_base.specs.Descriptor.{IsDescriptor, IsMemberName, NoFront}
 use Rattle.dex_base.proofs.NameUnits.{IsPlain, descriptor_prefix_free, member_units_plain, descriptor_not_close}
 use Rattle.program_types.specs.Content.{Proto, FieldRef, MethodRef}
-use Rattle.listing_words.specs.Taking.{NoneAt, EachTaken}
-use Rattle.listing_words.specs.Names.{HasNameUnit, TakesNameUnit, SpellsUnits, TakesDescriptor, IsMemberText, IsProtoText, IsFieldText, IsMethodText, up_to, from}
+use Rattle.listing_words.specs.Taking.{EachTaken}
+use Rattle.listing_words.specs.inner.Taking.{NoneAt}
+use Rattle.listing_words.specs.Names.{TakesNameUnit, SpellsUnits, IsProtoText, IsFieldText, IsMethodText}
+use Rattle.listing_words.specs.inner.Names.{HasNameUnit, TakesDescriptor, IsMemberText, up_to, from}
 use Rattle.listing_words.proofs.TakingLaws.{IsDecided, Each-one}
 
 takes_has : (text : List ℕ) (u : ℕ) (rest : List ℕ) → TakesNameUnit text u rest → (len : ℕ) × HasNameUnit text u len

@@ -5,7 +5,7 @@ use Rattle.std.proofs.lemmas.Grind.{flat_map-append}
 use Rattle.std.proofs.lemmas.List.{length-take, length-take-le, take-append-drop}
 use Rattle.std.proofs.Math.Seq.{take-add}
 use Rattle.std.specs.List.{flat_map}
-use Rattle.listing_words.specs.Plain.{IsPlainFrom, IsFront, AllOrNone}
+use Rattle.listing_words.specs.inner.Plain.{IsPlainFrom, IsFront, AllOrNone}
 use Rattle.listing_words.specs.Texts.{unit_text, text_word}
 use Rattle.listing_words.specs.Written.{name_unit, name_text}
 use Rattle.listing_words.proofs.TextLaws.{text_plain}

@@ -5,7 +5,8 @@ use Rattle.std.proofs.lemmas.List.{append-nil}
 use Rattle.std.specs.List.{AllByRecursion, flat_map}
 use Rattle.listing_words.specs.Taking.{EachTaken}
 use Rattle.listing_words.specs.Texts.{unit_text}
-use Rattle.listing_words.specs.Words.{Word, plain_word, text_in_quotes, after_spaces, up_to_space, from_space, IsGraphic, TakesPlain, TakesWord, HasWords, word_bytes, IsWritable, line_bytes}
+use Rattle.listing_words.specs.Words.{Word, plain_word, text_in_quotes, after_spaces, up_to_space, from_space, IsGraphic, TakesPlain, TakesWord, HasWords, word_bytes}
+use Rattle.listing_words.specs.inner.Words.{IsWritable, line_bytes}
 use Rattle.listing_words.proofs.TextLaws.{text_takes}
 use Rattle.listing_words.proofs.WordLaws.{up_at_other, from_at_other}
 

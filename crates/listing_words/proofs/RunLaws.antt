@@ -5,7 +5,7 @@ use Rattle.std.proofs.lemmas.List.{length-map}
 use Rattle.std.proofs.lemmas.Simd.{map-map, mask_l-mod, length-chunk, tops_compared, zip2_splat, zip2_splat_left, first_set_mask_l, run_in_chunk_le, run_in_chunk_fails, run_in_chunk_stops}
 use Rattle.std.specs.List.{prefix_len}
 use Rattle.std.specs.Simd.Lanes.{chunk, zip2, mask_l, top}
-use Rattle.listing_words.specs.Runs.{IsOf, IsRunEnd, first_mark}
+use Rattle.listing_words.specs.inner.Runs.{IsOf, IsRunEnd, first_mark}
 
 -- a byte that isn't of the kind, as a lane says it
 abbrev is_other : (ℕ → ℕ → ℕ) → ℕ → ℕ → ℕ → Bool

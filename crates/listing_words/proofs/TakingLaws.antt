@@ -1,6 +1,7 @@
 -- Laws of `Each`.
 use Rattle.std.proofs.Common.{◌≡◌, List, [], ◌∷◌, ◌++◌, refl, sym, subst, ◌∙◌}
-use Rattle.listing_words.specs.Taking.{NoneAt, EachTaken}
+use Rattle.listing_words.specs.Taking.{EachTaken}
+use Rattle.listing_words.specs.inner.Taking.{NoneAt}
 
 -- A front is read in one way at most.
 abbrev pub IsDecided : {X V : Type 0} → (List X → V → List X → Type 0) → Type 0

@@ -3,8 +3,10 @@ use Rattle.std.proofs.Common.{◌≡◌, ◌≢◌, ℕ, ◌/◌, ◌%◌, ◌<�
 use Rattle.std.proofs.lemmas.Bool.{cases_lt, lt-ltb, le-ltb, ne_eqb, cases_eq}
 use Rattle.std.proofs.lemmas.Bool.Decides.{nat_tests}
 use Rattle.std.specs.List.{flat_map, AllByRecursion}
-use Rattle.listing_words.specs.Taking.{NoneAt, EachTaken}
-use Rattle.listing_words.specs.Texts.{IsUnescaped, hex, TakesHex, TakesUnit, TakesUnits, HasQuotedUnit, glyph, unit_text}
+use Rattle.listing_words.specs.Taking.{EachTaken}
+use Rattle.listing_words.specs.inner.Taking.{NoneAt}
+use Rattle.listing_words.specs.Texts.{IsUnescaped, hex, TakesHex, TakesUnit, TakesUnits, glyph, unit_text}
+use Rattle.listing_words.specs.inner.Texts.{HasQuotedUnit}
 use Rattle.listing_words.proofs.TakingLaws.{IsDecided, Each-one}
 
 pub takes_has : (text : List ℕ) (u : ℕ) (rest : List ℕ) → TakesUnit text u rest → (len : ℕ) × HasQuotedUnit text u len

@@ -1,13 +1,16 @@
 -- The words of a line: a line has its words in one way.
 use Rattle.std.proofs.Common.{◌≡◌, ◌≢◌, ℕ, ◌<◌, inl, inr, List, [], ◌∷◌, ◌++◌, length, get_or, map, refl, sym, ap, subst, ◌∙◌, arith}
-use Rattle.std.specs.Prelude.{Bool, false, ◌==◌, MatchBool}
+use Rattle.std.specs.Prelude.{Bool, true, false, ◌==◌, MatchBool}
+use Rattle.std.proofs.lemmas.List.{append-nil}
 use Rattle.std.proofs.lemmas.Bool.{cases_eq, eq-eqb, ne_eqb}
 use Rattle.std.specs.List.{AllByRecursion}
-use Rattle.listing_words.specs.Taking.{NoneAt, EachTaken}
+use Rattle.listing_words.specs.Taking.{EachTaken}
+use Rattle.listing_words.specs.inner.Taking.{NoneAt}
 use Rattle.listing_words.specs.Texts.{TakesUnits}
 use Rattle.listing_words.specs.Words.{Word, plain_word, text_in_quotes, after_spaces, up_to_space, from_space, IsGraphic, TakesPlain, TakesText, TakesWord, HasWords}
+use Rattle.listing_words.specs.inner.Words.{IsWritable}
 use Rattle.listing_words.proofs.TakingLaws.{IsDecided, Each-one}
-use Rattle.listing_words.specs.View.{word}
+use Rattle.listing_words.specs.inner.View.{word}
 use Rattle.listing_words.specs.declared.words.Word.{Word as Made}
 use Rattle.listing_words.proofs.TextLaws.{units_decided}
 
@@ -126,3 +129,19 @@ quoted_open line inner us rest e u n (text_in_quotes vs) more p =
 pub said_push : (ws : List Made) (w : Made) → map word (ws ++ w ∷ []) ≡ map word ws ++ word w ∷ []
 said_push [] w = refl
 said_push (v ∷ ws) w = ap (λ l. word v ∷ l) (said_push ws w)
+
+-- ---- a word and nothing else
+
+graphic_there : (front : List ℕ) (c : ℕ) (rest : List ℕ) → AllByRecursion IsGraphic (front ++ (c ∷ rest)) → IsGraphic c
+graphic_there [] c rest h = h.0
+graphic_there (d ∷ front) c rest h = graphic_there front c rest h.1
+
+pub whole_word : (text front rest : List ℕ) (c : ℕ) (cs : List ℕ) (b : Bool) → text ≡ front ++ rest → front ≡ c ∷ cs → c ≢ 34 → AllByRecursion IsGraphic front → (0 < length rest → IsGraphic (get_or rest 0 0) → ⊥) → b ≡ (length rest == 0)
+    → (b ≡ true → IsWritable (plain_word text)) × (IsWritable (plain_word text) → b ≡ true)
+whole_word text front [] c cs b j e n g stops is =
+    let t : text ≡ c ∷ cs = j ∙ append-nil front ∙ e in
+    let all = subst (AllByRecursion IsGraphic) e g in
+    (λ z. rw t (omega arith, (λ q. n q), all), λ z. is)
+whole_word text front (x ∷ rest) c cs b j e n g stops is =
+    let k : b ≡ false = is ∙ ne_eqb (length (x ∷ rest)) 0 (λ z. omega arith) in
+    (λ z. absurd (let w = sym k ∙ z in cc), λ h. absurd (stops (omega arith) (graphic_there front x rest (subst (AllByRecursion IsGraphic) j h.2))))

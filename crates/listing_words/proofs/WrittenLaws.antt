@@ -9,7 +9,8 @@ use Rattle.std.specs.Str.Parse.{AllDigits, digits_value}
 use Rattle.listing_words.specs.Texts.{hex, glyph, escape_text}
 use Rattle.listing_words.specs.Numbers.{SpellsNatural, SpellsBits, SpellsElements}
 use Rattle.listing_words.specs.Names.{TakesNameUnit, SpellsUnits}
-use Rattle.listing_words.specs.Words.{IsGraphic, IsWritable, plain_word}
+use Rattle.listing_words.specs.Words.{IsGraphic, plain_word}
+use Rattle.listing_words.specs.inner.Words.{IsWritable}
 use Rattle.listing_words.specs.Written.{hex_digits, hex_width, flags_text, elements_text, name_unit, name_text}
 use Rattle.listing_words.proofs.TextLaws.{hex_glyph, takes_hex}
 use Rattle.dex_base.proofs.ListFacts.{all_append}

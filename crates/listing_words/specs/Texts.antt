@@ -1,11 +1,12 @@
 -- Texts in quotes: units that stand for themselves or are escaped.
 -- Page: docs/LISTING.md, "Lines and words".
-use Rattle.std.specs.Prelude.{◌≡◌, ◌≢◌, ℕ, ◌+◌, ◌*◌, ◌<◌, ◌≤◌, ◌⊎◌, ◌||◌, ◌&&◌, nat_lt, ◌==◌, if◌then◌else◌, List, [], ◌∷◌, ◌++◌, length, slice_index}
+use Rattle.std.specs.Prelude.{◌≡◌, ◌≢◌, ℕ, ◌+◌, ◌*◌, ◌<◌, ◌≤◌, ◌⊎◌, ◌||◌, ◌&&◌, nat_lt, ◌==◌, if◌then◌else◌, List, [], ◌∷◌, ◌++◌}
 use Rattle.std.specs.List.{flat_map}
 use Rattle.std.specs.Char.{digit_value}
 use Rattle.listing_words.specs.Taking.{EachTaken}
--- An escape is written in a text as in a name.
 pub use Rattle.program_types.specs.Written.{glyph, escape_text}
+
+-- An escape is written in a text as in a name.
 
 -- A unit that stands for itself.
 pub record IsUnescaped (u : ℕ) : Type 0 where
@@ -55,17 +56,3 @@ abbrev pub text_word : List ℕ → List ℕ
 text_word us = 34 ∷ (flat_map unit_text us ++ 34 ∷ [])
 
 -- ---- what a private helper says
-
--- The escape at the front, byte by byte: a backslash, a `u`, and four hexadecimal digits.
-abbrev pub HasHex : List ℕ → ℕ → Type 0
-HasHex text u =
-    (6 ≤ length text) × (slice_index text 0 ≡ 92) × (slice_index text 1 ≡ 117)
-    × (hex (slice_index text 2) < 16) × (hex (slice_index text 3) < 16) × (hex (slice_index text 4) < 16) × (hex (slice_index text 5) < 16)
-    × (u ≡ hex (slice_index text 2) * 4096 + hex (slice_index text 3) * 256 + hex (slice_index text 4) * 16 + hex (slice_index text 5))
-
--- The unit at the front, byte by byte, and how many bytes it takes.
-abbrev pub HasQuotedUnit : List ℕ → ℕ → ℕ → Type 0
-HasQuotedUnit text u len =
-    (IsUnescaped u × (len ≡ 1) × (1 ≤ length text) × (slice_index text 0 ≡ u))
-    ⊎ (((u ≡ 34) ⊎ (u ≡ 92)) × (len ≡ 2) × (2 ≤ length text) × (slice_index text 0 ≡ 92) × (slice_index text 1 ≡ u))
-    ⊎ ((len ≡ 6) × HasHex text u)

@@ -1,6 +1,6 @@
 -- The words of a line, and how they are written.
 -- Page: docs/LISTING.md, "Lines and words".
-use Rattle.std.specs.Prelude.{◌≡◌, ◌≢◌, ℕ, ◌<◌, ◌≤◌, ◌==◌, if◌then◌else◌, List, [], ◌∷◌, ◌++◌, length, slice_index}
+use Rattle.std.specs.Prelude.{◌≡◌, ◌≢◌, ℕ, ◌<◌, ◌≤◌, ◌==◌, if◌then◌else◌, List, [], ◌∷◌, length, slice_index}
 use Rattle.std.specs.List.{AllByRecursion}
 use Rattle.listing_words.specs.Taking.{EachTaken}
 use Rattle.listing_words.specs.Texts.{TakesUnits, text_word}
@@ -61,14 +61,3 @@ pub record HasWords (line : List ℕ) (ws : List Word) : Type 0 where
 abbrev pub word_bytes : Word → List ℕ
 word_bytes (plain_word w) = w
 word_bytes (text_in_quotes us) = text_word us
-
--- What can be written.
-abbrev pub IsWritable : Word → Type 0
-IsWritable (plain_word w) = (0 < length w) × (slice_index w 0 ≢ 34) × AllByRecursion IsGraphic w
-IsWritable (text_in_quotes us) = AllByRecursion (λ u. u < 65536) us
-
--- Words with one space between them.
-abbrev pub line_bytes : List Word → List ℕ
-line_bytes [] = []
-line_bytes (w ∷ []) = word_bytes w
-line_bytes (w ∷ v ∷ ws) = word_bytes w ++ (32 ∷ line_bytes (v ∷ ws))

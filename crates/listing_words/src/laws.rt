@@ -2,7 +2,8 @@
 
 ghost use Rattle.std.specs.Prelude.{◌≡◌, ℕ, ◌<◌, ◌^◌, List};
 ghost use Rattle.std.specs.List.{AllByRecursion};
-ghost use Rattle.listing_words.specs.Words.{Word, HasWords, IsWritable, line_bytes};
+ghost use Rattle.listing_words.specs.Words.{Word, HasWords};
+ghost use Rattle.listing_words.specs.inner.Words.{IsWritable, line_bytes};
 ghost use Rattle.listing_words.specs.Numbers.{SpellsNatural, SpellsBits, SpellsElements};
 ghost use Rattle.listing_words.specs.Names.{SpellsUnits};
 ghost use Rattle.listing_words.specs.Written.{hex_digits, flags_text, elements_text, name_text};

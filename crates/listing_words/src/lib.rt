@@ -36,4 +36,4 @@ pub use numbers::read_natural;
 pub use print::put_text;
 pub use print_hex::{put_elements, put_flags, put_hex};
 pub use print_names::{put_field, put_method, put_name, put_proto};
-pub use words::{Word, after_spaces, read_words};
+pub use words::{Word, after_spaces, is_plain_word, read_words};

@@ -4,8 +4,10 @@ ghost use Rattle.std.specs.Prelude.{◌≡◌, ℕ, ◌+◌, ◌<◌, ◌⊎◌,
 ghost use Rattle.dex_base.specs.Fault.{memory};
 ghost use Rattle.program_types.specs.View.{desc, proto, field_ref, method_ref};
 ghost use Rattle.program_types.specs.Content.{Proto as SaidProto, FieldRef as SaidField, MethodRef as SaidMethod};
-ghost use Rattle.listing_words.specs.Taking.{NoneAt, EachTaken};
-ghost use Rattle.listing_words.specs.Names.{HasNameUnit, TakesNameUnit, SpellsUnits, TakesDescriptor, IsMemberText, IsProtoText, IsFieldText, IsMethodText, up_to, from};
+ghost use Rattle.listing_words.specs.Taking.{EachTaken};
+ghost use Rattle.listing_words.specs.inner.Taking.{NoneAt};
+ghost use Rattle.listing_words.specs.Names.{TakesNameUnit, SpellsUnits, IsProtoText, IsFieldText, IsMethodText};
+ghost use Rattle.listing_words.specs.inner.Names.{HasNameUnit, TakesDescriptor, IsMemberText, up_to, from};
 
 use crate::cut::split_before;
 use crate::texts::hex_unit;

@@ -1,7 +1,7 @@
 //! Units that stand for themselves, many at a time.
 
 ghost use Rattle.std.specs.Prelude.{◌≡◌, ◌<◌, ◌≤◌, length, slice_index, IsTrue, EachIndex, IfOk};
-ghost use Rattle.listing_words.specs.Plain.{IsPlainFrom, IsFront, AllOrNone};
+ghost use Rattle.listing_words.specs.inner.Plain.{IsPlainFrom, IsFront, AllOrNone};
 
 use std::alloc::AllocError;
 

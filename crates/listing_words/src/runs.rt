@@ -1,7 +1,7 @@
 //! How many bytes at the front of a text are of one kind, sixteen at a time.
 
 ghost use Rattle.std.specs.Prelude.{◌≡◌, ◌+◌, ◌≤◌, length};
-ghost use Rattle.listing_words.specs.Runs.{IsRunEnd, first_mark};
+ghost use Rattle.listing_words.specs.inner.Runs.{IsRunEnd, first_mark};
 
 use std::simd::prelude::*;
 

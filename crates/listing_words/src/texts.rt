@@ -1,8 +1,10 @@
 //! Texts in quotes.
 
 ghost use Rattle.std.specs.Prelude.{◌≡◌, ℕ, ◌<◌, ◌≤◌, ◌+◌, ◌*◌, length, slice_index, IfOk, IfSome, IfNone, SomeIff, IsOkUnless};
-ghost use Rattle.listing_words.specs.Taking.{NoneAt, EachTaken};
-ghost use Rattle.listing_words.specs.Texts.{HasHex, HasQuotedUnit, TakesUnit, TakesUnits, hex};
+ghost use Rattle.listing_words.specs.Taking.{EachTaken};
+ghost use Rattle.listing_words.specs.inner.Taking.{NoneAt};
+ghost use Rattle.listing_words.specs.Texts.{TakesUnit, TakesUnits, hex};
+ghost use Rattle.listing_words.specs.inner.Texts.{HasHex, HasQuotedUnit};
 ghost use Rattle.dex_base.specs.Fault.{memory};
 
 use crate::plain::{BACKSLASH, QUOTE};

@@ -2,9 +2,10 @@
 
 ghost use Rattle.std.specs.Prelude.{◌≡◌, ◌<◌, ◌≤◌, ◌↔◌, ◌++◌, [], List, length, slice_index, map, IfOk, IfSome, IfNone, IsTrue, IsOkUnless, MatchBool};
 ghost use Rattle.std.specs.List.{AllByRecursion};
-ghost use Rattle.listing_words.specs.Taking.{NoneAt};
-ghost use Rattle.listing_words.specs.Words.{after_spaces, up_to_space, IsGraphic, TakesWord, HasWords};
-ghost use Rattle.listing_words.specs.View.{word};
+ghost use Rattle.listing_words.specs.inner.Taking.{NoneAt};
+ghost use Rattle.listing_words.specs.Words.{plain_word, after_spaces, up_to_space, IsGraphic, TakesWord, HasWords};
+ghost use Rattle.listing_words.specs.inner.Words.{IsWritable};
+ghost use Rattle.listing_words.specs.inner.View.{word};
 ghost use Rattle.listing_words.specs.Words.{Word as Spoken};
 ghost use Rattle.dex_base.specs.Fault.{memory};
 
@@ -48,6 +49,21 @@ fn split_graphic(text: &[u8]) -> (&[u8], &[u8])
     ensures stops { 0 < length result.1.now → IsGraphic (slice_index result.1.now 0) → ⊥ }
 {
     text.split_at(run(GRAPHIC, text))
+}
+
+/// Whether the text is a word without quotes, and nothing else.
+///
+/// ```text
+/// is_plain_word(b"v0")   // true; false for `v0 v1`, for `"v0"`, and for no text at all
+/// ```
+pub fn is_plain_word(text: &[u8]) -> bool
+    ensures { IsTrue result ↔ IsWritable (plain_word text.now) }
+{
+    let (graphic, rest) = split_graphic(text);
+    match graphic.split_first() {
+        Some((first, _)) => *first != b'"' && rest.is_empty(),
+        None => false,
+    }
 }
 
 /// Whether a space or nothing stands at the front.

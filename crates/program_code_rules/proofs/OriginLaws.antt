@@ -3,7 +3,8 @@ use Rattle.std.proofs.Common.{◌≡◌, ◌≢◌, ◌⊎◌, ℕ, ◌+◌, ◌
 use Rattle.std.proofs.lemmas.Bool.{cases_lt}
 use Rattle.program_types.specs.Content.{Insn}
 use Rattle.program_types.specs.Formed.{insn_at, insn_payload, insn_reach, IsSwitch, RefersToPayload}
-use Rattle.program_code_rules.specs.Branches.{IsOrigin, AreOrigins}
+use Rattle.program_code_rules.specs.Branches.{IsOrigin}
+use Rattle.program_code_rules.specs.inner.Branches.{AreOrigins}
 use Rattle.program_code_rules.proofs.UseLaws.{refers-one}
 
 -- what is known of the switch of payload k among the first m instructions

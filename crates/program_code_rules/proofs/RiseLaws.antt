@@ -3,7 +3,7 @@ use Rattle.std.proofs.Common.{ℕ, ℤ, pos, ◌+◌, ◌<◌, List, length, get
 use Rattle.std.specs.Prelude.{◌<ℤ◌}
 use Rattle.std.proofs.lemmas.Option.{slice_get_within, get_or_from_slice_get, slice_get-get_or}
 use Rattle.program_types.specs.Operands.{AreRisingKeys}
-use Rattle.program_code_rules.specs.Parts.{KeyIsBelow}
+use Rattle.program_code_rules.specs.inner.Parts.{KeyIsBelow}
 
 pub rising : (keys : List ℤ) → ((j : ℕ) → j + 1 < length keys → KeyIsBelow keys j) → AreRisingKeys keys
 rising keys h i a b p q =

@@ -6,7 +6,7 @@ use Rattle.program_types.specs.Content as content
 use Rattle.program_types.specs.Formed.{try_at}
 use Rattle.program_types.specs.View.{try}
 use Rattle.program_types.specs.declared.code.Try.{Try}
-use Rattle.program_code_rules.specs.Parts.{IsBehind}
+use Rattle.program_code_rules.specs.inner.Parts.{IsBehind}
 
 -- what an index past the end gives
 abbrev pub no_try : Try

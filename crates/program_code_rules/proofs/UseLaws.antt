@@ -3,8 +3,8 @@ use Rattle.std.proofs.Common.{◌≡◌, ◌≢◌, ℕ, ◌+◌, ◌<◌, List,
 use Rattle.std.proofs.lemmas.Bool.{cases_lt}
 use Rattle.program_types.specs.Content.{Insn}
 use Rattle.program_types.specs.Formed.{insn_at, insn_reach, IsSwitch, PayloadHolds, RefersToPayload, WantsPayload}
-use Rattle.program_code_rules.specs.Parts.{HasNoPayload}
-use Rattle.program_code_rules.specs.Uses.{CountsUses, AreUses, used_again}
+use Rattle.program_code_rules.specs.inner.Parts.{HasNoPayload}
+use Rattle.program_code_rules.specs.inner.Uses.{CountsUses, AreUses, used_again}
 use Rattle.program_code_rules.specs.declared.payloads.Use.{Use}
 use Rattle.program_code_rules.specs.declared.payloads.Use.TheVariants as users
 

@@ -1,6 +1,6 @@
 -- The rules of branches and switches one by one, as files and programs are asked for them, and from where offsets count.
 -- Page: "Dalvik bytecode": goto, packed-switch, sparse-switch.
-use Rattle.std.specs.Prelude.{ℕ, ◌≡◌, ◌≢◌, ◌<◌, ◌≤◌, ◌⊎◌, List, length, slice_index, IfSome}
+use Rattle.std.specs.Prelude.{ℕ, ◌≡◌, ◌≢◌, ◌≤◌, ◌⊎◌, List, IfSome}
 use Rattle.std.specs.List.{AllByRecursion}
 use Rattle.program_types.specs.Content.{Insn}
 use Rattle.program_types.specs.Formed.{insn_at, insn_payload, insn_branch, insn_short_branch, insn_targets, IsSwitch, IsTarget, RefersToPayload}
@@ -22,11 +22,6 @@ pub record BranchHolds (is : List Insn) (k : ℕ) : Type 0 where
 abbrev pub SwitchLands : List Insn → ℕ → Type 0
 SwitchLands is k = AllByRecursion (IsTarget is) (insn_targets (insn_at is k))
 
--- A branch leads to one of `count` instructions, and one that may not lead to itself, number k, leads elsewhere.
-pub record BranchStays (count k : ℕ) (i : Insn) : Type 0 where
-  pub inside : IfSome (insn_branch i) (λ to. to < count)
-  pub moves : IfSome (insn_short_branch i) (λ to. to ≢ k)
-
 -- ---- from where offsets count
 
 -- instruction j is the switch of payload k: the last, if there are more
@@ -36,8 +31,3 @@ IsLastSwitch is j k = IsSwitch (insn_payload (insn_at is k)) × RefersToPayload 
 -- The offsets of instruction k count from instruction j: those of a payload that has a switch from it, all others from themselves.
 abbrev pub IsOrigin : List Insn → ℕ → ℕ → Type 0
 IsOrigin is k j = IsLastSwitch is j k ⊎ (((i : ℕ) → ¬ IsLastSwitch is i k) × (j ≡ k))
-
--- The offsets of each instruction count from these.
-pub record AreOrigins (is : List Insn) (js : List ℕ) : Type 0 where
-  pub count : length js ≡ length is
-  pub each : (k : ℕ) → k < length is → IsOrigin is k (slice_index js k)

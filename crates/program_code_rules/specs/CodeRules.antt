@@ -3,10 +3,8 @@
 -- fill-array-data; "Dalvik Executable format": code_item, try_item, encoded_catch_handler.
 use Rattle.std.specs.Prelude.{ℕ, ◌<◌, ◌≤◌, length}
 use Rattle.program_types.specs.Content.{Insn, Code}
-use Rattle.program_types.specs.Formed.{insn_at, TargetHolds, PayloadHolds, TryFormed, RegistersHold}
+use Rattle.program_types.specs.Formed.{insn_at, TargetHolds, PayloadHolds, TryFormed}
 use Rattle.program_types.specs.Operands.{IsOperand}
-use Rattle.program_code_rules.specs.declared.rule.CodeRule.{CodeRule}
-use Rattle.program_code_rules.specs.declared.rule.CodeRule.TheVariants as rule
 
 -- Each operand fits its field. A target is any number of 32 bits here: whether it is that of an instruction is ruled apart.
 abbrev pub FitsFields : Insn → Type 0
@@ -29,11 +27,3 @@ PayloadsHold c = (k : ℕ) → k < length c.insns → PayloadHolds c.insns k
 -- Tries cover instructions, one after the other, and have handlers.
 abbrev pub TriesHold : Code → Type 0
 TriesHold c = (i : ℕ) → i < length c.tries → TryFormed (length c.insns) c.tries i
-
--- What a rule asks of a code.
-abbrev pub KeepsRule : CodeRule → Code → Type 0
-KeepsRule rule.Operand c = OperandsHold c
-KeepsRule rule.Target c = TargetsHold c
-KeepsRule rule.PayloadUse c = PayloadsHold c
-KeepsRule rule.Try c = TriesHold c
-KeepsRule rule.Register c = RegistersHold c

@@ -1,5 +1,4 @@
 pub mod First
 pub mod Branches
 pub mod CodeRules
-pub mod Parts
-pub mod Uses
+pub mod inner

@@ -11,7 +11,7 @@ ghost use Rattle.program_types.specs.Operands.{IsOfIndexKind, AreRisingKeys};
 ghost use Rattle.program_types.specs.View.{insn, code};
 ghost use Rattle.program_types.specs.View as view;
 ghost use Rattle.program_code_rules.specs.CodeRules.{FitsFields, OperandsHold};
-ghost use Rattle.program_code_rules.specs.Parts.{KeyIsBelow};
+ghost use Rattle.program_code_rules.specs.inner.Parts.{KeyIsBelow};
 
 use dex_base::are_bytes;
 use dex_insn::{Format, IndexKind, format_of, index_kind_of};

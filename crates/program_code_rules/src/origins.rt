@@ -3,7 +3,7 @@
 ghost use Rattle.std.specs.Prelude.{◌≡◌, ◌↔◌, ℕ, ◌<◌, ◌≤◌, length, map, slice_index, IfOk, IsTrue};
 ghost use Rattle.program_types.specs.Formed.{insn_at, insn_payload, IsSwitch, RefersToPayload};
 ghost use Rattle.program_types.specs.View.{insn};
-ghost use Rattle.program_code_rules.specs.Branches.{AreOrigins};
+ghost use Rattle.program_code_rules.specs.inner.Branches.{AreOrigins};
 
 use crate::payloads::{reach_at, refers};
 use program_types::{Insn, is_switch, payload_of};

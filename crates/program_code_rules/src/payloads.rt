@@ -5,8 +5,8 @@ ghost use Rattle.program_types.specs.Formed.{insn_at, insn_wants, insn_reach, Wa
 ghost use Rattle.program_types.specs.View.{insn, code};
 ghost use Rattle.program_code_rules.specs.CodeRules.{PayloadsHold};
 ghost use Rattle.program_code_rules.specs.First.{AllHold, IsFirstBroken};
-ghost use Rattle.program_code_rules.specs.Parts.{HasNoPayload, IsUsedOnce};
-ghost use Rattle.program_code_rules.specs.Uses.{AreUses, used_again};
+ghost use Rattle.program_code_rules.specs.inner.Parts.{HasNoPayload, IsUsedOnce};
+ghost use Rattle.program_code_rules.specs.inner.Uses.{AreUses, used_again};
 
 use program_types::{Code, Insn, Payload, are_alike, is_switch, payload_of};
 use std::alloc::{AllocError, Global};

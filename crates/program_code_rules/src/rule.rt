@@ -2,7 +2,7 @@
 
 ghost use Rattle.std.specs.Prelude.{◌↔◌, IsTrue};
 ghost use Rattle.program_types.specs.View.{code};
-ghost use Rattle.program_code_rules.specs.CodeRules.{KeepsRule};
+ghost use Rattle.program_code_rules.specs.inner.CodeRules.{KeepsRule};
 
 use crate::operands::operands_hold;
 use crate::payloads::payloads_hold;

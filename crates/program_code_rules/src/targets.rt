@@ -4,7 +4,8 @@ ghost use Rattle.std.specs.Prelude.{◌≡◌, ◌↔◌, ◌<◌, length, map, 
 ghost use Rattle.std.specs.List.{AllByRecursion};
 ghost use Rattle.program_types.specs.Formed.{insn_branch, insn_short_branch, IsTarget};
 ghost use Rattle.program_types.specs.View.{insn, code};
-ghost use Rattle.program_code_rules.specs.Branches.{BranchLands, BranchMoves, BranchHolds, BranchStays, SwitchLands};
+ghost use Rattle.program_code_rules.specs.Branches.{BranchLands, BranchMoves, BranchHolds, SwitchLands};
+ghost use Rattle.program_code_rules.specs.inner.Branches.{BranchStays};
 ghost use Rattle.program_code_rules.specs.First.{AllHold, IsFirstBroken};
 ghost use Rattle.program_code_rules.specs.CodeRules.{TargetsHold};
 

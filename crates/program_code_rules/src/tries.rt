@@ -5,7 +5,7 @@ ghost use Rattle.std.specs.List.{AllByRecursion};
 ghost use Rattle.program_types.specs.Formed.{TryFormed};
 ghost use Rattle.program_types.specs.View.{catch, try, code};
 ghost use Rattle.program_code_rules.specs.CodeRules.{TriesHold};
-ghost use Rattle.program_code_rules.specs.Parts.{HandlersHold, IsBehind};
+ghost use Rattle.program_code_rules.specs.inner.Parts.{HandlersHold, IsBehind};
 
 use program_types::{Catch, Code, Try};
 

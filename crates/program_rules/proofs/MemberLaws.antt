@@ -12,7 +12,7 @@ use Rattle.program_types.specs.Key.{Key, key_cmp}
 use Rattle.program_types.specs.Mentions.{if_any, names_of_value, names_of_values, names_of_code, field_of_class, names_of_method, NamesHold, AllNamesHold}
 use Rattle.program_rules.specs.Valid.{IsValidName}
 use Rattle.program_rules.specs.Rules.{IsBelowNext, NamesAreValid}
-use Rattle.program_rules.specs.Parts.{FieldIsValid, MethodIsValid}
+use Rattle.program_rules.specs.inner.Parts.{FieldIsValid, MethodIsValid}
 use Rattle.program_rules.proofs.AllLaws.{all-lists, all-joined, all-made}
 use Rattle.dex_base.proofs.ListFacts.{all_front, all_back, all_append, all_map, all_weaker}
 

@@ -7,7 +7,7 @@ use Rattle.program_types.specs.Depth.{depth, greatest_depth}
 use Rattle.program_types.specs.View.{value}
 use Rattle.program_types.specs.declared.value.Value.{Value as Held}
 use Rattle.program_types.proofs.Nesting.{from, from_next, value_less}
-use Rattle.program_rules.specs.Nested.{IsGood, AreGood, IsWalked, IsLook, IsSoFar}
+use Rattle.program_rules.specs.inner.Nested.{IsGood, AreGood, IsWalked, IsLook, IsSoFar}
 use Rattle.program_rules.specs.declared.nested.Walked.{Walked}
 use Rattle.program_rules.specs.declared.nested.Walked.TheVariants as walked
 use Rattle.program_rules.specs.declared.nested.Look.{Look}

@@ -11,7 +11,7 @@ use Rattle.program_types.specs.Content.{Class, Descriptor, Program}
 use Rattle.program_types.specs.View.{desc}
 use Rattle.program_types.specs.declared.names.Desc.{Desc}
 use Rattle.program_rules.specs.Rules.{ClassHolds, IsNew, AreDistinct, NoneFrom}
-use Rattle.program_rules.specs.Numbers.{types, AreNumbers, NoneWithin, IsLastWithin, IsFirstAgain}
+use Rattle.program_rules.specs.inner.Numbers.{types, AreNumbers, NoneWithin, IsLastWithin, IsFirstAgain}
 use Rattle.program_rules.specs.declared.numbers.TypePlaces.{TypePlaces}
 
 module _ (ts : List Descriptor) (n : ℕ) (key : Descriptor) (at : slice_get ts n ≡ Some key) where

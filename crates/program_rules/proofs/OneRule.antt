@@ -24,7 +24,7 @@ class_keeps p i c e b h = elim b [
               | inl w ↦ w.0 h.payloads
               | inr w7 ↦ elim w7.1 [
                 | inl w ↦ w.0 h.tries
-                | inr w ↦ w.1 h.registers
+                | inr w ↦ w.1.0 h.registers
               ]
             ]
           ]
@@ -41,16 +41,10 @@ first_rule (inl a) (inr b) later = absurd (a.0 b.0)
 first_rule (inr a) (inl b) later = absurd (b.0 a.0)
 first_rule (inr a) (inr b) later = later a.1 b.1
 
-last_rules : {A B : Type 0} {told last e f : Fault} → ((¬ A) × (e ≡ told)) ⊎ (A × (¬ B) × (e ≡ last)) → ((¬ A) × (f ≡ told)) ⊎ (A × (¬ B) × (f ≡ last)) → e ≡ f
-last_rules (inl a) (inl b) = a.1 ∙ sym b.1
-last_rules (inl a) (inr b) = absurd (a.0 b.0)
-last_rules (inr a) (inl b) = absurd (b.0 a.0)
-last_rules (inr a) (inr b) = a.2 ∙ sym b.2
-
 class_breaks_one : (p : Program) (i : ℕ) (c : Class) (e f : Fault) → ClassBreaks p i c e → ClassBreaks p i c f → e ≡ f
 class_breaks_one p i c e f a b =
     first_rule a b (λ a b. first_rule a b (λ a b. first_rule a b (λ a b. first_rule a b (λ a b.
-    first_rule a b (λ a b. first_rule a b (λ a b. first_rule a b (λ a b. last_rules a b)))))))
+    first_rule a b (λ a b. first_rule a b (λ a b. first_rule a b (λ a b. first_rule a b (λ a b. a.1 ∙ sym b.1))))))))
 
 -- The class of the one isn't before that of the other, which says that all before it keep their rules.
 not_before : (p : Program) (e f : Fault) (a : RuleBreaks p e) (b : RuleBreaks p f) → a.number < b.number → ⊥

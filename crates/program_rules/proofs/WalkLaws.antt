@@ -7,7 +7,8 @@ use Rattle.program_types.specs.View.{insn, try, code}
 use Rattle.program_types.specs.declared.code.Code.{Code}
 use Rattle.program_types.specs.Mentions.{names_of_insn, names_of_try, names_of_code}
 use Rattle.program_rules.proofs.AllLaws.{all-lists, all-joined, all-made}
-use Rattle.program_rules.specs.Valid.{IsValidName, InsnsAreNamed}
+use Rattle.program_rules.specs.Valid.{IsValidName}
+use Rattle.program_rules.specs.inner.Valid.{InsnsAreNamed}
 use Rattle.dex_base.proofs.ListFacts.{all_front, all_back, all_append, all_map, all_weaker}
 
 -- what is asked of the names in a body's tries

@@ -1,7 +1,5 @@
 pub mod Valid
 pub mod Rules
-pub mod Numbers
-pub mod Parts
-pub mod Nested
 pub mod Ranges
 pub mod WellFormed
+pub mod inner

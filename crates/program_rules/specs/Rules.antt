@@ -113,31 +113,27 @@ RulesHold p = (i : ℕ) (c : Class) → slice_get p i ≡ Some c → ClassHolds 
 abbrev pub broken : ℕ → ℕ → Fault
 broken number i = record { code = number; place = i }
 
+-- Class i breaks the rule of this number, or else what comes after it.
+abbrev pub or_else : ℕ → ℕ → Fault → Type 0 → Type 0 → Type 0
+or_else number i fault rule after = ((¬ rule) × (fault ≡ broken number i)) ⊎ (rule × after)
+
 -- The fault is that of the first rule of code that class i breaks.
 abbrev pub CodesBreak : ℕ → Class → Fault → Type 0
 CodesBreak i c fault =
-    ((¬ CodesHold OperandsHold c) × (fault ≡ broken 114 i))
-    ⊎ (CodesHold OperandsHold c × (
-    ((¬ CodesHold TargetsHold c) × (fault ≡ broken 115 i))
-    ⊎ (CodesHold TargetsHold c × (
-    ((¬ CodesHold PayloadsHold c) × (fault ≡ broken 116 i))
-    ⊎ (CodesHold PayloadsHold c × (
-    ((¬ CodesHold TriesHold c) × (fault ≡ broken 117 i))
-    ⊎ (CodesHold TriesHold c × (¬ CodesHold RegistersHold c) × (fault ≡ broken 118 i))
-    ))))))
+    or_else 114 i fault (CodesHold OperandsHold c) (
+    or_else 115 i fault (CodesHold TargetsHold c) (
+    or_else 116 i fault (CodesHold PayloadsHold c) (
+    or_else 117 i fault (CodesHold TriesHold c) (
+    (¬ CodesHold RegistersHold c) × (fault ≡ broken 118 i)))))
 
 -- The fault is that of the first rule that class i breaks.
 abbrev pub ClassBreaks : Program → ℕ → Class → Fault → Type 0
 ClassBreaks p i c fault =
-    ((¬ NamesAreValid c) × (fault ≡ broken 110 i))
-    ⊎ (NamesAreValid c × (
-    ((¬ MembersRise c) × (fault ≡ broken 111 i))
-    ⊎ (MembersRise c × (
-    ((¬ OrderHolds p i c) × (fault ≡ broken 112 i))
-    ⊎ (OrderHolds p i c × (
-    ((¬ ValuesFit c) × (fault ≡ broken 113 i))
-    ⊎ (ValuesFit c × CodesBreak i c fault)
-    ))))))
+    or_else 110 i fault (NamesAreValid c) (
+    or_else 111 i fault (MembersRise c) (
+    or_else 112 i fault (OrderHolds p i c) (
+    or_else 113 i fault (ValuesFit c) (
+    CodesBreak i c fault))))
 
 -- The fault is that of the first rule that is broken by the first class that breaks one.
 pub record RuleBreaks (p : Program) (e : Fault) : Type 0 where

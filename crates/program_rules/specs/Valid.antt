@@ -3,9 +3,8 @@
 use Rattle.std.specs.Prelude.{◌≢◌, ◌⊎◌, ⊤}
 use Rattle.std.specs.List.{AllByRecursion}
 use Rattle.dex_base.specs.Descriptor.{IsDescriptor, IsClass, IsArray, IsMemberName}
-use Rattle.program_types.specs.Content.{Descriptor, Proto, FieldRef, MethodRef, Name, OfText, OfDesc, OfField, OfMethod, Insn, Code}
+use Rattle.program_types.specs.Content.{Descriptor, Proto, FieldRef, MethodRef, Name, OfText, OfDesc, OfField, OfMethod}
 use Rattle.program_types.specs.Kinds.{void}
-use Rattle.program_types.specs.Mentions.{names_of_insn}
 
 -- The type of a field or a parameter: a descriptor, and not void.
 pub record IsValueType (t : Descriptor) : Type 0 where
@@ -35,11 +34,3 @@ IsValidName (OfText s) = ⊤
 IsValidName (OfDesc t) = IsDescriptor t
 IsValidName (OfField f) = IsValidField f
 IsValidName (OfMethod m) = IsValidMethod m
-
--- What the instruction names, if anything, is such a name.
-abbrev pub InsnIsNamed : Insn → Type 0
-InsnIsNamed i = AllByRecursion IsValidName (names_of_insn i)
-
--- What each instruction of the code names is.
-abbrev pub InsnsAreNamed : Code → Type 0
-InsnsAreNamed c = AllByRecursion InsnIsNamed c.insns

@@ -5,7 +5,8 @@ ghost use Rattle.std.specs.List.{AllByRecursion};
 ghost use Rattle.dex_base.specs.Descriptor.{IsDescriptor};
 ghost use Rattle.program_types.specs.View.{insn, catch, try, code};
 ghost use Rattle.program_types.specs.Mentions.{names_of_code};
-ghost use Rattle.program_rules.specs.Valid.{IsValidName, InsnIsNamed, InsnsAreNamed};
+ghost use Rattle.program_rules.specs.Valid.{IsValidName};
+ghost use Rattle.program_rules.specs.inner.Valid.{InsnIsNamed, InsnsAreNamed};
 
 use crate::names::is_valid_name;
 use dex_base::is_descriptor;

@@ -5,9 +5,9 @@ ghost use Rattle.std.specs.List.{AllByRecursion};
 ghost use Rattle.dex_base.specs.Descriptor.{IsClass};
 ghost use Rattle.program_types.specs.View.{member, method, class, code};
 ghost use Rattle.program_types.specs.Key.{key_cmp};
-ghost use Rattle.program_rules.specs.Valid.{InsnsAreNamed};
+ghost use Rattle.program_rules.specs.inner.Valid.{InsnsAreNamed};
 ghost use Rattle.program_rules.specs.Rules.{member_key, method_key, CodesHold, IsBelowNext, KeysRise, MembersRise, NamesAreValid};
-ghost use Rattle.program_rules.specs.Parts.{FieldIsValid, MethodIsValid};
+ghost use Rattle.program_rules.specs.inner.Parts.{FieldIsValid, MethodIsValid};
 
 use crate::bodies::code_is_valid;
 use crate::names::{are_classes, is_valid_proto, is_value_type};

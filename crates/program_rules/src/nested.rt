@@ -10,7 +10,7 @@ ghost use Rattle.program_types.specs.Content.{Array, values};
 ghost use Rattle.program_types.specs.View.{value};
 ghost use Rattle.program_types.specs.Mentions.{NamesHold};
 ghost use Rattle.program_rules.specs.Valid.{IsValidName};
-ghost use Rattle.program_rules.specs.Nested.{IsWalked, IsLook, IsSoFar};
+ghost use Rattle.program_rules.specs.inner.Nested.{IsWalked, IsLook, IsSoFar};
 
 use crate::values::value_is_valid;
 use program_types::Value;

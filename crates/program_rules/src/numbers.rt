@@ -1,18 +1,17 @@
 //! The order of classes, with types looked up by hash: in time that grows with the program.
 
-ghost use Rattle.std.specs.Prelude.{◌≡◌, ◌↔◌, ◌≤◌, length, map, Some, IfOk, IfSome, IsTrue, IsOkUnless};
+ghost use Rattle.std.specs.Prelude.{◌≡◌, ◌↔◌, ◌≤◌, length, map, Some, IfOk, IfSome, IsTrue};
 ghost use Rattle.std.specs.List.{AllByRecursion, slice_get};
-ghost use Rattle.dex_base.specs.Fault.{memory};
 ghost use Rattle.program_types.specs.Content.{Program};
 ghost use Rattle.program_types.specs.View.{class, desc};
 ghost use Rattle.program_rules.specs.Rules.{NoneFrom, AreDistinct, OrderHolds};
-ghost use Rattle.program_rules.specs.Numbers.{AreNumbers, types};
+ghost use Rattle.program_rules.specs.inner.Numbers.{AreNumbers, types};
 
 use crate::order::are_distinct;
-use dex_base::{Fault, Seed};
+use dex_base::Seed;
 use indexmap::IndexMap;
 use program_types::{Class, Desc};
-use std::alloc::Global;
+use std::alloc::{AllocError, Global};
 
 /// How many types are compared pair by pair, without memory.
 const FEW: usize = 8;
@@ -31,9 +30,8 @@ pub(crate) fn numbers_of<'a>(
     alloc: Global,
     seed: Seed,
     list: &[Desc<'a>],
-) -> Result<TypePlaces<'a>, Fault>
+) -> Result<TypePlaces<'a>, AllocError>
     ensures ok { IfOk result (AreNumbers (map desc list.now) (length list.now)) }
-    ensures memory { IsOkUnless result memory }
 {
     let mut last = IndexMap::with_hasher(alloc, seed);
     let mut again = None;
@@ -70,9 +68,8 @@ fn are_none_from(numbers: &TypePlaces<'_>, from: usize, list: &[Desc<'_>]) -> bo
 }
 
 /// Whether no type stands twice.
-fn are_distinct_in(alloc: Global, seed: Seed, list: &[Desc<'_>]) -> Result<bool, Fault>
+fn are_distinct_in(alloc: Global, seed: Seed, list: &[Desc<'_>]) -> Result<bool, AllocError>
     ensures ok { IfOk result (λ yes. IsTrue yes ↔ AreDistinct (map desc list.now)) }
-    ensures memory { IsOkUnless result memory }
 {
     if list.len() <= FEW {
         return Ok(are_distinct(list));
@@ -95,9 +92,8 @@ pub(crate) fn order_holds_in(
     numbers: &TypePlaces<'_>,
     i: usize,
     one: &Class<'_>,
-) -> Result<bool, Fault>
+) -> Result<bool, AllocError>
     ensures ok { (p : Program) → AreNumbers (types p) (length p) numbers.now → slice_get p i ≡ Some (class one.now) → IfSome numbers.now.again (λ k. i ≤ k) → IfOk result (λ yes. IsTrue yes ↔ OrderHolds p i (class one.now)) }
-    ensures memory { IsOkUnless result memory }
 {
     if is_first_again(numbers, i) {
         return Ok(false);

@@ -1,16 +1,16 @@
 //! Whether a program keeps its rules.
 
-ghost use Rattle.std.specs.Prelude.{◌≡◌, ◌≢◌, ◌↔◌, length, map, IsTrue, IfOk, OnOk, IfErr, IsOkUnless};
+ghost use Rattle.std.specs.Prelude.{◌≡◌, ◌≢◌, ◌↔◌, length, map, IsTrue, IfOk, OnOk, IfErr};
 ghost use Rattle.std.specs.List.{AllByRecursion};
 ghost use Rattle.dex_base.specs.Fault.{memory};
 ghost use Rattle.program_code_rules.specs.CodeRules.{OperandsHold, PayloadsHold, TargetsHold, TriesHold};
 ghost use Rattle.program_types.specs.Content as content;
 ghost use Rattle.program_types.specs.Formed.{RegistersHold};
 ghost use Rattle.program_types.specs.View.{class, desc, program};
-ghost use Rattle.program_rules.specs.Numbers.{AreNumbers, types};
+ghost use Rattle.program_rules.specs.inner.Numbers.{AreNumbers, types};
 ghost use Rattle.program_rules.specs.Ranges.{ClassInRange};
 ghost use Rattle.program_rules.specs.Rules.{ClassBreaks, ClassHolds, CodesBreak, CodesHold, OrderHolds, RuleBreaks};
-ghost use Rattle.program_rules.specs.Valid.{InsnsAreNamed};
+ghost use Rattle.program_rules.specs.inner.Valid.{InsnsAreNamed};
 ghost use Rattle.program_rules.specs.WellFormed.{WellFormed};
 
 use crate::codes::{codes_hold, payload_uses_hold};
@@ -22,7 +22,7 @@ use crate::values::values_fit;
 use dex_base::{Fault, Seed, fault};
 use program_code_rules::CodeRule;
 use program_types::{Class, Desc, Program};
-use std::alloc::Global;
+use std::alloc::{AllocError, Global};
 
 /// Whether the code of class `place` keeps all rules, if it is known whether its payloads are used as they have to be.
 fn check_codes(place: u64, one: &Class<'_>, uses_hold: bool) -> Result<(), Fault>
@@ -130,9 +130,8 @@ pub fn well_formed(all: &Program<'_>) -> Result<(), Fault>
 }
 
 /// The types that classes define.
-fn types_of<'a>(alloc: Global, classes: &[Class<'a>]) -> Result<Vec<Desc<'a>>, Fault>
+fn types_of<'a>(alloc: Global, classes: &[Class<'a>]) -> Result<Vec<Desc<'a>>, AllocError>
     ensures ok { IfOk result (λ list. map desc list.items ≡ types (map class classes.now)) }
-    ensures memory { IsOkUnless result memory }
 {
     let mut list = Vec::with_capacity(alloc, classes.len())?;
     for one in classes {

@@ -10,7 +10,7 @@ ghost use Rattle.program_rules.specs.Rules.{ValuesFit};
 
 use crate::names::{is_valid_field, is_valid_name};
 use crate::nested::names_are_valid_in;
-use program_types::{Class, Name, Value, is_within_depth};
+use program_types::{Class, MOST_DEPTH, Name, Value, is_within_depth};
 
 /// Whether a file can have all names in the value, whose depth the stack bears.
 pub(crate) fn value_is_valid(root: &Value<'_>) -> bool
@@ -46,12 +46,12 @@ pub(crate) fn values_are_valid(all: &[Value<'_>]) -> bool
     true
 }
 
-/// Whether none of the values is deeper than 64.
+/// Whether none of the values is deeper than a static value may be.
 fn are_shallow(all: &[Value<'_>]) -> bool
     ensures { IsTrue result ↔ AllByRecursion (λ v. depth v ≤ most_depth) (map value all.now) }
 {
     for each in all {
-        if !is_within_depth(each, 64) {
+        if !is_within_depth(each, MOST_DEPTH) {
             return false;
         }
     }

@@ -3,7 +3,8 @@ use Rattle.std.proofs.Common.{◌≡◌, ◌≢◌, ◌∙◌, inl, inr, ap, sym
 use Rattle.std.proofs.lemmas.List.{length-map}
 use Rattle.std.specs.Prelude.{replicate, slice_index}
 use Rattle.dex_base.specs.Descriptor.{IsPrimitive, IsElement, IsDescriptor}
-use Rattle.program_types.specs.Shorty.{StandsFor, letter_of}
+use Rattle.program_types.specs.Shorty.{letter_of}
+use Rattle.program_types.specs.inner.Shorty.{StandsFor}
 use Rattle.program_types.specs.View.{desc}
 use Rattle.program_types.specs.declared.names.Desc.{Desc}
 

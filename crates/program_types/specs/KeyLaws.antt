@@ -2,9 +2,7 @@
 -- names is the order of its keys.
 use Rattle.std.specs.Prelude.{◌≡◌, List, [], ◌∷◌, map, refl}
 use Rattle.std.specs.Ordering.{ordering_then}
-use Rattle.std.specs.Cmp.{IsTotalOrder}
-use Rattle.std.specs.FinSet.{IsAntisymmetric, slice_cmp-IsAntisymmetric, nat_cmp-IsAntisymmetric}
-use Rattle.std.specs.Cmp.Lexicographic.{slice_cmp, lists_total, nat_list_cmp_total}
+use Rattle.std.specs.Cmp.Lexicographic.{slice_cmp}
 use Rattle.std.specs.declared.cmp.Ordering.{Ordering}
 use Rattle.std.specs.declared.cmp.Ordering.TheVariants.{Less, Equal, Greater}
 use Rattle.program_types.specs.Key.{proto_key, field_ref_key, method_ref_key, units_cmp, key_cmp}
@@ -13,14 +11,6 @@ use Rattle.program_types.specs.declared.names.Desc.{Desc}
 use Rattle.program_types.specs.declared.names.Proto.{Proto}
 use Rattle.program_types.specs.declared.names.FieldRef.{FieldRef}
 use Rattle.program_types.specs.declared.names.MethodRef.{MethodRef}
-
--- The order of keys is total and transitive.
-pub key_cmp-total : IsTotalOrder key_cmp
-key_cmp-total = lists_total nat_list_cmp_total
-
--- Two keys tie only where they are one key.
-pub key_cmp-same : IsAntisymmetric key_cmp
-key_cmp-same = slice_cmp-IsAntisymmetric (slice_cmp-IsAntisymmetric nat_cmp-IsAntisymmetric)
 
 -- A comparison of a last text decides as it stands.
 pub ordering_then-equal : (o : Ordering) → o ≡ ordering_then o Equal

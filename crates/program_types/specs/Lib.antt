@@ -12,3 +12,4 @@ pub mod Operands
 pub mod Sizes
 pub mod Formed
 pub mod Hashing
+pub mod inner

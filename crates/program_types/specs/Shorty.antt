@@ -1,12 +1,7 @@
 -- The shorty of a prototype: its short form, in which every class and array type is the one letter L.
 -- Page: "Dalvik Executable format", "String syntax": ShortyDescriptor.
-use Rattle.std.specs.Prelude.{◌≡◌, ℕ, ◌⊎◌, [], ◌∷◌, map, slice_index, ◌==◌, if◌then◌else◌}
-use Rattle.dex_base.specs.Descriptor.{IsClass, IsArray}
+use Rattle.std.specs.Prelude.{ℕ, ◌∷◌, map, slice_index, ◌==◌, if◌then◌else◌}
 use Rattle.program_types.specs.Content.{Units, Descriptor, Proto}
-
--- A letter stands for a type: `L` (76) for a class or an array, for any other type the one letter that is its descriptor.
-abbrev pub StandsFor : ℕ → Descriptor → Type 0
-StandsFor letter descriptor = ((IsClass descriptor ⊎ IsArray descriptor) × (letter ≡ 76)) ⊎ (descriptor ≡ letter ∷ [])
 
 -- The letter that stands for a type, by the first unit of its descriptor: `L` for `[` (91), else that unit itself.
 abbrev pub letter_of : Descriptor → ℕ

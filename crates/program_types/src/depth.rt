@@ -6,6 +6,9 @@ ghost use Rattle.program_types.specs.Depth.{depth};
 
 use crate::value::Value;
 
+/// The deepest that a static value may be *(ours)*.
+pub const MOST_DEPTH: u32 = 64;
+
 /// Whether a value is at most `limit` deep: an array is one deeper than the deepest value in it, all other values have depth 0.
 ///
 /// The stack holds at most `limit + 1` calls, however deep the value is.

@@ -51,7 +51,7 @@ pub use compare::{
     desc_cmp, desc_eq, field_ref_cmp, field_ref_eq, key_laws, method_ref_cmp, method_ref_eq,
     proto_cmp, proto_eq, str_cmp, str_eq,
 };
-pub use depth::is_within_depth;
+pub use depth::{MOST_DEPTH, is_within_depth};
 pub use insn::Insn;
 pub use kinds::{is_class_or_array, is_class_type, is_void};
 pub use names::{Desc, FieldRef, MethodRef, Name, Proto, Str};

@@ -3,7 +3,8 @@
 ghost use Rattle.std.specs.Prelude.{◌≡◌, ◌↔◌, ℕ, List, All, IfOk, IsOkUnless, map};
 ghost use Rattle.dex_base.specs.Descriptor.{IsDescriptor};
 ghost use Rattle.dex_base.specs.Fault.{memory};
-ghost use Rattle.program_types.specs.Shorty.{StandsFor, letter_of, shorty};
+ghost use Rattle.program_types.specs.Shorty.{letter_of, shorty};
+ghost use Rattle.program_types.specs.inner.Shorty.{StandsFor};
 ghost use Rattle.program_types.specs.View.{str, desc};
 
 use crate::arena::alloc_str;

@@ -1,10 +1,58 @@
-//! The command: its words, and a run.
-ghost use Rattle.std.specs.Prelude.{◌≡◌, false};
+//! The command: its words, a run, and a source and a sink that are written by their page alone.
+ghost use Rattle.std.specs.Prelude.{◌≡◌, None, false};
 
 use clap::Error;
 use dex_base::Fault;
 use dexasm_command::{Job, Plan, RunFault, Sink, Source, Watched, plan, run, status, usage_status};
 use std::alloc::Global;
+use std::io;
+
+/// A source that is at its end.
+pub struct Empty {
+    pub ends: bool,
+}
+
+impl Source for Empty {
+    ghost remaining = { λ _. None };
+
+    ghost failed = { λ _. false };
+
+    ghost ended = { λ source. source.ends };
+
+    fn take(&mut self, piece: &mut [u8]) -> io::Result<usize> {
+        self.ends = self.ends || !piece.is_empty();
+        Ok(0)
+    }
+
+    fn failed(&self) -> bool {
+        false
+    }
+
+    fn ended(&self) -> bool {
+        self.ends
+    }
+}
+
+/// A sink that takes nothing.
+pub struct Full {
+    pub fails: bool,
+}
+
+impl Sink for Full {
+    ghost contents = { λ _. None };
+
+    ghost failed = { λ sink. sink.fails };
+
+    fn put(&mut self, piece: &[u8]) -> io::Result<usize> {
+        let _ = piece;
+        self.fails = true;
+        Err(io::Error::from(io::ErrorKind::WriteZero))
+    }
+
+    fn failed(&self) -> bool {
+        self.fails
+    }
+}
 
 /// Each job, and what it holds with its type.
 pub fn parts_of_job(job: Job) -> bool {

@@ -14,11 +14,13 @@ use Rattle.dex_container.specs.Frame.{IsFramed}
 use Rattle.dex_container.specs.Layout.{size_of}
 use Rattle.program_types.specs.Content.{Units, Proto, FieldRef, MethodRef, Name, OfText, OfDesc, OfField, OfMethod}
 use Rattle.program_types.specs.Key.{Key, key_cmp, units_cmp, text_key, proto_key, field_ref_key, method_ref_key}
-use Rattle.program_types.specs.KeyLaws.{key_cmp-total, ordering_then-equal}
+use Rattle.program_types.specs.KeyLaws.{ordering_then-equal}
+use Rattle.program_types.specs.inner.KeyLaws.{key_cmp-total}
 use Rattle.program_types.specs.Shorty.{shorty}
 use Rattle.tables_names.specs.Rank.{Rising, IsAt, IsSubset, is_member, add_all}
-use Rattle.tables_names.specs.Closure.{IsPart, Holds, proto_closure, AreRising}
-use Rattle.tables_names.specs.Indices.{AreIndices}
+use Rattle.tables_names.specs.Closure.{IsPart, proto_closure, AreRising}
+use Rattle.tables_names.specs.inner.Closure.{Holds}
+use Rattle.tables_names.specs.inner.Indices.{AreIndices}
 use Rattle.tables_rows.specs.Names.{Names, AreRows, AreNamesOf}
 use Rattle.program_types.specs.Mentions.{mentions}
 use Rattle.tables_names.specs.Needed.{needed}
@@ -33,7 +35,7 @@ use Rattle.tables_names.proofs.PlaceLemmas.{member_at, member_index, one_place}
 use Rattle.tables_names.proofs.NeededLemmas.{needed_is_least, holds_part}
 use Rattle.tables_names.proofs.SubsetLemmas as sub
 use Rattle.tables_rows.specs.Stands.{HasRow}
-use Rattle.tables_laws.specs.FileNames.{five_of, TablesHaveNames, NamesRise, NamesAreClosed, FilesHoldNeeded, FilesAreNoShorter, NeededHasRows}
+use Rattle.tables_laws.specs.inner.FileNames.{five_of, TablesHaveNames, NamesRise, NamesAreClosed, FilesHoldNeeded, FilesAreNoShorter, NeededHasRows}
 use Rattle.dex_base.proofs.ListFacts.{all_weaker}
 
 -- ---- rows and their keys

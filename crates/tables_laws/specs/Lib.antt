@@ -1,1 +1,1 @@
-pub mod FileNames
+pub mod inner

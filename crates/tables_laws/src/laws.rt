@@ -8,7 +8,7 @@ ghost use Rattle.program_types.specs.Key.{key_cmp, text_key, proto_key, field_re
 ghost use Rattle.tables_rows.specs.Stands.{StringStands, TypeStands, ProtoStands, FieldStands, MethodStands, NameStands};
 ghost use Rattle.dex_container.specs.Frame.{IsFramed};
 ghost use Rattle.tables_rows.specs.Sorted.{TablesHold};
-ghost use Rattle.tables_laws.specs.FileNames.{TablesHaveNames, NamesRise, NamesAreClosed, FilesHoldNeeded, FilesAreNoShorter, NeededHasRows};
+ghost use Rattle.tables_laws.specs.inner.FileNames.{TablesHaveNames, NamesRise, NamesAreClosed, FilesHoldNeeded, FilesAreNoShorter, NeededHasRows};
 
 /// Where the tables hold, each row denotes a name.
 #[tactic(auto, using(crate::proofs::FileLemmas::tables_have_names))]

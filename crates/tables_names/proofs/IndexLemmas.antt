@@ -12,10 +12,11 @@ use Rattle.program_types.specs.Key.{Key, key_cmp, units_cmp, text_key, proto_key
 use Rattle.program_types.specs.KeyLaws.{ordering_then-equal}
 use Rattle.program_types.specs.Shorty.{shorty}
 use Rattle.tables_names.specs.Rank.{Rising, is_member, IsSubset, IsAt}
-use Rattle.tables_names.specs.Closure.{Five, NameRanks, Holds, proto_closure}
+use Rattle.tables_names.specs.Closure.{Five, NameRanks, proto_closure}
+use Rattle.tables_names.specs.inner.Closure.{Holds}
 use Rattle.program_types.specs.Mentions.{mentions}
 use Rattle.tables_names.specs.Needed.{needed}
-use Rattle.tables_names.specs.Indices.{HasRank, AreIndices, ClosedHaveRows, RisingTablesRise, LookUpsAnswer, MentionsHaveIndices}
+use Rattle.tables_names.specs.inner.Indices.{HasRank, AreIndices, ClosedHaveRows, RisingTablesRise, LookUpsAnswer, MentionsHaveIndices}
 use Rattle.tables_names.proofs.SubsetLemmas.{member_here}
 use Rattle.tables_names.proofs.RowLemmas.{keys_compare_as_indices}
 use Rattle.tables_names.proofs.PlaceLemmas.{member_at, member_index, rank_at, index_none}

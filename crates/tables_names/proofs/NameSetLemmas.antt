@@ -15,7 +15,7 @@ use Rattle.std.proofs.lemmas.List.Sorted.{list_any-IsPermutation, IsPermutation-
 use Rattle.std.proofs.lemmas.Map.Keys.{sorted_from_all_adjacent, apart_from_distinct, Less-from_sorted}
 use Rattle.indexmap.specs.IndexSet.{insert_key as insert_last}
 use Rattle.program_types.specs.Key.{Key, key_cmp}
-use Rattle.program_types.specs.KeyLaws.{key_cmp-total, key_cmp-same}
+use Rattle.program_types.specs.inner.KeyLaws.{key_cmp-total, key_cmp-same}
 use Rattle.std.proofs.lemmas.Option.{slice_get-map, slice_get-get_or, slice_get_within, get_or_from_slice_get}
 use Rattle.std.proofs.lemmas.Bool.{cases_order}
 use Rattle.tables_names.specs.Rank.{Rising, is_member, rank_of, add_all, IsAt}

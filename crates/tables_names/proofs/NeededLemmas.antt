@@ -6,11 +6,13 @@ use Rattle.std.specs.List.{AllByRecursion}
 use Rattle.std.specs.Cmp.{Equal-is, both_ways}
 use Rattle.program_types.specs.Content.{Name, OfText, OfDesc, OfField, OfMethod}
 use Rattle.program_types.specs.Key.{Key, key_cmp, text_key, field_ref_key, method_ref_key, proto_key}
-use Rattle.program_types.specs.KeyLaws.{key_cmp-total, key_cmp-same}
+use Rattle.program_types.specs.inner.KeyLaws.{key_cmp-total, key_cmp-same}
 use Rattle.tables_names.specs.Rank.{Rising, is_member, IsSubset}
-use Rattle.tables_names.specs.Closure.{Five, nothing, shorty_of_texts, join, with_name, with_names, closure_of, Holds, IsPart, IsClosed, AreRising, string_closure, type_closure, proto_closure, field_closure, method_closure}
+use Rattle.tables_names.specs.Closure.{Five, nothing, shorty_of_texts, join, with_name, with_names, closure_of, IsPart, IsClosed, AreRising, string_closure, type_closure, proto_closure, field_closure, method_closure}
+use Rattle.tables_names.specs.inner.Closure.{Holds}
 use Rattle.program_types.specs.Mentions.{mentions}
-use Rattle.tables_names.specs.Needed.{needed, NeededIsLeast, LeastIsNeeded}
+use Rattle.tables_names.specs.Needed.{needed}
+use Rattle.tables_names.specs.inner.Needed.{NeededIsLeast, LeastIsNeeded}
 use Rattle.tables_names.proofs.SubsetLemmas as sub
 use Rattle.tables_names.proofs.RisingLemmas.{same_rising}
 use Rattle.tables_names.proofs.UnionLemmas.{rising-add_all, rising-none}

@@ -6,7 +6,8 @@ use Rattle.program_types.specs.Content.{Descriptor, Name, OfText, OfDesc, OfFiel
 use Rattle.program_types.specs.Key.{text_key, proto_key, field_ref_key, method_ref_key}
 use Rattle.tables_names.specs.Closure.{Five, AddsPart, IsPart, NameRanks, closure_of, parts_of, with_name, with_names, with_parts}
 use Rattle.tables_names.specs.Numbers.{AllGrow, sets}
-use Rattle.tables_names.specs.Noted.{AddsNoted, AreNoted, Continues, Notes, NumberIs, HasRanks, AreRanks, rank_by}
+use Rattle.tables_names.specs.Noted.{AddsNoted, AreNoted, Continues, Notes, NumberIs, AreRanks}
+use Rattle.tables_names.specs.inner.Noted.{HasRanks, rank_by}
 use Rattle.tables_names.specs.declared.noted.Number.{Number}
 use Rattle.tables_names.specs.declared.noted.Number.TheVariants.{Text, Desc, Field, Method}
 use Rattle.tables_names.specs.declared.noted.RankOf.{RankOf}

@@ -3,10 +3,11 @@ use Rattle.std.proofs.Common.{◌≡◌, ℕ, zero, suc, ◌<◌, Bool, true, fa
 use Rattle.std.specs.List.{AllZip}
 use Rattle.std.proofs.lemmas.List.Sums.{fold_push}
 use Rattle.program_types.specs.Key.{Key, text_key}
-use Rattle.program_types.specs.KeyLaws.{key_cmp-total, key_cmp-same}
+use Rattle.program_types.specs.inner.KeyLaws.{key_cmp-total, key_cmp-same}
 use Rattle.tables_names.specs.Rank.{insert_key, is_member, IsAt}
 use Rattle.tables_names.specs.Closure.{Five, AreRising, IsPart, type_closure, proto_closure, field_closure, method_closure}
-use Rattle.tables_names.specs.Numbers.{TypeAt, ProtoAt, FieldAt, MethodAt, Order, set_of, sets, InOrderOfNeed, with_last, Grows, AllGrow, RanksOf, FieldLeads, MethodLeads}
+use Rattle.tables_names.specs.Numbers.{TypeAt, ProtoAt, FieldAt, MethodAt, Order, set_of, sets, with_last, Grows, AllGrow, RanksOf}
+use Rattle.tables_names.specs.inner.Numbers.{InOrderOfNeed, FieldLeads, MethodLeads}
 use Rattle.tables_names.specs.declared.parts.TypeParts.{TypeParts}
 use Rattle.tables_names.specs.declared.parts.ProtoParts.{ProtoParts}
 use Rattle.tables_names.specs.declared.parts.FieldParts.{FieldParts}

@@ -5,7 +5,8 @@ use Rattle.tables_names.specs.Rank.{insert_key, is_member, add_all, IsAt}
 use Rattle.std.proofs.lemmas.List.{map-append, map_more}
 use Rattle.std.proofs.lemmas.List.Sums.{fold_push}
 use Rattle.tables_names.specs.Closure.{Five, IsPart, join, proto_parts, type_closure, string_closure, proto_closure, field_closure, method_closure}
-use Rattle.tables_names.specs.Numbers.{Order, set_of, sets, InOrderOfNeed}
+use Rattle.tables_names.specs.Numbers.{Order, set_of, sets}
+use Rattle.tables_names.specs.inner.Numbers.{InOrderOfNeed}
 use Rattle.tables_names.specs.declared.numbered.NumberedNames.TheInside.{Inside}
 use Rattle.tables_names.proofs.PlaceLemmas.{member_at}
 use Rattle.tables_names.proofs.FiveLemmas.{part_adds_nothing, parts_of_proto, field_parts, method_parts, IsPart-right}

@@ -4,7 +4,7 @@ use Rattle.std.proofs.lemmas.Option.{slice_get_within, get_or_from_slice_get}
 use Rattle.std.specs.Prelude.{IfSome, IfNone}
 use Rattle.std.specs.Ordering.{eq_by_cmp}
 use Rattle.program_types.specs.Key.{Key, key_cmp}
-use Rattle.program_types.specs.KeyLaws.{key_cmp-total, key_cmp-same}
+use Rattle.program_types.specs.inner.KeyLaws.{key_cmp-total, key_cmp-same}
 use Rattle.program_types.specs.Content.{Name, OfText, OfDesc, OfField, OfMethod}
 use Rattle.tables_names.specs.Closure.{Five, AreRising, NameRanks}
 use Rattle.tables_names.specs.Rank.{Rising, IsAt, is_member, rank_of, LookUpAnswers}

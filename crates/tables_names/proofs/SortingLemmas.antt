@@ -15,7 +15,8 @@ use Rattle.std.proofs.lemmas.List.Sorted.{IsPermutation-map, All-permutation}
 use Rattle.std.proofs.lemmas.Map.Keys.{IsDistinct-IsPermutation}
 use Rattle.program_types.specs.Key.{Key, key_cmp, units_cmp}
 use Rattle.program_types.specs.KeyLaws.{ordering_then-equal}
-use Rattle.tables_names.specs.Rank.{Rising, IsAt, RanksDecide, is_member, add_all}
+use Rattle.tables_names.specs.Rank.{Rising, IsAt, is_member, add_all}
+use Rattle.tables_names.specs.inner.Rank.{RanksDecide}
 use Rattle.tables_names.specs.Numbers.{set_of, TypeAt, ProtoAt, FieldAt, MethodAt, RanksOf}
 use Rattle.tables_names.specs.declared.parts.TypeParts.{TypeParts}
 use Rattle.tables_names.specs.declared.parts.ProtoParts.{ProtoParts}

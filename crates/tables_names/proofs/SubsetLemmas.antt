@@ -4,7 +4,7 @@ use Rattle.std.specs.Ordering.{is_eq, eq_by_cmp}
 use Rattle.std.specs.Cmp.{Equal-is, tied_itself}
 use Rattle.std.proofs.lemmas.List.Folds.{list_any-append}
 use Rattle.program_types.specs.Key.{Key, key_cmp}
-use Rattle.program_types.specs.KeyLaws.{key_cmp-total, key_cmp-same}
+use Rattle.program_types.specs.inner.KeyLaws.{key_cmp-total, key_cmp-same}
 use Rattle.tables_names.specs.Rank.{Rising, insert_key, is_member, add_all, IsSubset}
 use Rattle.tables_names.proofs.RisingLemmas.{insert_key-member, is_member-insert_key, is_member-fold}
 use Rattle.std.proofs.lemmas.Bool.{or_left, or_right}

@@ -2,7 +2,7 @@
 use Rattle.std.proofs.Common.{◌≡◌, ◌||◌, List, []}
 use Rattle.std.specs.List.Sorted.{IsStrictlySortedBy}
 use Rattle.program_types.specs.Key.{Key}
-use Rattle.program_types.specs.KeyLaws.{key_cmp-total, key_cmp-same}
+use Rattle.program_types.specs.inner.KeyLaws.{key_cmp-total, key_cmp-same}
 use Rattle.tables_names.specs.Rank.{Rising, is_member, add_all}
 use Rattle.tables_names.proofs.RisingLemmas.{sorted-fold, is_member-fold}
 

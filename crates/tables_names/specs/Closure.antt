@@ -100,13 +100,6 @@ with_proto_parts s p = join s (proto_parts (shorty_of_texts (proto_key p)) (prot
 abbrev pub with_names : Five → List Name → Five
 with_names s names = fold with_name s names
 
--- the sets hold a name
-abbrev pub Holds : Five → Name → Type 0
-Holds s (OfText t) = is_member s.strings (text_key t) ≡ true
-Holds s (OfDesc t) = is_member s.types (text_key t) ≡ true
-Holds s (OfField f) = is_member s.fields (field_ref_key f) ≡ true
-Holds s (OfMethod m) = is_member s.methods (method_ref_key m) ≡ true
-
 -- with each name its parts are there
 pub record IsClosed (s : Five) : Type 0 where
   pub of_types : (k : Key) → is_member s.types k ≡ true → IsPart (type_closure k) s

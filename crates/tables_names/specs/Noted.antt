@@ -1,17 +1,16 @@
 -- Names that code mentions and classes define, noted by their numbers in the order of first need while names are added, and by their ranks once
 -- these are sorted.
 -- Page: "Dalvik bytecode": the formats with an index, as 21c, name a string, a type, a field or a method by it.
-use Rattle.std.specs.Prelude.{◌≡◌, ℕ, List, ◌++◌, map, slice_index}
+use Rattle.std.specs.Prelude.{◌≡◌, ℕ, List, ◌++◌, map}
 use Rattle.std.specs.List.{AllZip}
 use Rattle.program_types.specs.Content.{Class, Name, OfText, OfDesc, OfField, OfMethod}
 use Rattle.program_types.specs.Key.{text_key, field_ref_key, method_ref_key}
 use Rattle.tables_names.specs.Rank.{IsAt}
 use Rattle.program_types.specs.Mentions.{field_of_class}
 use Rattle.tables_names.specs.Closure.{Five, NameRanks, method_of_class, with_names}
-use Rattle.tables_names.specs.Numbers.{AllGrow, RanksOf, sets}
+use Rattle.tables_names.specs.Numbers.{AllGrow, sets}
 use Rattle.tables_names.specs.declared.noted.Number.{Number}
 use Rattle.tables_names.specs.declared.noted.Number.TheVariants.{Text, Desc, Field, Method}
-use Rattle.tables_names.specs.declared.noted.RankOf.{RankOf}
 
 -- the number of a name among those of its kind
 abbrev pub NumberIs : Five → Name → Number → Type 0
@@ -48,17 +47,3 @@ members_of c =
 -- these are the ranks of names, one by one
 abbrev pub AreRanks : Five → List Name → List ℕ → Type 0
 AreRanks s names ranks = AllZip (λ name i. NameRanks s i name) names ranks
-
--- of each name of lists in the order of first need, by its number, its rank among sorted ones
-pub record HasRanks (names sorted : Five) (rank_of : RankOf) : Type 0 where
-  pub strings : RanksOf names.strings sorted.strings rank_of.strings.items
-  pub types : RanksOf names.types sorted.types rank_of.types.items
-  pub fields : RanksOf names.fields sorted.fields rank_of.fields.items
-  pub methods : RanksOf names.methods sorted.methods rank_of.methods.items
-
--- the rank that stands at a number
-abbrev pub rank_by : RankOf → Number → ℕ
-rank_by rank_of (Text n) = slice_index rank_of.strings.items n
-rank_by rank_of (Desc n) = slice_index rank_of.types.items n
-rank_by rank_of (Field n) = slice_index rank_of.fields.items n
-rank_by rank_of (Method n) = slice_index rank_of.methods.items n

@@ -61,11 +61,6 @@ abbrev pub sets : Five → Five
 sets s =
     record { strings = set_of s.strings; types = set_of s.types; protos = set_of s.protos; fields = set_of s.fields; methods = set_of s.methods }
 
--- what holds of names in the order of first need
-pub record InOrderOfNeed (o : Order) : Type 0 where
-  pub closed : IsClosed (sets o.names)
-  pub parts : HaveParts o
-
 -- what holds of sorted names
 pub record IsTables (o : Order) : Type 0 where
   pub closed : IsClosed o.names
@@ -114,13 +109,3 @@ FieldWithin types strings p = (p.class < length types) × (p.name < length strin
 -- there are ranks for these numbers of a method's parts
 abbrev pub MethodWithin : List ℕ → List ℕ → List ℕ → MethodParts → Type 0
 MethodWithin types strings protos p = (p.class < length types) × (p.name < length strings) × (p.proto < length protos)
-
--- these numbers have ranks, and they are those of the parts of the field k
-abbrev pub FieldLeads : List Key → List ℕ → List Key → List ℕ → Key → FieldParts → Type 0
-FieldLeads types type_ranks strings string_ranks k p =
-    FieldWithin type_ranks string_ranks p × FieldAt types strings k (field_ranks type_ranks string_ranks p)
-
--- these numbers have ranks, and they are those of the parts of the method k
-abbrev pub MethodLeads : List Key → List ℕ → List Key → List ℕ → List Key → List ℕ → Key → MethodParts → Type 0
-MethodLeads types type_ranks strings string_ranks protos proto_ranks k p =
-    MethodWithin type_ranks string_ranks proto_ranks p × MethodAt types strings protos k (method_ranks type_ranks string_ranks proto_ranks p)

@@ -1,9 +1,8 @@
 -- Sets of names as strictly rising lists of their keys, and the rank of a name in one: its index in the table that has just
 -- these names.
 -- Page: "Dalvik Executable format", "File layout": each table of names is sorted and has no duplicates.
-use Rattle.std.specs.Prelude.{◌≡◌, ℕ, ◌≤◌, List, [], Bool, true, Some, count_by, fold, slice_get, Option, SomeIff, IsTrue, ◌<◌, ◌^◌}
-use Rattle.std.specs.declared.cmp.Ordering.{Ordering}
-use Rattle.std.specs.Ordering.{is_lt, eq_by_cmp, nat_cmp, ordering_then}
+use Rattle.std.specs.Prelude.{◌≡◌, ℕ, List, Bool, true, Some, count_by, fold, slice_get, Option, SomeIff, IsTrue, ◌<◌, ◌^◌}
+use Rattle.std.specs.Ordering.{is_lt, eq_by_cmp}
 use Rattle.std.specs.List.{list_any}
 use Rattle.std.specs.List.Sorted.{IsStrictlySortedBy}
 use Rattle.std.specs.BTreeSet as set
@@ -37,24 +36,6 @@ pub record IsSubset (ks js : List Key) : Type 0 where
 abbrev pub IsAt : List Key → ℕ → Key → Type 0
 IsAt ks i k = slice_get ks i ≡ Some k
 
--- in a rising list that holds a set, the place of a key is at least its rank in the set
-abbrev pub IndexIsAtLeastRank : Type 0
-IndexIsAtLeastRank =
-    (set table : List Key) (i : ℕ) (k : Key) → Rising set → Rising table → IsSubset set table → IsAt table i k → rank_of set k ≤ i
-
--- in a rising list keys compare as their places do
-abbrev pub KeysCompareAsIndices : Type 0
-KeysCompareAsIndices =
-    (table : List Key) (i j : ℕ) (a b : Key) → Rising table → IsAt table i a → IsAt table j b → key_cmp a b ≡ nat_cmp i j
-
--- two names compare as these ranks of their parts do, unless the ranks tie
-abbrev pub RanksDecide : Ordering → Ordering → Type 0
-RanksDecide ranks names = ordering_then ranks names ≡ names
-
 -- what a look-up of k answers: the rank, where k is held and the rank has 32 bits
 abbrev pub LookUpAnswers : List Key → Key → Option ℕ → Type 0
 LookUpAnswers ks k r = SomeIff r (IsTrue (is_member ks k) × (rank_of ks k < 2 ^ 32)) (rank_of ks k)
-
--- a set is made by any list of its members, in any order
-abbrev pub SetsAreTheirMembers : Type 0
-SetsAreTheirMembers = (ks js : List Key) → IsSubset ks js → IsSubset js ks → add_all [] ks ≡ add_all [] js

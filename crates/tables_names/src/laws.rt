@@ -1,8 +1,8 @@
 //! Laws over the definitions, for the proofs of crates above.
-ghost use Rattle.tables_names.specs.Rank.{IndexIsAtLeastRank, KeysCompareAsIndices, SetsAreTheirMembers};
-ghost use Rattle.tables_names.specs.Needed.{NeededIsLeast, LeastIsNeeded};
-ghost use Rattle.tables_names.specs.Indices.{ClosedHaveRows, RisingTablesRise, LookUpsAnswer, MentionsHaveIndices};
-ghost use Rattle.tables_names.specs.Rows.{TypesRise, ProtosRise, FieldsRise, MethodsRise};
+ghost use Rattle.tables_names.specs.inner.Rank.{IndexIsAtLeastRank, KeysCompareAsIndices, SetsAreTheirMembers};
+ghost use Rattle.tables_names.specs.inner.Needed.{NeededIsLeast, LeastIsNeeded};
+ghost use Rattle.tables_names.specs.inner.Indices.{ClosedHaveRows, RisingTablesRise, LookUpsAnswer, MentionsHaveIndices};
+ghost use Rattle.tables_names.specs.inner.Rows.{TypesRise, ProtosRise, FieldsRise, MethodsRise};
 
 /// A table of a file is never shorter than what is needed.
 #[tactic(auto, using(crate::proofs::RowLemmas::index_is_at_least_rank))]

@@ -11,7 +11,8 @@ ghost use Rattle.program_types.specs.Mentions.{field_of_class};
 ghost use Rattle.program_types.specs.View as view;
 ghost use Rattle.tables_names.specs.Closure.{AddsPart, HasShorty, method_of_class, with_name, with_names};
 ghost use Rattle.tables_names.specs.Keys.{key_of_desc};
-ghost use Rattle.tables_names.specs.Noted.{AddsNoted, AreNoted, AreRanks, Continues, NumberIs, members_of, rank_by};
+ghost use Rattle.tables_names.specs.Noted.{AddsNoted, AreNoted, AreRanks, Continues, NumberIs, members_of};
+ghost use Rattle.tables_names.specs.inner.Noted.{rank_by};
 ghost use Rattle.tables_names.specs.Numbers.{AllGrow, sets};
 ghost use Rattle.tables_names.specs.Rank.{IsAt};
 

@@ -12,8 +12,10 @@ ghost use Rattle.program_types.specs.View as view;
 ghost use Rattle.tables_names.specs.Keys.{key_of_str, key_of_desc, key_of_proto, key_of_field, key_of_method};
 ghost use Rattle.tables_names.specs.Rank.{is_member, IsAt};
 ghost use Rattle.tables_names.specs.Closure.{nothing, with_name, with_proto, with_parts, with_proto_parts, AddsPart, HasShorty};
-ghost use Rattle.tables_names.specs.Noted.{NumberIs, HasRanks};
-ghost use Rattle.tables_names.specs.Numbers.{sets, set_of, AllGrow, InOrderOfNeed, RanksOf, TypeAt, ProtoAt, FieldAt, MethodAt, FieldLeads, MethodLeads};
+ghost use Rattle.tables_names.specs.Noted.{NumberIs};
+ghost use Rattle.tables_names.specs.inner.Noted.{HasRanks};
+ghost use Rattle.tables_names.specs.Numbers.{sets, set_of, AllGrow, RanksOf, TypeAt, ProtoAt, FieldAt, MethodAt};
+ghost use Rattle.tables_names.specs.inner.Numbers.{InOrderOfNeed, FieldLeads, MethodLeads};
 
 use crate::name_set::{NameSet, NamesWithParts};
 use crate::noted::{Number, RankOf};
@@ -54,7 +56,8 @@ impl<'a> Drop for NumberedNames<'a> {
 }
 
 impl<'a> Model for NumberedNames<'a> {
-    ghost use Rattle.tables_names.specs.Numbers.{Order, InOrderOfNeed};
+    ghost use Rattle.tables_names.specs.Numbers.{Order};
+    ghost use Rattle.tables_names.specs.inner.Numbers.{InOrderOfNeed};
 
     ghost Value = { Order };
 

@@ -7,7 +7,8 @@
 ghost use Rattle.std.specs.Prelude.{◌≡◌, ◌<◌, [], All, IfOk, OnOk, length, map, slice_index};
 ghost use Rattle.std.specs.List.{AllZip, IsDistinct};
 ghost use Rattle.program_types.specs.Key.{Key, key_cmp};
-ghost use Rattle.tables_names.specs.Rank.{IsAt, RanksDecide, Rising};
+ghost use Rattle.tables_names.specs.Rank.{IsAt, Rising};
+ghost use Rattle.tables_names.specs.inner.Rank.{RanksDecide};
 ghost use Rattle.tables_names.specs.Numbers.{set_of, TypeAt, ProtoAt, FieldAt, MethodAt, RanksOf, FieldWithin, MethodWithin, field_ranks, method_ranks};
 
 use crate::name_set::{NameSet, NamesWithParts, Ranked, Table};

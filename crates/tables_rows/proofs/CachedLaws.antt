@@ -4,7 +4,7 @@ use Rattle.std.proofs.lemmas.Bool.{eqb-true}
 use Rattle.std.proofs.lemmas.Option.{none-some}
 use Rattle.std.specs.Map.{lookup}
 use Rattle.indexmap.specs.IndexMap.{IndexMap, get, IsEmpty, Updates}
-use Rattle.tables_rows.specs.Cached.{AreCached}
+use Rattle.tables_rows.specs.inner.Cached.{AreCached}
 use Rattle.dex_base.proofs.ListFacts.{some_inj}
 
 -- nothing is cached yet

@@ -7,7 +7,7 @@ use Rattle.dex_base.specs.Fields.{AreBytes, u16_at, u32_at, u16_bytes, u32_bytes
 use Rattle.dex_base.specs.Words.{halves_bytes}
 use Rattle.dex_base.specs.Grammar.{Begins, NoneBegins, IsPrefixUnique}
 use Rattle.dex_base.proofs.FieldBounds.{u32_at-bytes, length-u32_bytes, u32_at-front, u32_at-fits}
-use Rattle.tables_rows.specs.Halves.{halves}
+use Rattle.tables_rows.specs.inner.Halves.{halves}
 use Rattle.dex_container.specs.Frame.{IsFramed}
 use Rattle.std.specs.Prelude.{MatchBool, ◌==◌}
 use Rattle.tables_rows.specs.Stands.{SpellsIndexes}

@@ -8,7 +8,7 @@ use Rattle.std.proofs.lemmas.Option.{slice_get-map, slice_get-get_or, slice_get_
 use Rattle.dex_base.specs.Descriptor.{IsMemberName}
 use Rattle.program_types.specs.View.{str}
 use Rattle.program_types.specs.declared.names.Str.{Str}
-use Rattle.tables_rows.specs.Reading.{AreNameMarks}
+use Rattle.tables_rows.specs.inner.Reading.{AreNameMarks}
 
 -- the first n marks say of their texts whether these are member names
 pub record MarkFirst (texts : List (List ℕ)) (marks : List Bool) (n : ℕ) : Type 0 where

@@ -9,7 +9,7 @@ use Rattle.dex_container.specs.Frame.{IsFramed}
 use Rattle.dex_container.specs.Layout.{size_of}
 use Rattle.tables_rows.specs.Names.{AreRows}
 use Rattle.dex_container.specs.Where.{IsSectionOf, At}
-use Rattle.tables_rows.specs.Reading.{AreFirst, LastIsBelow}
+use Rattle.tables_rows.specs.inner.Reading.{AreFirst, LastIsBelow}
 use Rattle.tables_rows.specs.RowFields.{string_place}
 use Rattle.tables_rows.specs.Sorted.{RowRises, IsBelow, StringIsBelow, RowsHold}
 use Rattle.tables_rows.specs.Stands.{StringStands}

@@ -9,7 +9,7 @@ use Rattle.dex_base.specs.Mutf8.{SpellsText}
 use Rattle.dex_container.specs.Frame.{IsFramed}
 use Rattle.dex_container.specs.Layout.{size_of}
 use Rattle.program_types.specs.Content.{Units}
-use Rattle.tables_rows.specs.Halves.{halves}
+use Rattle.tables_rows.specs.inner.Halves.{halves}
 use Rattle.dex_container.specs.Where.{At, AtOrNone}
 use Rattle.tables_rows.specs.RowFields.{string_place}
 use Rattle.tables_rows.specs.Sorted.{TypesHold}

@@ -3,7 +3,4 @@ pub mod RowFields
 pub mod Sorted
 pub mod Stands
 pub mod TableFaults
-pub mod Reading
-pub mod Halves
-pub mod Cached
-pub mod Known
+pub mod inner

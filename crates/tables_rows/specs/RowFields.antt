@@ -4,8 +4,6 @@ use Rattle.std.specs.Prelude.{ℕ, ◌+◌, ◌*◌, List, [], ◌∷◌}
 use Rattle.dex_base.specs.Fields.{u16_at, u32_at}
 use Rattle.dex_container.specs.Layout.{row_bytes, offset_of}
 use Rattle.dex_container.specs.Section as section
-use Rattle.tables_rows.specs.declared.row_fields.MemberTable.{MemberTable}
-use Rattle.tables_rows.specs.declared.row_fields.MemberTable.TheVariants.{Fields, Methods}
 
 -- where row i of table k stands, the tables counted from 0: strings, types, protos, fields, methods, classes
 abbrev pub row_place : List ℕ → ℕ → ℕ → ℕ
@@ -30,11 +28,6 @@ proto_return b i = u32_at b (row_place b section.proto_ids i + 4)
 -- parameters_off of row i
 unfoldable pub proto_parameters : List ℕ → ℕ → ℕ
 proto_parameters b i = u32_at b (row_place b section.proto_ids i + 8)
-
--- the number of a table of members
-abbrev pub number_of : MemberTable → ℕ
-number_of Fields = 3
-number_of Methods = 4
 
 -- class_idx of row i of the fields (k = 3) or the methods (k = 4)
 unfoldable pub member_class : List ℕ → ℕ → ℕ → ℕ

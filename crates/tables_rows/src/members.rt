@@ -1,7 +1,7 @@
 //! What rows of field_ids and method_ids have in common: the order by class, name, and type or proto.
 ghost use Rattle.std.specs.Prelude.{◌↔◌, ◌<◌, IsTrue};
 ghost use Rattle.dex_container.specs.Layout.{size_of};
-ghost use Rattle.tables_rows.specs.RowFields.{number_of};
+ghost use Rattle.tables_rows.specs.inner.RowFields.{number_of};
 ghost use Rattle.tables_rows.specs.Sorted.{RowRises, MemberIsBelow};
 
 use crate::row_fields::{MemberTable, member_class, member_kind, member_name};

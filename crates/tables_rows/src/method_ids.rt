@@ -5,7 +5,7 @@ ghost use Rattle.dex_container.specs.Layout.{size_of};
 ghost use Rattle.dex_container.specs.Section as section;
 ghost use Rattle.program_types.specs.View.{str, desc, proto, method_ref};
 ghost use Rattle.tables_rows.specs.Names.{AreRows};
-ghost use Rattle.tables_rows.specs.Reading.{AreNameMarks};
+ghost use Rattle.tables_rows.specs.inner.Reading.{AreNameMarks};
 ghost use Rattle.tables_rows.specs.Sorted.{MethodHolds, MethodsHold};
 ghost use Rattle.tables_rows.specs.Stands.{StringStands, TypeStands, ProtoStands, MethodStands};
 ghost use Rattle.tables_rows.specs.TableFaults.{MethodBreaks, BreaksAt, IsFirstRow};

@@ -1,18 +1,16 @@
 //! Which strings are member names: looked through once a string, however many rows name it.
 //! Page: "Dalvik Executable format", "String syntax": MemberName.
-ghost use Rattle.std.specs.Prelude.{◌≡◌, IfOk, IsOkUnless, get_or, map, false};
-ghost use Rattle.dex_base.specs.Fault.{memory};
+ghost use Rattle.std.specs.Prelude.{◌≡◌, IfOk, get_or, map, false};
 ghost use Rattle.program_types.specs.View.{str};
-ghost use Rattle.tables_rows.specs.Reading.{AreNameMarks};
+ghost use Rattle.tables_rows.specs.inner.Reading.{AreNameMarks};
 
-use dex_base::{Fault, is_member_name};
+use dex_base::is_member_name;
 use program_types::Str;
-use std::alloc::Global;
+use std::alloc::{AllocError, Global};
 
 /// For each string whether it is a member name.
-pub(crate) fn mark_names(alloc: Global, strings: &[Str<'_>]) -> Result<Vec<bool>, Fault>
+pub(crate) fn mark_names(alloc: Global, strings: &[Str<'_>]) -> Result<Vec<bool>, AllocError>
     ensures marks { IfOk result (λ names. AreNameMarks (map str strings.now) names.items) }
-    ensures memory { IsOkUnless result memory }
 {
     let mut names = Vec::with_capacity(alloc, strings.len())?;
     for string in strings {

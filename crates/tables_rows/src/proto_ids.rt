@@ -1,5 +1,5 @@
 //! The table proto_ids: each row has a shorty, a return type and a list of parameters ("proto_id_item").
-ghost use Rattle.std.specs.Prelude.{◌≡◌, ◌≢◌, ◌↔◌, ◌<◌, ◌*◌, ◌∷◌, IfOk, IfErr, IfSome, IfNone, IsOkUnless, IsTrue, OnOk, length, map};
+ghost use Rattle.std.specs.Prelude.{◌≡◌, ◌≢◌, ◌↔◌, ◌<◌, ◌*◌, ◌∷◌, IfOk, IfErr, IfSome, IfNone, IsTrue, OnOk, length, map};
 ghost use Rattle.std.specs.Cmp.Lexicographic.{slice_cmp};
 ghost use Rattle.std.specs.Ordering.{nat_cmp};
 ghost use Rattle.dex_base.specs.Fault.{memory};
@@ -7,9 +7,9 @@ ghost use Rattle.dex_container.specs.Frame.{IsFramed};
 ghost use Rattle.dex_container.specs.Layout.{size_of};
 ghost use Rattle.program_types.specs.View.{str, desc, proto};
 ghost use Rattle.program_types.specs.Shorty.{shorty};
-ghost use Rattle.tables_rows.specs.Halves.{halves};
-ghost use Rattle.tables_rows.specs.Cached.{AreCached};
-ghost use Rattle.tables_rows.specs.Known.{IsKnown};
+ghost use Rattle.tables_rows.specs.inner.Halves.{halves};
+ghost use Rattle.tables_rows.specs.inner.Cached.{AreCached};
+ghost use Rattle.tables_rows.specs.inner.Known.{IsKnown};
 ghost use Rattle.tables_rows.specs.Names.{AreRows};
 ghost use Rattle.dex_container.specs.Where.{IsSectionOf};
 ghost use Rattle.dex_container.specs.Section as section;
@@ -26,7 +26,7 @@ use dex_base::{Fault, fault};
 use dex_container::{Section, Sections, kind, section_of};
 use indexmap::IndexMap;
 use program_types::{Desc, Proto, Str, is_void, letter};
-use std::alloc::Global;
+use std::alloc::{AllocError, Global};
 use std::cmp::Ordering;
 
 /// What is cached for a list of parameters: its types, and the letter of the return type and the row of the shorty of a row that has them.
@@ -152,13 +152,12 @@ fn read_parameters<'a>(
     lists: Section,
     types: &[Desc<'a>],
     off: u32,
-) -> Result<Option<&'a [Desc<'a>]>, Fault>
+) -> Result<Option<&'a [Desc<'a>]>, AllocError>
     requires framed { IsFramed sections.now }
     requires section { IsSectionOf sections.now 0x1001 lists }
     requires types { AreRows TypeStands sections.now section.type_ids (map desc types.now) }
     ensures found { IfOk result (λ r. IfSome r (λ params. ParametersAt sections.now off (map desc params.now))) }
     ensures none { IfOk result (λ r. IfNone r ((ts : _) → ¬ ParametersAt sections.now off ts)) }
-    ensures memory { IsOkUnless result memory }
 {
     let Some(params) = types_at(arena, sections, lists, types, off)? else {
         return Ok(None);
@@ -180,14 +179,13 @@ fn parameters_at<'a>(
     types: &[Desc<'a>],
     cached: &IndexMap<u32, Known<'a>>,
     off: u32,
-) -> Result<Option<Known<'a>>, Fault>
+) -> Result<Option<Known<'a>>, AllocError>
     requires framed { IsFramed sections.now }
     requires section { IsSectionOf sections.now 0x1001 lists }
     requires types { AreRows TypeStands sections.now section.type_ids (map desc types.now) }
     requires cached { AreCached (IsKnown sections.now) cached.now }
     ensures found { IfOk result (λ r. IfSome r (λ known. IsKnown sections.now off known)) }
     ensures none { IfOk result (λ r. IfNone r ((ts : _) → ¬ ParametersAt sections.now off ts)) }
-    ensures memory { IsOkUnless result memory }
 {
     if let Some(known) = cached.get(&off) {
         return Ok(Some(*known));

@@ -7,7 +7,7 @@ ghost use Rattle.program_types.specs.View.{str};
 ghost use Rattle.tables_rows.specs.Names.{AreRows};
 ghost use Rattle.dex_container.specs.Where.{IsSectionOf};
 ghost use Rattle.dex_container.specs.Section as section;
-ghost use Rattle.tables_rows.specs.Reading.{LastIsBelow, AreFirst};
+ghost use Rattle.tables_rows.specs.inner.Reading.{LastIsBelow, AreFirst};
 ghost use Rattle.tables_rows.specs.Sorted.{StringHolds, StringsHold};
 ghost use Rattle.tables_rows.specs.Stands.{StringStands};
 ghost use Rattle.tables_rows.specs.TableFaults.{StringBreaks, BreaksAt, IsFirstRow};

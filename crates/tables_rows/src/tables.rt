@@ -113,7 +113,7 @@ impl<'a> Tables<'a> {
         ensures memory { IsOkUnless result memory }
     {
         let lists = section_of(sections, kind::TYPE_LIST);
-        types_at(arena, sections, lists, self.types, off)
+        Ok(types_at(arena, sections, lists, self.types, off)?)
     }
 
     /// The string of a row. None past the last row; so with the other kinds.

@@ -1,12 +1,11 @@
 //! Lists of types, as parameters and interfaces have them ("type_list").
-ghost use Rattle.std.specs.Prelude.{◌≡◌, ◌*◌, ◌+◌, ◌<◌, ℕ, List, IfOk, IfSome, IfNone, IsOkUnless, length, map};
+ghost use Rattle.std.specs.Prelude.{◌≡◌, ◌*◌, ◌+◌, ◌<◌, ℕ, List, IfOk, IfSome, IfNone, length, map};
 ghost use Rattle.std.specs.Cmp.Lexicographic.{slice_cmp};
 ghost use Rattle.std.specs.Ordering.{nat_cmp};
-ghost use Rattle.dex_base.specs.Fault.{memory};
 ghost use Rattle.dex_base.specs.Grammar.{Begins, NoneBegins};
 ghost use Rattle.dex_container.specs.Frame.{IsFramed};
 ghost use Rattle.program_types.specs.View.{desc};
-ghost use Rattle.tables_rows.specs.Halves.{halves};
+ghost use Rattle.tables_rows.specs.inner.Halves.{halves};
 ghost use Rattle.tables_rows.specs.Names.{TypeIsAt};
 ghost use Rattle.dex_container.specs.Where.{IsSectionOf, At, AtOrNone};
 ghost use Rattle.tables_rows.specs.Stands.{ListAt, SpellsIndexes};
@@ -14,9 +13,10 @@ ghost use Rattle.tables_rows.specs.Stands.{ListAt, SpellsIndexes};
 use crate::look_up::type_in;
 use bumpalo::Bump;
 use bumpalo::collections::into_bump_slice;
-use dex_base::{Fault, u16_at, u32_at};
+use dex_base::{u16_at, u32_at};
 use dex_container::{Section, Sections, bytes_from, kind};
 use program_types::Desc;
+use std::alloc::AllocError;
 use std::cmp::Ordering;
 
 /// The indices of the type_list at the front of these bytes, two bytes each.
@@ -72,12 +72,11 @@ pub(crate) fn types_at<'a>(
     lists: Section,
     types: &[Desc<'a>],
     off: u32,
-) -> Result<Option<&'a [Desc<'a>]>, Fault>
+) -> Result<Option<&'a [Desc<'a>]>, AllocError>
     requires section { IsSectionOf sections.now 0x1001 lists }
     requires framed { IsFramed sections.now }
     ensures found { IfOk result (λ r. IfSome r (λ list. ListAt (TypeIsAt (map desc types.now)) sections.now off (map desc list.now))) }
     ensures none { IfOk result (λ r. IfNone r ((ts : _) → ¬ ListAt (TypeIsAt (map desc types.now)) sections.now off ts)) }
-    ensures memory { IsOkUnless result memory }
 {
     let Some(indexes) = indexes_or_none(sections, lists, off) else {
         return Ok(None);

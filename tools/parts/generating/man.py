@@ -38,6 +38,13 @@ OUT_PART = (
     "have the shell write in place: 'dexasm strip FILE > OUT'. What replaces a file is synced to the disk first, which takes some milliseconds; "
     "under a name that isn't there nothing waits for the disk."
 )
+# What the launcher of a repository heeds.
+PROVED = (
+    "Of the launcher ./dexasm in the repository: with the value \\fBproved\\fR it builds the proved program first where that isn't there, and runs that "
+    "one or none. Without it the quick program runs until tools/build has been run: the same source without its proof. A helper ends with an error "
+    "where it tells which build answers and that isn't a proved one."
+)
+WHICH = "Of the launcher too: where it isn't empty no program runs, and standard output says which one would, 'proved' or 'quick', and its path."
 # What the C library heeds.
 TUNABLES = (
     "The GNU C library hands out the command's memory. Where /sys/kernel/mm/transparent_hugepage/enabled says 'always' or 'madvise', "
@@ -62,7 +69,7 @@ STATUSES = (
     ("3", "reading or writing failed; standard error says 'dexasm: cannot read' or 'dexasm: cannot write'. Where it is a terminal, a second line"
      " has the system's reason; elsewhere 'ls -l' of the file and 'df' of its folder tell why. A pipe whose reader ends early is a failure too"),
     ("4", "out of memory"),
-    ("70", "of the launcher ./dexasm in the repository alone: there is no program, and standard error says why"),
+    ("70", "of the launcher ./dexasm in the repository alone: there is no program, or of which commit one is can't be known; standard error says why"),
 )
 WORDS = (
     "Which of these does what smali, baksmali, dexdump, javap or objdump does is the first part of docs/RECIPES.md (\"Which word does it\"), in a package "
@@ -131,7 +138,8 @@ def page(said: dict[str, str]) -> str:
         out += [".TP", f"\\fB{plain(option)}\\fR", plain(text) + "."]
     out += [".TP", "\\fB\\-\\-align\\fR", plain(said["ALIGN"]) + ". Only of \\fBassemble\\fR."]
     out += [".SH FILES", ".TP", "\\fIOUT\\fR.0.part", OUT_PART]
-    out += [".SH ENVIRONMENT", ".TP", "\\fBGLIBC_TUNABLES\\fR", TUNABLES]
+    out += [".SH ENVIRONMENT", ".TP", "\\fBDEXASM\\fR", PROVED, ".TP", "\\fBDEXASM_WHICH\\fR", WHICH]
+    out += [".TP", "\\fBGLIBC_TUNABLES\\fR", TUNABLES]
     out += [".SH EXIT STATUS"]
     for status, text in STATUSES:
         out += [".TP", f"\\fB{status}\\fR", plain(text) + "."]

@@ -82,7 +82,7 @@ def files_in_vain(known: set[str]) -> list[str]:
             crate = home
             for name, file in NAME_OR_FILE.findall(re.sub(r"`[^`.]*`", "", cell)):
                 crate = name if name in known else crate
-                if file and not any(os.path.exists(f"crates/{crate}/{part}/{file}") for part in ("specs", "src")):
+                if file and not any(os.path.exists(f"crates/{crate}/{part}/{file}") for part in ("specs", "specs/inner", "src")):
                     vain.append(f"{MAP} names {file} of {crate}, which isn't there")
     return vain
 

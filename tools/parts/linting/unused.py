@@ -14,19 +14,15 @@ import re
 from collections.abc import Iterator
 
 from .. import TOP
+from ..definitions import WORD, File, Owner, Owners, handed_on_in, named_in, owners_of, read_files
 from . import Seen
 
-ANSWERS = {"Answers.antt", "Invariants.antt", "Proof.antt"}
-WORD = re.compile(r"[^\s(){}\[\],;.:λ→=\"`|]+")
-USE = re.compile(r"^\s*(?:ghost )?(pub )?use ([\w.]+)(?:\.\{(.*)\})?(?: as (\S+))?\s*;?\s*$")
-HEAD = re.compile(r"^\s*(?:(?:abbrev|unfoldable|opaque|pub)\s+)*(?:(record|data|module|ruleset|mutual|infix\w*)(?:\s+|$))?([^\s(){}:,;]*)")
-FIELD = re.compile(r"^\s+(?:pub\s+)?([^\s(){}:,;]+)\s*(?:\([^)]*\))?\s*:")
 CITED = re.compile(r"(?:using|unfolding|simp|with|rewriting)\(([^()]*)\)")
-MOST_PATHS = 39000
+MOST_PATHS = 67000
 # The crates that hand on what stands in the crates that they are made of.
 FRONTS = {"dex_program", "dex_tables", "dex_code", "dex_file", "dex_listing", "dexasm_command"}
 # What only these call is called by nothing.
-APART = re.compile(r"crates/(?:\w+_(?:tests|samples)|bench|example)/")
+APART = re.compile(r"crates/(?:\w+_(?:tests|samples)|bench|example|example_proved)/")
 # The crate that has what is promised.
 SURFACE = "crates/surface_tests/"
 # What is for those who use the library: to compare names, to put them into an arena, and to ask a program's rules by hash.
@@ -35,116 +31,6 @@ FOR_USERS |= {"well_formed_in"}
 # What rattle makes of a file of code: its types and contracts, and of a function its goals.
 MADE = re.compile(r"specs\.(?:declared|contracts)\.(\w+)|proofs\.(\w+)\..*\b(?:Goals|Given|Statement|Code)$")
 
-
-# A definition, by its file and its name there; whose a name of a file is.
-Owner = tuple[str, str]
-Owners = dict[tuple[str, str], Owner]
-# Where a definition's parts begin and end, and what kind each is.
-Blocks = dict[str, list[tuple[int, int, str | None]]]
-
-
-class File:
-    """A file's lines without comments, what its imports name, and where each of its definitions stands."""
-
-    def __init__(self, path: str, text: str) -> None:
-        self.path = path
-        self.is_code = path.endswith(".rt")
-        self.is_root = self.is_code or os.path.basename(path) in ANSWERS
-        self.lines = [line if self.is_code else line.split("--")[0] for line in text.split("\n")]
-        self.uses = {i: use for i, line in enumerate(self.lines) if (use := USE.match(line))}
-        self.names: dict[str, tuple[str, str]] = {}
-        self.aliases: dict[str, str] = {}
-        self.blocks: Blocks = {}
-        self.body = "\n".join(line for i, line in enumerate(self.lines) if i not in self.uses)
-
-    def imported(self) -> Iterator[tuple[int, str, str, str | None, str | None]]:
-        """(line, name here, module, name there, whether it is handed on) of each import; a whole module has no name there."""
-        for i, use in self.uses.items():
-            is_public, module, names, alias = use.groups()
-            if names is None:
-                yield i, alias or module.split(".")[-1], module, None, is_public
-                continue
-            for name in filter(None, (part.strip() for part in names.split(","))):
-                there, _, here = name.partition(" as ")
-                yield i, here or there, module, there, is_public
-
-    def read_imports(self, files: dict[str, "File"]) -> None:
-        for _, here, module, there, _ in self.imported():
-            target = "crates/" + "/".join(module.split(".")[1:]) + ".antt"
-            if target in files and there is None:
-                self.aliases[here] = target
-            elif target in files and there is not None:
-                self.names[here] = (target, there)
-
-    def read_blocks(self) -> None:
-        """A definition goes from its head to the next one; `unfolding` before a head belongs to it."""
-        heads, inside, pending = [], False, None
-        for i, line in enumerate(self.lines):
-            if not line.strip() or i in self.uses or line.lstrip()[0] in "]})":
-                continue
-            indent = len(line) - len(line.lstrip())
-            if indent == 0:
-                inside = re.match(r"(abbrev |unfoldable )?(module|mutual)\b", line) is not None
-            if indent != 0 and not (inside and indent == 2):
-                continue
-            head = HEAD.match(line)
-            kind, name = (head[1], head[2]) if head else (None, "")
-            if name == "unfolding":
-                pending = i if pending is None else pending
-            elif kind or name:
-                heads.append((i if pending is None else pending, kind, name))
-                pending = None
-        for (begin, kind, name), after in zip(heads, [*(head[0] for head in heads[1:]), len(self.lines)]):
-            # what opens a scope, or says how an operator is read, is no definition: what it mentions is used
-            key = name if kind in (None, "record", "data", "ruleset") else f"{begin} {kind}"
-            self.blocks.setdefault(key, []).append((begin, after, kind))
-
-    def text_of(self, block: str) -> str:
-        return "\n".join(self.lines[i] for begin, end, _ in self.blocks[block] for i in range(begin, end) if i not in self.uses)
-
-
-def read_files() -> dict[str, File]:
-    files = {}
-    for folder, below, names in os.walk(os.path.join(TOP, "crates")):
-        below[:] = [name for name in below if name != "out"]
-        for name in names:
-            if name.endswith((".antt", ".rt")):
-                path = os.path.relpath(os.path.join(folder, name), TOP)
-                with open(os.path.join(folder, name), encoding="utf-8") as it:
-                    files[path] = File(path, it.read())
-    for one in files.values():
-        one.read_imports(files)
-        if not one.is_root and not one.path.endswith("/Lib.antt"):
-            one.read_blocks()
-    return files
-
-
-def owners_of(files: dict[str, File]) -> Owners:
-    """The definition that each name of a file belongs to: its own, or that of its fields and constructors."""
-    owners = {}
-    for path, one in files.items():
-        for block, parts in one.blocks.items():
-            owners[path, block] = (path, block)
-            for begin, end, kind in parts:
-                for line in one.lines[begin + 1:end] if kind in ("data", "record") else ():
-                    field = FIELD.match(line)
-                    if field:
-                        owners.setdefault((path, field.group(1)), (path, block))
-    return owners
-
-
-def named_in(one: File, text: str, owners: Owners) -> Iterator[Owner | None]:
-    """The definitions that a text of a file names."""
-    for word in WORD.finditer(text):
-        name = word.group(0)
-        yield owners.get((one.path, name))
-        yield owners.get(one.names[name]) if name in one.names else None
-        if name in one.aliases:
-            member = WORD.match(text, word.end() + 1) if text[word.end():word.end() + 1] == "." else None
-            yield owners.get((one.aliases[name], member.group(0))) if member else None
-    for name, there in one.names.items():
-        if "◌" in name and all(part in text for part in name.split("◌")):
-            yield owners.get(there)
 
 
 def roots_of(files: dict[str, File], owners: Owners) -> Iterator[Owner | None]:
@@ -187,7 +73,7 @@ def read_crates() -> dict[str, list[str]]:
 def astray(files: dict[str, File], crates: dict[str, list[str]]) -> Iterator[str]:
     """Imports of modules that don't stand in the crate that they name, what is handed on, entries that no file of their crate names, and
     too many paths."""
-    named = collections.defaultdict(set)
+    named, handed_on = collections.defaultdict(set), handed_on_in(files)
     for path, one in sorted(files.items()):
         if path.endswith("/src/lib.rt") and path.split("/")[1] not in FRONTS:
             yield from (f"{path}: hands on what stands in {of}" for of in re.findall(r"(?m)^pub use (\w+)::", one.body) if of in crates)
@@ -197,7 +83,8 @@ def astray(files: dict[str, File], crates: dict[str, list[str]]) -> Iterator[str
             if len(steps) < 2 or steps[0] not in crates:
                 continue
             made = MADE.match(".".join(steps[1:]))
-            if (f"crates/{steps[0]}/src/{made.group(1) or made.group(2)}.rt" if made else f"crates/{'/'.join(steps)}.antt") not in files:
+            file = f"crates/{steps[0]}/src/{made.group(1) or made.group(2)}.rt" if made else f"crates/{'/'.join(steps)}.antt"
+            if file not in files and file not in handed_on:
                 yield f"{path}:{i + 1}: no {'.'.join(steps[1:])} stands in {steps[0]}"
     for name, entries in crates.items():
         yield from (f"crates.txt: no file of {name} names {entry}" for entry in entries if entry not in named[name] | {"staticlib"})

@@ -53,6 +53,9 @@ LEFT_OUT = ("target", "man", "__pycache__", "Cargo.lock", ".gitignore")  # what 
 # The oldest C library that has what the program and libdexasm.so ask for.
 GLIBC = {"bin/dexasm": (2, 34), "lib/libdexasm.so.0": (2, 17)}
 
+# What says where tools/generate writes in a page.
+MARKS = re.compile(r"<!-- (?:end of \w+|\w+: written by tools/generate) -->\n")
+
 # For pkg-config, wherever the package lies.
 PC = """prefix=${pcfiledir}/../..
 Name: dexasm
@@ -123,14 +126,15 @@ def below(folder: str, place: str) -> Iterator[tuple[str, tuple[bytes, int]]]:
 
 
 def packed_page(path: str) -> bytes:
-    """A page without what needs the repository; README has there what docs/PACKAGE.md says. Nothing of what is no page."""
+    """A page without what needs the repository, and without the marks of what is generated; README has there what
+    docs/PACKAGE.md says. Nothing of what is no page."""
     if not path.endswith(".md"):
         return b""
     text, instead = get(path).decode(), ""
     if path == f"{TOP}/README.md":
         page = get(f"{TOP}/docs/PACKAGE.md").decode().partition("\n\n")[2].rpartition("\n---\n")[0].strip()
         instead = relinked(page, "docs/PACKAGE.md", {name: name for name in places()}, "README.md") + "\n\n"
-    made: str = CHECKOUT.sub(lambda _: instead, text)
+    made: str = MARKS.sub("", CHECKOUT.sub(lambda _: instead, text))
     return made.encode()
 
 

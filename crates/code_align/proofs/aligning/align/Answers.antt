@@ -6,7 +6,7 @@ use Rattle.program_types.specs.View as view
 use Rattle.program_types.specs.View.{insn, try}
 use Rattle.program_types.specs.Formed.{insn_at}
 use Rattle.code_align.specs.Aligned.{moved, moved_insn, moved_try, with_nops}
-use Rattle.code_align.specs.Aligning.{pads_from}
+use Rattle.code_align.specs.inner.Aligning.{pads_from}
 use Rattle.code_align.proofs.PadLaws.{length-pads, aligned-length, same-moved, pads-good, pads-even, length-with_nops}
 use Rattle.code_align.proofs.AlignedFormed.{aligned-formed}
 use Rattle.code_align.proofs.MoveLaws.{operand-more, try-below, insns-same, tries-same}

@@ -4,7 +4,7 @@ use Rattle.program_types.specs.Content.{Try}
 use Rattle.code_put.proofs.ItemPieces.{seen-at}
 use Rattle.program_types.specs.View.{try}
 use Rattle.code_align.specs.Aligned.{moved_try}
-use Rattle.code_align.specs.Aligning.{IsTryBelow}
+use Rattle.code_align.specs.inner.Aligning.{IsTryBelow}
 use Rattle.code_align.proofs.MoveLaws.{view-more}
 use Rattle.code_align.proofs.moving.moved_tries.Goals as goal
 

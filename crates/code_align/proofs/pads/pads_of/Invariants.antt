@@ -1,6 +1,6 @@
 use Rattle.std.proofs.Common.{◌≤◌, ◌≡◌, ◌*◌, ◌++◌, map, drop}
 use Rattle.program_types.specs.View.{insn}
-use Rattle.code_align.specs.Aligning.{pads_from}
+use Rattle.code_align.specs.inner.Aligning.{pads_from}
 use Rattle.code_align.proofs.pads.pads_of.Given as goal
 
 abbrev pub invariant-loop-k : goal.invariant-loop-k

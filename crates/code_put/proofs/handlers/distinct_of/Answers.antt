@@ -5,8 +5,8 @@ use Rattle.program_types.specs.Content.{Try}
 use Rattle.tables_names.specs.Closure.{NameRanks}
 use Rattle.code_read.specs.Tries.{handler_of}
 use Rattle.code_put.specs.Fits.{HasIndexBelow}
-use Rattle.code_put.specs.Packs.{PacksHandler}
-use Rattle.code_put.specs.Writing.{IsDistinct}
+use Rattle.code_put.specs.inner.Packs.{PacksHandler}
+use Rattle.code_put.specs.inner.Writing.{IsDistinct}
 use Rattle.code_put.proofs.ItemPieces.{seen-at}
 use Rattle.code_put.proofs.TryParts.{few-catches, places-inside, types-named, last-inside, some-handled}
 use Rattle.dex_base.proofs.ShortestLaws.{AllBytes}

@@ -3,7 +3,7 @@ use Rattle.std.proofs.lemmas.List.{length-map}
 use Rattle.std.proofs.lemmas.Result.{IfOk-weaker}
 use Rattle.program_types.specs.View.{try}
 use Rattle.tables_names.specs.Closure.{NameRanks}
-use Rattle.code_put.specs.Writing.{IsDistinct, IsDistinctOf}
+use Rattle.code_put.specs.inner.Writing.{IsDistinct, IsDistinctOf}
 use Rattle.code_put.proofs.ListedLaws.{seen}
 use Rattle.code_put.proofs.LaidLaws.{laid-none}
 use Rattle.code_put.proofs.handlers.lay_handlers.Goals as goal

@@ -1,6 +1,6 @@
 use Rattle.std.proofs.Common.{◌≡◌, ◌++◌, ◌∙◌, ℕ, List, length, [], ◌∷◌, refl, arith, ap, length-append}
 use Rattle.dex_base.specs.Leb128.{Spells, Shortest}
-use Rattle.code_put.specs.Writing.{places_from}
+use Rattle.code_put.specs.inner.Writing.{places_from}
 use Rattle.code_put.proofs.HandlerPacks.{alone}
 use Rattle.code_put.proofs.ListedLaws.{seen, key-at, bytes-turn, places-turn, bytes-few, listed}
 use Rattle.code_put.proofs.handlers.list_of.Goals as goal

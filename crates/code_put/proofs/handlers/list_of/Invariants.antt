@@ -1,5 +1,5 @@
 use Rattle.std.proofs.Common.{◌≡◌, ◌++◌, map, drop, length}
-use Rattle.code_put.specs.Writing.{joined_keys, places_from}
+use Rattle.code_put.specs.inner.Writing.{joined_keys, places_from}
 use Rattle.code_put.proofs.handlers.list_of.Given as goal
 
 abbrev pub invariant-loop-k : goal.invariant-loop-k

@@ -5,7 +5,7 @@ use Rattle.program_types.specs.Content.{Catch, OfDesc}
 use Rattle.program_types.specs.View.{catch}
 use Rattle.tables_names.specs.Closure.{NameRanks}
 use Rattle.code_put.specs.Fits.{HasIndexBelow}
-use Rattle.code_put.specs.Packs.{PacksCatch}
+use Rattle.code_put.specs.inner.Packs.{PacksCatch}
 use Rattle.code_put.proofs.ListLaws.{all-view, take-view}
 use Rattle.code_put.proofs.handlers.put_catches.Goals as goal
 use Rattle.dex_base.proofs.GrammarLaws.{Each-appends_none, Each-appends_more}

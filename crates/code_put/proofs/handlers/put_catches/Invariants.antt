@@ -2,7 +2,7 @@ use Rattle.std.proofs.Common.{map, take}
 use Rattle.dex_base.specs.Grammar.{Appends, Each}
 use Rattle.program_types.specs.View.{catch}
 use Rattle.tables_names.specs.Closure.{NameRanks}
-use Rattle.code_put.specs.Packs.{PacksCatch}
+use Rattle.code_put.specs.inner.Packs.{PacksCatch}
 use Rattle.code_put.proofs.handlers.put_catches.Given as goal
 
 abbrev pub invariant-loop-one : goal.invariant-loop-one

@@ -8,7 +8,7 @@ use Rattle.program_types.specs.Content as content
 use Rattle.program_types.specs.View.{insn}
 use Rattle.program_types.specs.declared.insn.Insn.{Insn}
 use Rattle.tables_names.specs.Closure.{NameRanks}
-use Rattle.code_put.specs.Writing.{PutInsn, PutPayload}
+use Rattle.code_put.specs.inner.Writing.{PutInsn, PutPayload}
 use Rattle.code_put.proofs.insns.put_one.Goals as goal
 
 pub returns-in-Packed-clause-ok : goal.returns-in-Packed-clause-ok

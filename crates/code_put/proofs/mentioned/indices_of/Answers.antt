@@ -30,6 +30,5 @@ loop-one-preserved c =
     let here = subst (λ (x : Insn). AreRanks c.args.ranks.now (flat_map names_of_insn (map insn (take k xs)) ++ names_of_insn (insn x)) c.put_index.new.indices.items) c.one-item.is put in
     rw (names_more xs k c.one-item.result c.loop-one-test.true) here
 
-pub returns-clause-ok : goal.returns-clause-ok
-returns-clause-ok c =
-    subst (λ (xs : List Insn). AreRanks c.args.ranks.now (flat_map names_of_insn (map insn xs)) c.loop-one.indices.items) (take_all c.loop-one.one-index c.args.insns.now (omega arith)) c.loop-one.invariant
+pub returns : goal.returns
+returns c = record { ok = subst (λ (xs : List Insn). AreRanks c.args.ranks.now (flat_map names_of_insn (map insn xs)) c.loop-one.indices.items) (take_all c.loop-one.one-index c.args.insns.now (omega arith)) c.loop-one.invariant }

@@ -14,10 +14,8 @@ put_name-requires c =
     let h : AllByRecursion (HasIndexBelow (NameRanks c.args.ranks.now) 4294967296) (name c.in-Some.name ∷ []) = subst (λ (ns : List Name). AllByRecursion (HasIndexBelow (NameRanks c.args.ranks.now) 4294967296) ns) (sym c.in-Some.ensures) c.requires in
     h.0
 
-pub returns-in-Some-clause-ok : goal.returns-in-Some-clause-ok
-returns-in-Some-clause-ok c =
-    on_ok_weaker c.put_name.result (λ f names so_far. subst (λ (ns : List Name). AreRanks c.args.ranks.now (names ++ ns) c.put_name.new.indices.items) c.in-Some.ensures (f names so_far)) c.put_name.ensures.ok
+pub returns-in-Some : goal.returns-in-Some
+returns-in-Some c = record { ok = on_ok_weaker c.put_name.result (λ f names so_far. subst (λ (ns : List Name). AreRanks c.args.ranks.now (names ++ ns) c.put_name.new.indices.items) c.in-Some.ensures (f names so_far)) c.put_name.ensures.ok }
 
-pub returns-in-None-clause-ok : goal.returns-in-None-clause-ok
-returns-in-None-clause-ok c =
-    λ names so_far. subst (λ (ns : List Name). AreRanks c.args.ranks.now (names ++ ns) c.args.indices.now.items) c.in-None.ensures (subst (λ (l : List Name). AreRanks c.args.ranks.now l c.args.indices.now.items) (sym (append-nil names)) so_far)
+pub returns-in-None : goal.returns-in-None
+returns-in-None c = record { ok = λ names so_far. subst (λ (ns : List Name). AreRanks c.args.ranks.now (names ++ ns) c.args.indices.now.items) c.in-None.ensures (subst (λ (l : List Name). AreRanks c.args.ranks.now l c.args.indices.now.items) (sym (append-nil names)) so_far) }

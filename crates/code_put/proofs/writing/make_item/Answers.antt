@@ -4,8 +4,9 @@ use Rattle.program_types.specs.View as view
 use Rattle.program_types.specs.Sizes.{addresses_of, length_of}
 use Rattle.tables_names.specs.Closure.{NameRanks}
 use Rattle.code_put.specs.Fits.{OffsetsFit, IsEven}
-use Rattle.code_put.specs.Packs.{PacksHandlersOf, PutInsns}
-use Rattle.program_code_rules.specs.Branches.{AreOrigins}
+use Rattle.code_put.specs.Packs.{PacksHandlersOf}
+use Rattle.code_put.specs.inner.Packs.{PutInsns}
+use Rattle.program_code_rules.specs.inner.Branches.{AreOrigins}
 use Rattle.code_put.proofs.FitLaws.{count-of, tries-there}
 use Rattle.code_put.proofs.FormLaws.{good, names-fit, caught-ranked}
 use Rattle.code_put.proofs.ListLaws.{all-from}

@@ -4,7 +4,7 @@ use Rattle.tables_rows.specs.Names.{NameIsAt}
 use Rattle.dex_base.proofs.GrammarLaws.{Then-none_first}
 use Rattle.dex_base.proofs.Numbers.{spells_unique}
 use Rattle.dex_base.proofs.Signed.{signed_unique}
-use Rattle.code_read.specs.Handlers.{SpellsCatchType, SpellsAddress}
+use Rattle.code_read.specs.inner.Handlers.{SpellsCatchType, SpellsAddress}
 use Rattle.dex_base.specs.Leb128.{Spells, SpellsSigned}
 use Rattle.code_read.proofs.StandLaws.{NameIsAt-functional}
 use Rattle.code_read.proofs.HandlerLaws.{type-unique}

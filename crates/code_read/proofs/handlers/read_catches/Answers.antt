@@ -3,7 +3,7 @@ use Rattle.std.proofs.lemmas.Grind.{common_steps}
 use Rattle.std.proofs.lemmas.List.{length-map}
 use Rattle.program_types.specs.View.{catch}
 use Rattle.tables_rows.specs.Names.{NameIsAt}
-use Rattle.code_read.specs.Handlers.{SpellsCatch}
+use Rattle.code_read.specs.inner.Handlers.{SpellsCatch}
 use Rattle.code_read.proofs.StandLaws.{NameIsAt-functional}
 use Rattle.code_read.proofs.HandlerReading.{catches-none, taken-more}
 use Rattle.code_read.proofs.handlers.read_catches.Goals as goal

@@ -2,7 +2,7 @@ use Rattle.std.proofs.Common.{◌≡◌, length, map}
 use Rattle.dex_base.specs.Grammar.{Takes, Each}
 use Rattle.program_types.specs.View.{catch}
 use Rattle.tables_rows.specs.Names.{NameIsAt}
-use Rattle.code_read.specs.Handlers.{SpellsCatch}
+use Rattle.code_read.specs.inner.Handlers.{SpellsCatch}
 use Rattle.code_read.proofs.handlers.read_catches.Given as goal
 
 abbrev pub invariant-loop-turn : goal.invariant-loop-turn

@@ -5,7 +5,8 @@ use mir.Syntax.{w32}
 use Rattle.program_types.specs.View.{catch}
 use Rattle.tables_rows.specs.Names.{NameIsAt}
 use Rattle.dex_base.specs.Grammar.{Takes, NoneBegins, Many}
-use Rattle.code_read.specs.Handlers.{SpellsCatch, catches_of}
+use Rattle.code_read.specs.Handlers.{catches_of}
+use Rattle.code_read.specs.inner.Handlers.{SpellsCatch}
 use Rattle.code_read.proofs.StandLaws.{NameIsAt-functional}
 use Rattle.code_read.proofs.HandlerReading.{handler-none-number, handler-none-catches, handler-none-all, handler-takes, all-none, all-some, has-all, lacks-all}
 use Rattle.code_read.proofs.handlers.read_handler.Goals as goal

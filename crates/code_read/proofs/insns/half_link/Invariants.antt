@@ -3,7 +3,7 @@ use Rattle.dex_insn.specs.Raw.{raw}
 use Rattle.program_types.specs.View.{insn}
 use Rattle.tables_rows.specs.Names.{NameIsAt}
 use Rattle.code_read.specs.Walk.{raw_at}
-use Rattle.code_read.specs.InsnReading.{IsHalfLinked}
+use Rattle.code_read.specs.inner.InsnReading.{IsHalfLinked}
 use Rattle.code_read.proofs.Lists.{EachSoFar}
 use Rattle.code_read.proofs.insns.half_link.Given as goal
 

@@ -22,12 +22,14 @@ loop-k-preserved c =
           (own-linked (NameIsAt c.args.tables.now) c.args.insns.now c.args.starts.now c.requires.table old c.args.origins.now c.requires.half c.requires.origins c.loop-k.k _ l (search rules) refl))
     ]
 
-pub returns-clause-ok : goal.returns-clause-ok
-returns-clause-ok c =
-    let old = map insn c.args.half.now in
-    let n = c.requires.half.count in
-    let m = length-map c.args.insns.now raw in
-    let l = c.loop-k-test.false in
-    let end : c.loop-k.k ≡ length c.args.insns.now = omega arith in
-    linked-all (NameIsAt c.args.tables.now) c.args.insns.now c.args.starts.now c.requires.table old c.args.origins.now c.requires.half c.requires.origins (map insn c.loop-k.half) c.loop-k.k end
-    (record { count = (let s = c.loop-k.invariant.count in omega (arith, s, n, m, end)); each = c.loop-k.invariant.done })
+pub returns : goal.returns
+returns c = record {
+  ok =
+      let old = map insn c.args.half.now in
+      let n = c.requires.half.count in
+      let m = length-map c.args.insns.now raw in
+      let l = c.loop-k-test.false in
+      let end : c.loop-k.k ≡ length c.args.insns.now = omega arith in
+      linked-all (NameIsAt c.args.tables.now) c.args.insns.now c.args.starts.now c.requires.table old c.args.origins.now c.requires.half c.requires.origins (map insn c.loop-k.half) c.loop-k.k end
+      (record { count = (let s = c.loop-k.invariant.count in omega (arith, s, n, m, end)); each = c.loop-k.invariant.done });
+}

@@ -1,7 +1,7 @@
 use Rattle.std.proofs.Common.{ℤ, Option, Some, None, rules, subst, sym, SFits}
 use Rattle.std.specs.Int.{w32}
 use Rattle.std.proofs.lemmas.Int.{to_z-of_z}
-use Rattle.code_read.specs.Looking.{AreMarked}
+use Rattle.code_read.specs.inner.Looking.{AreMarked}
 use Rattle.code_read.proofs.LookLaws.{marks_begun, marks_led}
 use Rattle.code_read.proofs.looking.pass.Goals as goal
 use Rattle.code_read.proofs.looking.pass.Goals.{After-mark}

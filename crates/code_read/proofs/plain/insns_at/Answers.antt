@@ -6,7 +6,7 @@ use Rattle.program_types.specs.View.{insn}
 use Rattle.program_types.specs.Content.{Insn}
 use Rattle.program_types.specs.declared.insn.Insn.{Insn as Held}
 use Rattle.tables_rows.specs.Names.{NameIsAt}
-use Rattle.code_read.specs.Plain.{ArePlain}
+use Rattle.code_read.specs.inner.Plain.{ArePlain}
 use Rattle.code_read.proofs.PlainLaws.{PlainRun, begun, turned, plain_all}
 use Rattle.code_read.proofs.plain.insns_at.Goals as goal
 
@@ -37,7 +37,9 @@ loop-k-preserved c =
       within = omega (arith, l, e, here);
     }
 
-pub returns-clause-ok : goal.returns-clause-ok
-returns-clause-ok c =
-    subst (λ (xs : List Held). ArePlain (NameIsAt c.args.tables.now) c.args.units.now c.args.starts.now c.args.registers (map insn xs)) (sym c.into_bump_slice.ensures)
-    (plain_all (NameIsAt c.args.tables.now) c.args.units.now c.args.starts.now c.args.registers (map insn c.loop-k.found.items) c.loop-k.k c.loop-k.at c.loop-k.invariant.run c.requires.short c.loop-k-test.false c.if-at-units.false)
+pub returns : goal.returns
+returns c = record {
+  ok =
+      subst (λ (xs : List Held). ArePlain (NameIsAt c.args.tables.now) c.args.units.now c.args.starts.now c.args.registers (map insn xs)) (sym c.into_bump_slice.ensures)
+      (plain_all (NameIsAt c.args.tables.now) c.args.units.now c.args.starts.now c.args.registers (map insn c.loop-k.found.items) c.loop-k.k c.loop-k.at c.loop-k.invariant.run c.requires.short c.loop-k-test.false c.if-at-units.false);
+}

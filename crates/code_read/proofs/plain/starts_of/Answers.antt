@@ -1,5 +1,5 @@
 use Rattle.std.proofs.Common.{arith}
 use Rattle.code_read.proofs.plain.starts_of.Goals as goal
 
-pub returns-clause-rises : goal.returns-clause-rises
-returns-clause-rises c = let i = c.loop-at.invariant.inside in (c.loop-at.invariant.rises, omega (arith, i, c.requires.short))
+pub returns : goal.returns
+returns c = record { rises = let i = c.loop-at.invariant.inside in (c.loop-at.invariant.rises, omega (arith, i, c.requires.short)) }

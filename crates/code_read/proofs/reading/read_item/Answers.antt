@@ -2,7 +2,7 @@ use Rattle.std.proofs.Common.{◌≡◌, ◌∙◌, ◌+◌, ◌*◌, subst, ap,
 use Rattle.program_types.specs.View.{try}
 use Rattle.tables_rows.specs.Names.{NameIsAt}
 use Rattle.code_read.specs.Item.{insns_size, list_begin}
-use Rattle.code_read.specs.ItemReading.{ReadTries}
+use Rattle.code_read.specs.inner.ItemReading.{ReadTries}
 use Rattle.code_read.specs.Faults.{TriesBreak}
 use Rattle.code_read.proofs.ItemLaws.{item-read, code_with}
 use Rattle.code_read.proofs.TryLaws.{no-tries}

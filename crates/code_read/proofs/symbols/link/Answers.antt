@@ -5,7 +5,8 @@ use Rattle.program_types.specs.Content.{Name}
 use Rattle.program_types.specs.View.{insn}
 use Rattle.tables_rows.specs.Names.{NameIsAt}
 use Rattle.code_read.specs.Linked.{lead}
-use Rattle.code_read.specs.Symbols.{InsnNames, has_index, name_in}
+use Rattle.code_read.specs.Symbols.{InsnNames, name_in}
+use Rattle.code_read.specs.inner.Symbols.{has_index}
 use Rattle.code_read.proofs.symbols.link.Goals as goal
 
 nameless : (N : ℕ → Name → Type 0) (r : Raw) (which : Name) → has_index r ≡ false → InsnNames N r which

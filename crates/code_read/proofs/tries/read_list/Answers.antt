@@ -2,8 +2,8 @@ use Rattle.std.proofs.Common.{◌≡◌, ◌-◌, length, map, refl, arith, subs
 use Rattle.dex_base.specs.Leb128.{Spells}
 use Rattle.dex_base.proofs.TakesLaws.{Takes-length}
 use Rattle.tables_rows.specs.Names.{NameIsAt}
-use Rattle.code_read.specs.Handlers.{SpellsHandler}
-use Rattle.code_read.specs.HandlerViews.{handler}
+use Rattle.code_read.specs.inner.Handlers.{SpellsHandler}
+use Rattle.code_read.specs.inner.HandlerViews.{handler}
 use Rattle.code_read.proofs.StandLaws.{NameIsAt-functional}
 use Rattle.code_read.proofs.ListReading.{ReadSome, some-none, some-more, some-all, list-none, offsets-rise}
 use Rattle.code_read.proofs.tries.read_list.Goals as goal

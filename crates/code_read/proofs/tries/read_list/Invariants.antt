@@ -1,6 +1,6 @@
 use Rattle.std.proofs.Common.{◌≤◌, length, map}
 use Rattle.tables_rows.specs.Names.{NameIsAt}
-use Rattle.code_read.specs.HandlerViews.{handler}
+use Rattle.code_read.specs.inner.HandlerViews.{handler}
 use Rattle.code_read.proofs.ListReading.{ReadSome}
 use Rattle.code_read.proofs.tries.read_list.Given as goal
 

@@ -2,7 +2,7 @@ use Rattle.std.proofs.Common.{◌≡◌, ◌∙◌, ap, map, ◌+◌, ◌*◌, �
 use Rattle.std.proofs.lemmas.Result.{IfOk-weaker}
 use Rattle.program_types.specs.View.{try}
 use Rattle.tables_rows.specs.Names.{NameIsAt}
-use Rattle.code_read.specs.HandlerViews.{handler}
+use Rattle.code_read.specs.inner.HandlerViews.{handler}
 use Rattle.code_read.specs.Faults.{list_fault}
 use Rattle.code_read.proofs.StandLaws.{NameIsAt-functional}
 use Rattle.code_read.proofs.TryLaws.{some-tries, no-list, no-handler, err-both}

@@ -1,8 +1,8 @@
 use Rattle.std.proofs.Common.{◌≡◌, ℕ, List, map, sym, subst, arith}
 use Rattle.program_types.specs.View.{try}
 use Rattle.program_types.specs.declared.code.Try.{Try as Held}
-use Rattle.code_read.specs.HandlerViews.{handler}
-use Rattle.code_read.specs.ItemReading.{TakesTry, TakesTries}
+use Rattle.code_read.specs.inner.HandlerViews.{handler}
+use Rattle.code_read.specs.inner.ItemReading.{TakesTry, TakesTries}
 use Rattle.code_read.proofs.TryLaws.{taken-none, taken-more, taken-all}
 use Rattle.code_read.proofs.tries.take_tries.Goals as goal
 

@@ -1,6 +1,6 @@
 use Rattle.std.proofs.Common.{map}
 use Rattle.program_types.specs.View.{try}
-use Rattle.code_read.specs.HandlerViews.{handler}
+use Rattle.code_read.specs.inner.HandlerViews.{handler}
 use Rattle.code_read.proofs.TryLaws.{SomeTaken}
 use Rattle.code_read.proofs.tries.take_tries.Given as goal
 

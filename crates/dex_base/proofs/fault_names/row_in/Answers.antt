@@ -1,5 +1,6 @@
 use Rattle.std.proofs.Common.{sym, ◌∙◌}
-use Rattle.dex_base.specs.Fault.{row_name, row_sentence, unknown, no_fault}
+use Rattle.dex_base.specs.Fault.{unknown, no_fault}
+use Rattle.dex_base.specs.inner.Fault.{row_name, row_sentence}
 use Rattle.dex_base.proofs.FaultLaws.{row_here, row_after}
 use Rattle.dex_base.proofs.fault_names.row_in.Goals as goal
 

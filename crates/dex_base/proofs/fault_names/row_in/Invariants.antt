@@ -1,5 +1,6 @@
 use Rattle.std.proofs.Common.{◌≡◌, map, drop}
-use Rattle.dex_base.specs.Fault.{row_number, row_name, row_sentence, column_text, unknown, no_fault}
+use Rattle.dex_base.specs.Fault.{column_text, unknown, no_fault}
+use Rattle.dex_base.specs.inner.Fault.{row_number, row_name, row_sentence}
 use Rattle.dex_base.proofs.fault_names.row_in.Given as goal
 
 abbrev pub invariant-loop-row : goal.invariant-loop-row

@@ -1,6 +1,5 @@
 use Rattle.std.proofs.Common.{arith}
 use Rattle.std.proofs.lemmas.Int.{ints, to_z-of_z}
-use Rattle.std.proofs.lemmas.Result.{on_ok_weaker}
 use Rattle.dex_base.proofs.Signed.{signed_put}
 use Rattle.dex_base.proofs.leb128.put_sleb.Goals as goal
 
@@ -8,4 +7,4 @@ pub returns-clause-ok : goal.returns-clause-ok
 returns-clause-ok c =
     let fits = c.ranges.n in
     let width = simp to_z-of_z at c.sleb_width-width.ensures in
-    on_ok_weaker c.put_sequence.result (signed_put _ _ _ _ c.args.n width (omega (arith, ints)) (omega (arith, ints))) c.put_sequence.ensures.ok
+    signed_put _ _ _ _ c.args.n width (omega (arith, ints)) (omega (arith, ints)) c.in_ok-put_sequence.ensures.ok

@@ -1,5 +1,5 @@
 use Rattle.std.proofs.Common.{[], ◌∷◌, ◌++◌, refl, arith, rules}
-use Rattle.dex_base.specs.Names.{SpellsPoint}
+use Rattle.dex_base.specs.inner.Names.{SpellsPoint}
 use Rattle.dex_base.proofs.GrammarLaws.{Each-none}
 use Rattle.dex_base.proofs.NameLaws.{low_more}
 use Rattle.dex_base.proofs.simple_name.low_ones.Goals as goal

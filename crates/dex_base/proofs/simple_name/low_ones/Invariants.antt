@@ -1,6 +1,6 @@
 use Rattle.std.proofs.Common.{ℕ, List}
 use Rattle.dex_base.specs.Grammar.{Begins, Each}
-use Rattle.dex_base.specs.Names.{SpellsPoint}
+use Rattle.dex_base.specs.inner.Names.{SpellsPoint}
 use Rattle.dex_base.proofs.simple_name.low_ones.Given as goal
 
 abbrev pub invariant-loop-at : goal.invariant-loop-at

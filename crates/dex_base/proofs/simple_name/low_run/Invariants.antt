@@ -1,5 +1,5 @@
 use Rattle.std.proofs.Common.{◌-◌}
-use Rattle.dex_base.specs.Names.{AreLowPoints}
+use Rattle.dex_base.specs.inner.Names.{AreLowPoints}
 use Rattle.dex_base.proofs.simple_name.low_run.Given as goal
 
 abbrev pub invariant-loop-at : goal.invariant-loop-at

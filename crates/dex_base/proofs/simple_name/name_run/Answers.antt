@@ -1,6 +1,6 @@
 use Rattle.std.proofs.Common.{[], ◌∷◌, ◌++◌}
 use Rattle.std.proofs.lemmas.List.{take_rest}
-use Rattle.dex_base.specs.Names.{SpellsPoint}
+use Rattle.dex_base.specs.inner.Names.{SpellsPoint}
 use Rattle.dex_base.proofs.GrammarLaws.{Each-more}
 use Rattle.dex_base.proofs.simple_name.name_run.Goals as goal
 

@@ -1,6 +1,6 @@
 use Rattle.std.proofs.Common.{ℕ, ◌-◌, List, length}
 use Rattle.dex_base.specs.Grammar.{Begins, Each}
-use Rattle.dex_base.specs.Names.{SpellsPoint}
+use Rattle.dex_base.specs.inner.Names.{SpellsPoint}
 use Rattle.dex_base.proofs.simple_name.name_run.Given as goal
 
 abbrev pub invariant-loop-length : goal.invariant-loop-length

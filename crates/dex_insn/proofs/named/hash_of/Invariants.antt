@@ -1,5 +1,5 @@
 use Rattle.std.proofs.Common.{◌≡◌, ◌<◌, drop}
-use Rattle.dex_insn.specs.Named.{hash_from}
+use Rattle.dex_insn.specs.inner.Named.{hash_from}
 use Rattle.dex_insn.proofs.named.hash_of.Given as goal
 
 -- the hash of the bytes so far, which the rest goes on with

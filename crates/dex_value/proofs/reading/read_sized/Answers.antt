@@ -2,7 +2,8 @@ use Rattle.std.proofs.Common.{◌≡◌, ◌+◌, ◌%◌, ℕ, take, drop, ap, 
 use Rattle.program_types.specs.View.{value}
 use Rattle.tables_rows.specs.Names.{NameIsAt}
 use Rattle.dex_value.specs.Faults.{widest_of}
-use Rattle.dex_value.specs.Reading.{sized_code, IsNumber, ValueStands}
+use Rattle.dex_value.specs.Reading.{sized_code, IsNumber}
+use Rattle.dex_value.specs.inner.Reading.{ValueStands}
 use Rattle.dex_value.proofs.Namings.{number_stands}
 use Rattle.dex_value.proofs.Taking.{takes_sized}
 use Rattle.dex_value.proofs.reading.read_sized.Goals as goal

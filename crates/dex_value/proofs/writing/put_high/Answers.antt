@@ -1,7 +1,7 @@
 use Rattle.std.proofs.Common.{◌-◌, ◌/◌, ℕ, take, ap, ◌∙◌, arith}
 use Rattle.std.proofs.lemmas.Result.{on_ok_weaker}
 use Rattle.byteorder.specs.Endian.{little_bytes}
-use Rattle.dex_value.specs.Writing.{sized}
+use Rattle.dex_value.specs.inner.Writing.{sized}
 use Rattle.dex_value.proofs.Ranges.{power_small}
 use Rattle.dex_value.proofs.Narrow.{low_is, high_fits, shortest_high}
 use Rattle.dex_value.proofs.writing.put_high.Goals as goal

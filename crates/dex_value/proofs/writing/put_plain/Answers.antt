@@ -4,7 +4,7 @@ use Rattle.dex_base.specs.Grammar.{Appends}
 use Rattle.dex_base.specs.Leb128.{Shortest}
 use Rattle.program_types.proofs.ValueViews.{value_float}
 use Rattle.tables_names.specs.Closure.{NameRanks}
-use Rattle.dex_value.specs.Writing.{HighAs}
+use Rattle.dex_value.specs.inner.Writing.{HighAs}
 use Rattle.dex_value.proofs.Appending.{float_appends}
 use Rattle.dex_value.proofs.writing.put_plain.Goals as goal
 

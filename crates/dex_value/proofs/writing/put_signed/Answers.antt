@@ -2,7 +2,7 @@ use Rattle.std.proofs.Common.{◌*◌, take}
 use Rattle.std.proofs.lemmas.Int.{to_z-of_z}
 use Rattle.std.proofs.lemmas.Result.{on_ok_weaker}
 use mir.Syntax.{w64}
-use Rattle.dex_value.specs.Writing.{IsNumberWidth, magnitude_of, sized}
+use Rattle.dex_value.specs.inner.Writing.{IsNumberWidth, magnitude_of, sized}
 use Rattle.dex_value.proofs.Narrow.{low_is, shortest_signed}
 use Rattle.dex_value.proofs.writing.put_signed.Goals as goal
 

@@ -1,6 +1,6 @@
 use Rattle.std.proofs.Common.{take}
 use Rattle.std.proofs.lemmas.Result.{on_ok_weaker}
-use Rattle.dex_value.specs.Writing.{sized}
+use Rattle.dex_value.specs.inner.Writing.{sized}
 use Rattle.dex_value.proofs.Narrow.{low_is, shortest_unsigned}
 use Rattle.dex_value.proofs.writing.put_unsigned.Goals as goal
 

@@ -1,7 +1,7 @@
 use Rattle.std.proofs.Common.{◌≡◌, inl, true, sym, subst}
 use Rattle.std.proofs.lemmas.Result.{on_ok_weaker}
 use Rattle.dexasm_world.specs.State.{Path}
-use Rattle.dexasm_world.specs.Looks.{IsLinkTarget}
+use Rattle.dexasm_world.specs.inner.Looks.{IsLinkTarget}
 use Rattle.dexasm_world.proofs.Leading.{cause_at_link, untouched, through_link, delivered_at_link, over_delivered, no_room_nowhere}
 use Rattle.dexasm_world.proofs.Leaving.{leaves_at_link, leaves_tidy}
 use Rattle.dexasm_world.proofs.delivery.deliver.Goals as goal

@@ -2,7 +2,7 @@ use Rattle.std.proofs.Common.{rules, ◌≡◌, ℕ, true, false, Some, ◌∙�
 use Rattle.std.proofs.lemmas.Result.{on_ok_weaker}
 use Rattle.dexasm_world.specs.State.{Path, Paths, FileState, Files, Passes, place_of}
 use Rattle.dexasm_world.specs.Safe.{IsSafe, CanGive, HasRoomBeside}
-use Rattle.dexasm_world.specs.Steps.{Same, MadeAs}
+use Rattle.dexasm_world.specs.inner.Steps.{Same, MadeAs}
 use Rattle.dexasm_world.proofs.States.{same_state}
 use Rattle.dexasm_world.proofs.Leaving.{leaves_tidy, tidy_unmade, leaves_brought}
 use Rattle.dexasm_world.proofs.Passing.{stays}

@@ -1,6 +1,6 @@
 use Rattle.std.proofs.Common.{◌≡◌, ◌<◌, ℕ, true}
 use Rattle.dexasm_world.specs.State.{Passes}
-use Rattle.dexasm_world.specs.Steps.{Same}
+use Rattle.dexasm_world.specs.inner.Steps.{Same}
 use Rattle.dexasm_world.specs.Safe.{part_path, IsTaken, IsSafe}
 use Rattle.dexasm_world.proofs.delivery.deliver_beside.Given as goal
 

@@ -1,6 +1,6 @@
 use Rattle.std.proofs.Common.{inl, subst, Ok}
 use Rattle.std.proofs.lemmas.Result.{on_ok_weaker}
-use Rattle.dexasm_world.specs.Looks.{Looks}
+use Rattle.dexasm_world.specs.inner.Looks.{Looks}
 use Rattle.dexasm_world.specs.declared.world.Look.{Look}
 use Rattle.dexasm_world.proofs.Leading.{over_delivered, no_room_at_device, untouched}
 use Rattle.dexasm_world.proofs.Leaving.{leaves_tidy}

@@ -1,6 +1,6 @@
 use Rattle.std.proofs.Common.{length, take, ◌-◌, ◌≡◌, ◌≤◌, true}
 use Rattle.dexasm_world.specs.State.{Passes}
-use Rattle.dexasm_world.specs.Steps.{Wrote}
+use Rattle.dexasm_world.specs.inner.Steps.{Wrote}
 use Rattle.dexasm_world.proofs.Stepping.{IsFront}
 use Rattle.dexasm_world.proofs.put.put_all.Given as goal
 

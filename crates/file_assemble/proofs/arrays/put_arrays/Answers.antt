@@ -1,11 +1,12 @@
 use Rattle.std.proofs.Common.{map, ap, sym, arith, refl, subst, List, ◌∙◌}
 use Rattle.std.proofs.lemmas.List.{take_all}
-use Rattle.file_assemble.specs.Arrays.{WritesArray}
-use Rattle.file_layout.specs.Tiles.{AreShared}
+use Rattle.file_assemble.specs.inner.Arrays.{WritesArray}
+use Rattle.file_layout.specs.inner.Tiles.{AreShared}
 use Rattle.program_types.specs.View as view
 use Rattle.program_types.specs.declared.class.Class.{Class}
 use Rattle.file_assemble.proofs.LayingLaws.{items_few, room_of_element, shared_of, shared_all}
-use Rattle.file_layout.specs.Sections.{is_empty_list, wide_all, Laid}
+use Rattle.file_layout.specs.Sections.{wide_all}
+use Rattle.file_layout.specs.inner.Sections.{is_empty_list, Laid}
 use Rattle.file_layout.proofs.SharingLaws.{sharing_start, sharing_shared}
 use Rattle.file_assemble.proofs.NumberLaws.{no_class}
 use Rattle.dex_base.specs.Leb128.{Shortest}

@@ -1,13 +1,13 @@
 use Rattle.std.proofs.Common.{map, take, drop}
 use Rattle.program_types.specs.View as view
 use Rattle.program_types.specs.declared.class.Class.{Class}
-use Rattle.file_layout.specs.Sections.{is_empty_list}
-use Rattle.file_layout.specs.Sharing.{Sharing}
+use Rattle.file_layout.specs.inner.Sections.{is_empty_list}
+use Rattle.file_layout.specs.inner.Sharing.{Sharing}
 use Rattle.dex_base.specs.Leb128.{Shortest}
 use Rattle.tables_names.specs.Closure.{NameRanks}
 use Rattle.dex_value.specs.Spelling.{SpellsArray}
 use Rattle.dex_value.specs.Wide.{wide_array}
-use Rattle.file_assemble.specs.Arrays.{WritesArray}
+use Rattle.file_assemble.specs.inner.Arrays.{WritesArray}
 use Rattle.file_assemble.proofs.arrays.put_arrays.Given as goal
 
 abbrev pub invariant-loop-class : goal.invariant-loop-class

@@ -1,8 +1,8 @@
 use Rattle.std.proofs.Common.{◌+◌, length, ap, sym, ◌∙◌, arith, List, ℕ}
-use Rattle.file_layout.specs.Plan.{tables_end}
+use Rattle.file_layout.specs.inner.Plan.{tables_end}
 use Rattle.file_layout.proofs.TileLaws.{length-zeros}
 use Rattle.program_types.specs.View as view
-use Rattle.file_assemble.specs.Making.{places_of}
+use Rattle.file_assemble.specs.inner.Making.{places_of}
 use Rattle.file_assemble.proofs.AssembledLaws.{array_count, assembled, data_count, list_count, row_count, text_count}
 use Rattle.file_assemble.proofs.FitsLaws.{room_of}
 use Rattle.file_assemble.proofs.assembling.assemble_ranked.Goals as goal

@@ -1,11 +1,11 @@
 use Rattle.std.proofs.Common.{◌≡◌, length, ap, ◌∙◌, arith}
-use Rattle.file_layout.specs.Plan.{tables_end}
-use Rattle.file_layout.specs.Tiles.{Refers}
-use Rattle.file_limits.specs.Wide.{body_values}
+use Rattle.file_layout.specs.inner.Plan.{tables_end}
+use Rattle.file_layout.specs.inner.Tiles.{Refers}
+use Rattle.file_limits.specs.inner.Wide.{body_values}
 use Rattle.program_types.specs.View as view
-use Rattle.file_assemble.specs.Codes.{is_bodiless}
+use Rattle.file_assemble.specs.inner.Codes.{is_bodiless}
 use Rattle.file_assemble.proofs.SitedLaws.{room_of_sited}
-use Rattle.file_assemble.specs.Assembled.{Places, rows_of}
+use Rattle.file_assemble.specs.inner.Assembled.{Places, rows_of}
 use Rattle.file_assemble.proofs.DataParts.{laid, next}
 use Rattle.file_assemble.proofs.FitsLaws.{after, few_of, room_of}
 use Rattle.file_assemble.proofs.OnceLaws.{datas_shared}

@@ -1,17 +1,17 @@
 use Rattle.std.proofs.Common.{◌≡◌, ◌+◌, ◌≤◌, suc, length, map, take, drop, get_or, ap, sym, ◌∙◌, arith, refl, subst, add-one, List, ℕ}
 use Rattle.std.proofs.lemmas.List.{length-map}
 use Rattle.file_layout.proofs.SectionLaws.{Laying-start}
-use Rattle.file_layout.specs.Sections.{AddsSome}
+use Rattle.file_layout.specs.inner.Sections.{AddsSome}
 use Rattle.tables_names.specs.Closure.{NameRanks}
 use Rattle.program_types.specs.View as view
 use Rattle.file_assemble.proofs.MentionLaws.{fields_count, methods_count, next_members}
-use Rattle.file_assemble.specs.Named.{fields_of, methods_of}
+use Rattle.file_assemble.specs.inner.Named.{fields_of, methods_of}
 use Rattle.tables_names.specs.Noted.{AreRanks}
 use Rattle.file_assemble.proofs.LayingLaws.{items_few, laid_all, placed_more, room_at}
 use Rattle.file_assemble.proofs.NumberLaws.{no_class}
 use Rattle.file_assemble.proofs.SitedLaws.{length-sited, rest_after, room_of_sited}
 use Rattle.file_assemble.proofs.SitedSteps.{count_in, rest_enough, rest_next, sited_at, no_sited}
-use Rattle.file_assemble.specs.Data.{PacksData, ClassWithCodes, has_no_members, with_code_places, wide_with_codes}
+use Rattle.file_assemble.specs.inner.Data.{PacksData, ClassWithCodes, has_no_members, with_code_places, wide_with_codes}
 use Rattle.file_assemble.proofs.class_data.put_datas.Goals as goal
 use Rattle.dex_base.proofs.ListFacts.{map_at}
 

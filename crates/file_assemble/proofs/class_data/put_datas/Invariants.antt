@@ -1,11 +1,11 @@
 use Rattle.std.proofs.Common.{◌≡◌, map, take, drop}
-use Rattle.file_layout.specs.Sections.{Laying}
+use Rattle.file_layout.specs.inner.Sections.{Laying}
 use Rattle.tables_names.specs.Closure.{NameRanks}
 use Rattle.tables_names.specs.Noted.{AreRanks}
-use Rattle.file_needed.specs.Bodies.{defined_in}
+use Rattle.file_needed.specs.inner.Bodies.{defined_in}
 use Rattle.program_types.specs.View as view
 use Rattle.file_assemble.proofs.SitedLaws.{rest_after}
-use Rattle.file_assemble.specs.Data.{PacksData, has_no_members, with_code_places, wide_with_codes}
+use Rattle.file_assemble.specs.inner.Data.{PacksData, has_no_members, with_code_places, wide_with_codes}
 use Rattle.file_assemble.proofs.class_data.put_datas.Given as goal
 
 abbrev pub invariant-loop-class : goal.invariant-loop-class

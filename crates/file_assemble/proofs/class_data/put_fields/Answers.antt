@@ -8,7 +8,7 @@ use Rattle.program_rules.specs.Rules.{member_key}
 use Rattle.program_types.specs.declared.class.Member.{Member}
 use Rattle.file_assemble.proofs.MemberRuns.{run_start, run_step, run_more, fields_rise, fields_added}
 use Rattle.file_assemble.proofs.MentionLaws.{member_ranked, no_member}
-use Rattle.file_assemble.specs.Growing.{AddsFields}
+use Rattle.file_assemble.specs.inner.Growing.{AddsFields}
 use Rattle.file_assemble.proofs.class_data.put_fields.Goals as goal
 
 pub loop-i-init : goal.loop-i-init

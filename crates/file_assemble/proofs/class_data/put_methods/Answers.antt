@@ -7,7 +7,7 @@ use Rattle.program_rules.specs.Rules.{method_key}
 use Rattle.program_types.specs.declared.class.Method.{Method}
 use Rattle.file_assemble.proofs.MemberRuns.{MethodsTo, run_step, methods_start, methods_rise, methods_more, methods_added}
 use Rattle.file_assemble.proofs.MentionLaws.{member_ranked, no_method}
-use Rattle.file_assemble.specs.Growing.{AddsMethods}
+use Rattle.file_assemble.specs.inner.Growing.{AddsMethods}
 use Rattle.file_assemble.proofs.class_data.put_methods.Goals as goal
 
 pub loop-i-init : goal.loop-i-init

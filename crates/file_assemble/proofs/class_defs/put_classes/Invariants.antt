@@ -1,7 +1,7 @@
 use Rattle.std.proofs.Common.{map, take}
 use Rattle.dex_base.specs.Grammar.{Appends, Each}
 use Rattle.program_types.specs.View as view
-use Rattle.file_assemble.specs.ClassDefs.{SpellsClassRow, with_places}
+use Rattle.file_assemble.specs.inner.ClassDefs.{SpellsClassRow, with_places}
 use Rattle.file_assemble.proofs.class_defs.put_classes.Given as goal
 
 abbrev pub invariant-loop-i : goal.invariant-loop-i

@@ -3,12 +3,12 @@ use Rattle.std.proofs.lemmas.List.{drop_all}
 use Rattle.std.specs.List.{flat_map}
 use Rattle.program_types.specs.declared.class.Method.{Method}
 use Rattle.tables_names.specs.Noted.{AreRanks}
-use Rattle.file_needed.specs.Bodies.{named_in_body}
+use Rattle.file_needed.specs.inner.Bodies.{named_in_body}
 use Rattle.file_assemble.proofs.MentionLaws.{next_named, no_method}
 use Rattle.file_limits.specs.Wide.{bodies_in}
 use Rattle.program_types.specs.View as view
 use Rattle.file_assemble.proofs.CodeLaws.{bodies_start, bodies_step, bodies_end, body_at, body_fits}
-use Rattle.file_assemble.specs.Named.{BodyCanBePut}
+use Rattle.file_assemble.specs.inner.Named.{BodyCanBePut}
 use Rattle.file_assemble.proofs.codes.put_bodies.Goals as goal
 
 pub loop-method-init : goal.loop-method-init

@@ -1,7 +1,7 @@
 use Rattle.std.proofs.Common.{List, ◌++◌, map, take, drop}
 use Rattle.std.specs.List.{flat_map}
 use Rattle.file_limits.specs.Wide.{bodies_in}
-use Rattle.file_needed.specs.Bodies.{named_in_body}
+use Rattle.file_needed.specs.inner.Bodies.{named_in_body}
 use Rattle.program_types.specs.Content.{Name}
 use Rattle.program_types.specs.View as view
 use Rattle.tables_names.specs.Noted.{AreRanks}

@@ -4,7 +4,8 @@ use Rattle.std.specs.List.{flat_map}
 use Rattle.file_layout.proofs.SharingLaws.{sharing_start, sharing_shared}
 use Rattle.file_layout.specs.Sections.{wide_all}
 use Rattle.file_limits.proofs.SumLaws.{wide_all_append}
-use Rattle.file_limits.specs.Wide.{bodies_in, bodies_of, body_values, wide_body}
+use Rattle.file_limits.specs.Wide.{bodies_in, bodies_of, wide_body}
+use Rattle.file_limits.specs.inner.Wide.{body_values}
 use Rattle.tables_names.specs.Closure.{NameRanks}
 use Rattle.tables_names.specs.Noted.{AreRanks}
 use Rattle.program_types.specs.Content as content
@@ -12,13 +13,13 @@ use Rattle.program_types.specs.View as view
 use Rattle.program_types.specs.declared.class.Class.{Class}
 use Rattle.file_assemble.proofs.OneBody.{bodies_once}
 use Rattle.file_assemble.proofs.CodeLaws.{Bodies, class_left, first_part, both_parts}
-use Rattle.file_layout.specs.Tiles.{AreShared}
+use Rattle.file_layout.specs.inner.Tiles.{AreShared}
 use Rattle.file_assemble.proofs.LayingLaws.{items_few}
 use Rattle.file_assemble.proofs.NumberLaws.{no_class}
-use Rattle.file_needed.specs.Bodies.{defined_in, named_in_body, named_in_code}
+use Rattle.file_needed.specs.inner.Bodies.{defined_in, named_in_body, named_in_code}
 use Rattle.file_assemble.proofs.MentionLaws.{next_class}
-use Rattle.file_assemble.specs.Codes.{PacksBody, WritesBody, is_bodiless}
-use Rattle.file_assemble.specs.Named.{BodyCanBePut}
+use Rattle.file_assemble.specs.inner.Codes.{PacksBody, WritesBody, is_bodiless}
+use Rattle.file_assemble.specs.inner.Named.{BodyCanBePut}
 use Rattle.file_assemble.proofs.codes.put_codes.Goals as goal
 use Rattle.dex_base.proofs.ListFacts.{all_front, all_back, map_at}
 

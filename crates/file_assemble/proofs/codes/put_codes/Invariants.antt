@@ -1,7 +1,8 @@
 use Rattle.std.proofs.Common.{◌++◌, map, take, drop}
 use Rattle.std.specs.List.{flat_map}
-use Rattle.file_limits.specs.Wide.{bodies_of, body_values}
-use Rattle.file_needed.specs.Bodies.{defined_in, named_in_code}
+use Rattle.file_limits.specs.Wide.{bodies_of}
+use Rattle.file_limits.specs.inner.Wide.{body_values}
+use Rattle.file_needed.specs.inner.Bodies.{defined_in, named_in_code}
 use Rattle.program_types.specs.View as view
 use Rattle.tables_names.specs.Noted.{AreRanks}
 use Rattle.file_assemble.proofs.CodeLaws.{Bodies}

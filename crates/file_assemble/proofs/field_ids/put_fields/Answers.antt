@@ -2,7 +2,7 @@ use Rattle.std.proofs.Common.{[], arith, get_or}
 use Rattle.dex_base.proofs.GrammarLaws.{Each-appends_none}
 use Rattle.program_types.specs.Key.{field_ref_key}
 use Rattle.tables_names.specs.Numbers.{FieldAt}
-use Rattle.file_assemble.specs.Rows.{SpellsFieldRow}
+use Rattle.file_assemble.specs.inner.Rows.{SpellsFieldRow}
 use Rattle.file_assemble.proofs.PartLaws.{no_field, part_at, field_of, field_fits, field_row, fields_named, keys_more, keys_are_table}
 use Rattle.file_assemble.proofs.field_ids.put_fields.Goals as goal
 

@@ -1,6 +1,6 @@
 use Rattle.std.proofs.Common.{map, take}
 use Rattle.dex_base.specs.Grammar.{Appends, Each}
-use Rattle.file_assemble.specs.Rows.{SpellsFieldRow}
+use Rattle.file_assemble.specs.inner.Rows.{SpellsFieldRow}
 use Rattle.file_assemble.proofs.PartLaws.{field_of}
 use Rattle.file_assemble.proofs.field_ids.put_fields.Given as goal
 

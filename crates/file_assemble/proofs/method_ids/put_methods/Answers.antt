@@ -2,7 +2,7 @@ use Rattle.std.proofs.Common.{[], arith, get_or}
 use Rattle.dex_base.proofs.GrammarLaws.{Each-appends_none}
 use Rattle.program_types.specs.Key.{method_ref_key}
 use Rattle.tables_names.specs.Numbers.{MethodAt}
-use Rattle.file_assemble.specs.Rows.{SpellsMethodRow}
+use Rattle.file_assemble.specs.inner.Rows.{SpellsMethodRow}
 use Rattle.file_assemble.proofs.PartLaws.{no_method, part_at, method_of, method_fits, method_row, methods_named, keys_more, keys_are_table}
 use Rattle.file_assemble.proofs.method_ids.put_methods.Goals as goal
 

@@ -1,6 +1,6 @@
 use Rattle.std.proofs.Common.{map, take}
 use Rattle.dex_base.specs.Grammar.{Appends, Each}
-use Rattle.file_assemble.specs.Rows.{SpellsMethodRow}
+use Rattle.file_assemble.specs.inner.Rows.{SpellsMethodRow}
 use Rattle.file_assemble.proofs.PartLaws.{method_of}
 use Rattle.file_assemble.proofs.method_ids.put_methods.Given as goal
 

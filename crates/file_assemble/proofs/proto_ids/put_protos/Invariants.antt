@@ -3,7 +3,7 @@ use Rattle.std.specs.List.{zip}
 use Rattle.dex_base.specs.Grammar.{Appends, Each}
 use Rattle.program_types.specs.View as view
 use Rattle.program_types.specs.declared.names.Proto.{Proto}
-use Rattle.file_assemble.specs.Rows.{SpellsProtoRow}
+use Rattle.file_assemble.specs.inner.Rows.{SpellsProtoRow}
 use Rattle.file_assemble.proofs.proto_ids.put_protos.Given as goal
 
 abbrev pub invariant-loop-i : goal.invariant-loop-i

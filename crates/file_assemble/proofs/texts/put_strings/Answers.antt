@@ -3,11 +3,12 @@ use Rattle.std.proofs.lemmas.List.{length-map, take_all, drop_all}
 use Rattle.dex_base.specs.Mutf8.{PacksText}
 use Rattle.program_types.specs.View.{str}
 use Rattle.tables_names.specs.Rows.{first_of}
-use Rattle.file_layout.specs.Sections.{never, wide_all, Laying}
+use Rattle.file_layout.specs.Sections.{wide_all}
+use Rattle.file_layout.specs.inner.Sections.{never, Laying}
 use Rattle.file_layout.proofs.SectionLaws.{Laying-start, Laying-more}
-use Rattle.file_limits.specs.Wide.{wide_text}
+use Rattle.file_limits.specs.inner.Wide.{wide_text}
 use Rattle.program_types.specs.Key.{text_key}
-use Rattle.file_layout.specs.Tiles.{AreShared}
+use Rattle.file_layout.specs.inner.Tiles.{AreShared}
 use Rattle.file_assemble.proofs.ApartLaws.{texts_shared}
 use Rattle.file_assemble.proofs.LengthLaws.{map_drop}
 use Rattle.file_assemble.proofs.TextLaws.{no_str, texts_of_keys, strings_room}

@@ -1,8 +1,8 @@
 use Rattle.std.proofs.Common.{map, take, drop}
 use Rattle.dex_base.specs.Mutf8.{PacksText}
 use Rattle.program_types.specs.View.{str}
-use Rattle.file_layout.specs.Sections.{never, Laying}
-use Rattle.file_limits.specs.Wide.{wide_text}
+use Rattle.file_layout.specs.inner.Sections.{never, Laying}
+use Rattle.file_limits.specs.inner.Wide.{wide_text}
 use Rattle.file_assemble.proofs.texts.put_strings.Given as goal
 
 abbrev pub invariant-loop-text : goal.invariant-loop-text

@@ -4,7 +4,7 @@ use Rattle.dex_base.specs.Words.{words_bytes}
 use Rattle.program_types.specs.Key.{text_key}
 use Rattle.dex_base.proofs.GrammarLaws.{Each-appends_none}
 use Rattle.tables_names.specs.Numbers.{TypeAt}
-use Rattle.file_assemble.specs.Rows.{SpellsTypeRow}
+use Rattle.file_assemble.specs.inner.Rows.{SpellsTypeRow}
 use Rattle.file_assemble.proofs.PartLaws.{no_type, part_at, type_of, type_fits, type_row, types_named, keys_more, keys_are_table}
 use Rattle.file_assemble.proofs.type_ids.put_types.Goals as goal
 

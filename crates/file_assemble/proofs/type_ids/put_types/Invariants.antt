@@ -1,6 +1,6 @@
 use Rattle.std.proofs.Common.{map, take}
 use Rattle.dex_base.specs.Grammar.{Appends, Each}
-use Rattle.file_assemble.specs.Rows.{SpellsTypeRow}
+use Rattle.file_assemble.specs.inner.Rows.{SpellsTypeRow}
 use Rattle.file_assemble.proofs.PartLaws.{type_of}
 use Rattle.file_assemble.proofs.type_ids.put_types.Given as goal
 

@@ -2,9 +2,9 @@ use Rattle.std.proofs.Common.{◌+◌, ◌-◌, ◌<◌, ◌≤◌, length, ap, 
 use Rattle.program_types.specs.View as view
 use Rattle.file_assemble.proofs.NumberLaws.{params_held, list_first, list_second, interfaces_held, list_count, no_proto, no_class}
 use Rattle.std.specs.Prelude.{IfOk}
-use Rattle.file_layout.specs.Sections.{is_empty_list}
-use Rattle.file_layout.specs.Sharing.{UsesItem}
-use Rattle.file_assemble.specs.Lists.{SpellsRanks}
+use Rattle.file_layout.specs.inner.Sections.{is_empty_list}
+use Rattle.file_layout.specs.inner.Sharing.{UsesItem}
+use Rattle.file_assemble.specs.inner.Lists.{SpellsRanks}
 use Rattle.file_limits.specs.Wide.{wide_list}
 use Rattle.file_assemble.proofs.type_lists.add_numbered.Goals as goal
 

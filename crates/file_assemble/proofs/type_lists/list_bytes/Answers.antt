@@ -1,6 +1,6 @@
 use Rattle.program_types.specs.View as view
 use Rattle.std.proofs.Common.{map}
-use Rattle.file_assemble.specs.Lists.{SpellsRanks}
+use Rattle.file_assemble.specs.inner.Lists.{SpellsRanks}
 use Rattle.file_assemble.proofs.type_lists.list_bytes.Goals as goal
 use Rattle.code_put.proofs.HandlerPacks.{alone}
 

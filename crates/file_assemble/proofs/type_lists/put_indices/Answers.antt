@@ -5,7 +5,7 @@ use Rattle.file_assemble.proofs.ListLaws.{indices_more}
 use Rattle.std.proofs.lemmas.Slice.{pushed}
 use Rattle.dex_base.specs.Fields.{u16_bytes}
 use Rattle.program_types.specs.Key.{text_key}
-use Rattle.tables_names.specs.Indices.{HasRank}
+use Rattle.tables_names.specs.inner.Indices.{HasRank}
 use Rattle.file_assemble.proofs.type_lists.put_indices.Goals as goal
 use Rattle.dex_base.proofs.ListFacts.{all_at}
 

@@ -1,6 +1,6 @@
 use Rattle.std.proofs.Common.{map, take}
 use Rattle.program_types.specs.View as view
-use Rattle.file_assemble.specs.Lists.{AddsIndices}
+use Rattle.file_assemble.specs.inner.Lists.{AddsIndices}
 use Rattle.file_assemble.proofs.type_lists.put_indices.Given as goal
 
 abbrev pub invariant-loop-ty : goal.invariant-loop-ty

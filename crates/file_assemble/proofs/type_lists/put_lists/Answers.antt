@@ -3,11 +3,12 @@ use Rattle.program_types.specs.View as view
 use Rattle.file_assemble.proofs.NumberLaws.{list_count}
 use Rattle.file_assemble.proofs.LayingLaws.{items_few, room_at}
 use Rattle.file_assemble.proofs.RankedLists.{list_packs, list_one, list_most, lists_once}
-use Rattle.file_layout.specs.Sections.{is_empty_list}
-use Rattle.file_assemble.specs.Lists.{SpellsRanks}
-use Rattle.file_limits.specs.Wide.{wide_list, list_values}
+use Rattle.file_layout.specs.inner.Sections.{is_empty_list}
+use Rattle.file_assemble.specs.inner.Lists.{SpellsRanks}
+use Rattle.file_limits.specs.Wide.{wide_list}
+use Rattle.file_limits.specs.inner.Wide.{list_values}
 use Rattle.file_layout.proofs.SharingLaws.{sharing_start, sharing_next, sharing_end, sharing_shared}
-use Rattle.file_layout.specs.Tiles.{AreShared}
+use Rattle.file_layout.specs.inner.Tiles.{AreShared}
 use Rattle.std.proofs.lemmas.List.{take_all}
 use Rattle.program_types.specs.Content.{Descriptor}
 use Rattle.file_assemble.proofs.type_lists.put_lists.Goals as goal

@@ -1,9 +1,10 @@
 use Rattle.std.proofs.Common.{take, drop}
 use Rattle.program_types.specs.View as view
-use Rattle.file_layout.specs.Sections.{is_empty_list}
-use Rattle.file_assemble.specs.Lists.{SpellsRanks}
-use Rattle.file_limits.specs.Wide.{wide_list, list_values}
-use Rattle.file_layout.specs.Sharing.{Sharing}
+use Rattle.file_layout.specs.inner.Sections.{is_empty_list}
+use Rattle.file_assemble.specs.inner.Lists.{SpellsRanks}
+use Rattle.file_limits.specs.Wide.{wide_list}
+use Rattle.file_limits.specs.inner.Wide.{list_values}
+use Rattle.file_layout.specs.inner.Sharing.{Sharing}
 use Rattle.file_assemble.proofs.type_lists.put_lists.Given as goal
 
 abbrev pub invariant-loop-number : goal.invariant-loop-number

@@ -1,6 +1,6 @@
 use Rattle.std.proofs.Common.{sym, arith}
 use Rattle.tables_rows.specs.Names.{NameIsAt}
-use Rattle.file_classes.specs.Cached.{CountsOnce}
+use Rattle.file_classes.specs.inner.Cached.{CountsOnce}
 use Rattle.file_classes.proofs.CachedLaws.{array_fewer, array_above}
 use Rattle.file_classes.proofs.checking_statics.check_array_at.Goals as goal
 use Rattle.tables_rows.proofs.CachedLaws.{cached_more}

@@ -1,8 +1,8 @@
 use Rattle.tables_rows.specs.Names.{NameIsAt}
 use Rattle.tables_rows.specs.Sorted.{RowsHold}
 use Rattle.file_classes.specs.ClassFaults.{ValuesHold}
-use Rattle.tables_rows.specs.Cached.{AreCached}
-use Rattle.file_classes.specs.Cached.{CountsOnce}
+use Rattle.tables_rows.specs.inner.Cached.{AreCached}
+use Rattle.file_classes.specs.inner.Cached.{CountsOnce}
 use Rattle.file_classes.proofs.checking_statics.check_statics.Given as goal
 
 abbrev pub invariant-loop-i : goal.invariant-loop-i

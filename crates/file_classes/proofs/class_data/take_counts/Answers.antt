@@ -4,7 +4,7 @@ use Rattle.dex_base.specs.Leb128.{Spells}
 use Rattle.dex_base.proofs.Numbers.{spells_unique}
 use Rattle.dex_base.proofs.TakesLaws.{Takes-then}
 use Rattle.file_classes.specs.ClassData.{SpellsMethodEntry}
-use Rattle.file_classes.specs.Reading.{method_entry}
+use Rattle.file_classes.specs.inner.Reading.{method_entry}
 use Rattle.file_classes.proofs.class_data.take_counts.Goals as goal
 use Rattle.dex_base.proofs.ViaLaws.{second-none}
 

@@ -1,5 +1,5 @@
 use Rattle.std.proofs.Common.{map}
-use Rattle.file_classes.specs.Reading.{field_entry, method_entry, counts}
+use Rattle.file_classes.specs.inner.Reading.{field_entry, method_entry, counts}
 use Rattle.file_classes.proofs.TakingLaws.{none_counts, none_first, none_second, none_third, none_fourth, entries_taken}
 use Rattle.file_classes.proofs.class_data.take_entries.Goals as goal
 

@@ -2,7 +2,7 @@ use Rattle.std.proofs.Common.{map, arith}
 use Rattle.std.proofs.lemmas.List.{map-append}
 use Rattle.dex_base.specs.Leb128.{Spells}
 use Rattle.file_classes.specs.ClassData.{SpellsFieldEntry}
-use Rattle.file_classes.specs.Reading.{field_entry}
+use Rattle.file_classes.specs.inner.Reading.{field_entry}
 use Rattle.file_classes.proofs.EntryLaws.{field_unique}
 use Rattle.file_classes.proofs.TakingLaws.{taken_more, taken_all, taken_short}
 use Rattle.file_classes.proofs.class_data.take_fields.Goals as goal

@@ -1,7 +1,7 @@
 use Rattle.std.proofs.Common.{map}
 use Rattle.dex_base.specs.Leb128.{Spells}
 use Rattle.file_classes.specs.ClassData.{SpellsMethodEntry}
-use Rattle.file_classes.specs.Reading.{method_entry}
+use Rattle.file_classes.specs.inner.Reading.{method_entry}
 use Rattle.file_classes.proofs.TakingLaws.{Taken}
 use Rattle.file_classes.proofs.class_data.take_methods.Given as goal
 

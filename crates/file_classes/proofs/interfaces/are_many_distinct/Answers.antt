@@ -6,7 +6,7 @@ use lib.Pointwise.{pointwise}
 use lib.Dec.{eqb}
 use Rattle.program_types.specs.View.{desc}
 use Rattle.program_types.specs.declared.names.Desc.{Desc}
-use Rattle.file_classes.specs.Reading.{IsNotAmong}
+use Rattle.file_classes.specs.inner.Reading.{IsNotAmong}
 use Rattle.file_classes.proofs.HeadLaws.{distinct_from}
 use Rattle.file_classes.proofs.SeenLaws.{new_type, old_type, seen_more, held_before, came_now}
 use Rattle.file_classes.proofs.interfaces.are_many_distinct.Goals as goal
@@ -15,12 +15,14 @@ use Rattle.file_classes.proofs.interfaces.are_many_distinct.Goals as goal
 abbrev same : Desc → Desc → Bool
 same x y = pointwise eqb (desc x) (desc y)
 
-pub returns-then-not-branch-clause-ok : goal.returns-then-not-branch-clause-ok
-returns-then-not-branch-clause-ok c =
-    let yes = held_before _ c.in_ok-insert.field-0 c.in_ok-insert.ensures.added c.if-not-branch.true in (
-      λ f. absurd (true≢false (sym f)),
-      λ distinct. absurd (old_type same (λ x y. bytes_eq-Decides (desc x) (desc y)) c.args.types.now c.loop-n.seen.keys c.loop-n.n _ c.loop-n.invariant.0 c.loop-n-test.true yes distinct),
-    )
+pub returns-then-not-branch : goal.returns-then-not-branch
+returns-then-not-branch c = record {
+  ok =
+      let yes = held_before _ c.in_ok-insert.field-0 c.in_ok-insert.ensures.added c.if-not-branch.true in (
+        λ f. absurd (true≢false (sym f)),
+        λ distinct. absurd (old_type same (λ x y. bytes_eq-Decides (desc x) (desc y)) c.args.types.now c.loop-n.seen.keys c.loop-n.n _ c.loop-n.invariant.0 c.loop-n-test.true yes distinct),
+      );
+}
 
 pub loop-n-preserved : goal.loop-n-preserved
 loop-n-preserved c =
@@ -35,8 +37,10 @@ loop-n-preserved c =
       ],
     )
 
-pub returns-clause-ok : goal.returns-clause-ok
-returns-clause-ok c = (
-  λ t. let l = length-map c.args.types.now desc in distinct_from (map desc c.args.types.now) c.loop-n.n (omega (arith, l, c.loop-n-test.false)) c.loop-n.invariant.1,
-  λ d. refl,
-)
+pub returns : goal.returns
+returns c = record {
+  ok = (
+    λ t. let l = length-map c.args.types.now desc in distinct_from (map desc c.args.types.now) c.loop-n.n (omega (arith, l, c.loop-n-test.false)) c.loop-n.invariant.1,
+    λ d. refl,
+  );
+}

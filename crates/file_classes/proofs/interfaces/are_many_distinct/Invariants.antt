@@ -1,6 +1,6 @@
 use Rattle.std.proofs.Common.{◌≡◌, ◌<◌, ℕ, map, take}
 use Rattle.program_types.specs.View.{desc}
-use Rattle.file_classes.specs.Reading.{IsNotAmong}
+use Rattle.file_classes.specs.inner.Reading.{IsNotAmong}
 use Rattle.file_classes.proofs.interfaces.are_many_distinct.Given as goal
 
 abbrev pub invariant-loop-n : goal.invariant-loop-n

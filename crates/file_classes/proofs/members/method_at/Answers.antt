@@ -1,6 +1,6 @@
 use Rattle.std.proofs.Common.{refl, sym, true≢false}
 use Rattle.program_types.specs.View.{desc, method_ref}
-use Rattle.file_classes.specs.Reading.{IndexIsForeign}
+use Rattle.file_classes.specs.inner.Reading.{IndexIsForeign}
 use Rattle.file_classes.proofs.members.method_at.Goals as goal
 
 pub returns-then-not-is_member_of-clause-err : goal.returns-then-not-is_member_of-clause-err

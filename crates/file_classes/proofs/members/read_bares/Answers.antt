@@ -3,7 +3,7 @@ use Rattle.std.proofs.lemmas.List.{length-map}
 use Rattle.dex_container.specs.Layout.{size_of}
 use Rattle.program_types.specs.View.{desc, method_ref}
 use Rattle.file_classes.specs.ClassFaults.{MethodOwner}
-use Rattle.file_classes.specs.Reading.{IsBare, method_entry}
+use Rattle.file_classes.specs.inner.Reading.{IsBare, method_entry}
 use Rattle.file_classes.proofs.MemberLaws.{bare_stands, there, next_index, index_fails, step_fails, step_rises, all_run}
 use Rattle.file_classes.specs.ClassData.{steps, index_of}
 use Rattle.file_classes.specs.declared.class_data.MethodEntry.{MethodEntry}

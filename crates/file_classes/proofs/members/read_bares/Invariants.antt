@@ -1,7 +1,7 @@
 use Rattle.std.proofs.Common.{◌≡◌, ◌<◌, ◌^◌, map, take}
 use Rattle.std.specs.Prelude.{sum}
 use Rattle.program_types.specs.View.{desc}
-use Rattle.file_classes.specs.Reading.{IsBare, method_entry}
+use Rattle.file_classes.specs.inner.Reading.{IsBare, method_entry}
 use Rattle.file_classes.specs.ClassData.{steps, FirstEntriesAre}
 use Rattle.file_classes.proofs.members.read_bares.Given as goal
 

@@ -6,7 +6,7 @@ use Rattle.file_classes.specs.Classes.{IsField}
 use Rattle.file_classes.specs.ClassFaults.{FieldOwner}
 use Rattle.file_classes.proofs.MemberLaws.{field_stands, there, next_index, index_fails, step_fails, step_rises, all_run}
 use Rattle.file_classes.specs.ClassData.{steps, index_of}
-use Rattle.file_classes.specs.Reading.{field_entry}
+use Rattle.file_classes.specs.inner.Reading.{field_entry}
 use Rattle.file_classes.specs.declared.class_data.FieldEntry.{FieldEntry}
 use Rattle.file_classes.proofs.EntryLaws.{runs_more}
 use Rattle.file_classes.proofs.EntryFaults.{field_owned}

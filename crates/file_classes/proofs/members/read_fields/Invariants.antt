@@ -3,7 +3,7 @@ use Rattle.std.specs.Prelude.{sum}
 use Rattle.program_types.specs.View.{desc, member}
 use Rattle.file_classes.specs.Classes.{IsField}
 use Rattle.file_classes.specs.ClassData.{steps, FirstEntriesAre}
-use Rattle.file_classes.specs.Reading.{field_entry}
+use Rattle.file_classes.specs.inner.Reading.{field_entry}
 use Rattle.file_classes.proofs.members.read_fields.Given as goal
 
 abbrev pub invariant-loop-entry : goal.invariant-loop-entry

@@ -1,6 +1,6 @@
 use Rattle.std.proofs.Common.{inl, inr, ◌∙◌}
 use Rattle.program_types.specs.View.{desc}
-use Rattle.file_classes.specs.Reading.{entries}
+use Rattle.file_classes.specs.inner.Reading.{entries}
 use Rattle.file_classes.proofs.EntryFaults.{fields_hold, bares_hold}
 use Rattle.file_classes.proofs.members.read_members.Goals as goal
 use Rattle.dex_base.proofs.ListFacts.{passed}

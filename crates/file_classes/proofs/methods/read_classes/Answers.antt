@@ -7,7 +7,7 @@ use Rattle.std.proofs.lemmas.List.{map-append}
 use Rattle.program_types.specs.View.{class}
 use Rattle.tables_rows.proofs.RowReading.{first_more}
 use Rattle.file_classes.specs.ClassFaults.{BodiesBreak, BodiesHold, RowRegistersBreak, RowRegistersHold, IsFirstClass}
-use Rattle.file_classes.specs.Reading.{SpellsBodies}
+use Rattle.file_classes.specs.inner.Reading.{SpellsBodies}
 use Rattle.file_classes.proofs.StaticsLaws.{first_class}
 use Rattle.file_classes.proofs.MethodLaws.{bodies_hold, rows_none, rows_turn, all_spelled}
 use Rattle.file_classes.proofs.methods.read_classes.Goals as goal

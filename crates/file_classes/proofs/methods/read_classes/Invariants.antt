@@ -1,9 +1,9 @@
 use Rattle.std.proofs.Common.{map}
 use Rattle.program_types.specs.View.{class}
-use Rattle.tables_rows.specs.Reading.{AreFirst}
+use Rattle.tables_rows.specs.inner.Reading.{AreFirst}
 use Rattle.file_classes.specs.ClassFaults.{BodiesHold}
-use Rattle.tables_rows.specs.Cached.{AreCached}
-use Rattle.file_classes.specs.Reading.{SpellsBodies, IsFound}
+use Rattle.tables_rows.specs.inner.Cached.{AreCached}
+use Rattle.file_classes.specs.inner.Reading.{SpellsBodies, IsFound}
 use Rattle.file_classes.proofs.MethodLaws.{RowsUpTo}
 use Rattle.file_classes.proofs.methods.read_classes.Given as goal
 

@@ -2,7 +2,7 @@ use Rattle.std.proofs.Common.{ℕ, ◌<◌, refl, sym, ◌∙◌, true≢false, 
 use Rattle.std.specs.Prelude.{slice_index}
 use borrow.Author.Count.{below_more}
 use Rattle.dex_container.specs.Layout.{size_of}
-use Rattle.tables_rows.specs.Halves.{halves}
+use Rattle.tables_rows.specs.inner.Halves.{halves}
 use Rattle.tables_rows.proofs.HalvesLaws.{u16_at-halves}
 use Rattle.file_classes.specs.ClassRows.{NoneDefines}
 use Rattle.file_classes.proofs.HeadLaws.{undefined_same, index_at}

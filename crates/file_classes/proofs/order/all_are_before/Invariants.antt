@@ -1,7 +1,7 @@
 use Rattle.std.proofs.Common.{ℕ, ◌<◌}
 use Rattle.std.specs.Prelude.{slice_index}
 use Rattle.dex_container.specs.Layout.{size_of}
-use Rattle.tables_rows.specs.Halves.{halves}
+use Rattle.tables_rows.specs.inner.Halves.{halves}
 use Rattle.file_classes.specs.ClassRows.{NoneDefines}
 use Rattle.file_classes.proofs.order.all_are_before.Given as goal
 

@@ -1,7 +1,7 @@
 use Rattle.std.proofs.Common.{ℕ, List, ◌<◌, length}
 use Rattle.std.specs.Prelude.{slice_index}
 use Rattle.dex_container.specs.Layout.{size_of}
-use Rattle.tables_rows.specs.Halves.{halves}
+use Rattle.tables_rows.specs.inner.Halves.{halves}
 use Rattle.file_classes.specs.ClassRows.{NoneDefines, InterfaceIndexes}
 use Rattle.file_classes.proofs.HeadLaws.{to_each}
 use Rattle.file_classes.proofs.order.interfaces_are_before.Goals as goal

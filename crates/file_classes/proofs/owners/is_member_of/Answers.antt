@@ -1,6 +1,7 @@
 use Rattle.std.proofs.Common.{◌≡◌, refl, subst, arith}
 use Rattle.program_types.specs.View.{desc}
-use Rattle.tables_rows.specs.RowFields.{member_class, number_of}
+use Rattle.tables_rows.specs.RowFields.{member_class}
+use Rattle.tables_rows.specs.inner.RowFields.{number_of}
 use Rattle.tables_rows.specs.Stands.{TypeStands}
 use Rattle.tables_rows.proofs.TypeLists.{type_one}
 use Rattle.file_classes.proofs.owners.is_member_of.Goals as goal

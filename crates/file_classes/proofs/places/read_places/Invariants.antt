@@ -1,4 +1,4 @@
-use Rattle.file_classes.specs.Places.{ArePlaces}
+use Rattle.file_classes.specs.inner.Places.{ArePlaces}
 use Rattle.file_classes.proofs.places.read_places.Given as goal
 
 abbrev pub invariant-loop-i : goal.invariant-loop-i

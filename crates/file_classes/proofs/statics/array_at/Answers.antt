@@ -2,7 +2,7 @@ use Rattle.std.proofs.Common.{sym, map, arith}
 use Rattle.std.proofs.lemmas.List.{length-map}
 use Rattle.program_types.specs.View.{value}
 use Rattle.tables_rows.specs.Names.{NameIsAt}
-use Rattle.file_classes.specs.Cached.{StandsOnce}
+use Rattle.file_classes.specs.inner.Cached.{StandsOnce}
 use Rattle.file_classes.proofs.CachedLaws.{array_fewer, array_above}
 use Rattle.file_classes.proofs.statics.array_at.Goals as goal
 use Rattle.tables_rows.proofs.CachedLaws.{cached_more}

@@ -2,7 +2,7 @@ use Rattle.std.proofs.Common.{rules, arith, map}
 use Rattle.program_types.specs.View.{value}
 use Rattle.tables_rows.proofs.RowReading.{first_more}
 use Rattle.file_classes.specs.ClassFaults.{ValuesBreak, ValuesHold}
-use Rattle.file_classes.specs.Reading.{AreStatics}
+use Rattle.file_classes.specs.inner.Reading.{AreStatics}
 use Rattle.file_classes.proofs.StaticsLaws.{first_class}
 use Rattle.file_classes.proofs.statics.read_statics.Goals as goal
 use Rattle.tables_rows.proofs.CachedLaws.{cached_none}

@@ -1,11 +1,11 @@
 use Rattle.std.proofs.Common.{map}
 use Rattle.program_types.specs.View.{value}
 use Rattle.tables_rows.specs.Names.{NameIsAt}
-use Rattle.tables_rows.specs.Cached.{AreCached}
-use Rattle.file_classes.specs.Cached.{StandsOnce}
-use Rattle.tables_rows.specs.Reading.{AreFirst}
+use Rattle.tables_rows.specs.inner.Cached.{AreCached}
+use Rattle.file_classes.specs.inner.Cached.{StandsOnce}
+use Rattle.tables_rows.specs.inner.Reading.{AreFirst}
 use Rattle.file_classes.specs.ClassFaults.{ValuesHold}
-use Rattle.file_classes.specs.Reading.{AreStatics}
+use Rattle.file_classes.specs.inner.Reading.{AreStatics}
 use Rattle.file_classes.proofs.statics.read_statics.Given as goal
 
 abbrev pub invariant-loop-i : goal.invariant-loop-i

@@ -2,8 +2,8 @@ use Rattle.std.proofs.Common.{◌≡◌, ℕ, List, ◌+◌, ◌++◌, ◌<◌, 
 use Rattle.dex_base.specs.Words.{words_bytes}
 use Rattle.file_layout.specs.declared.map_list.Entry.{Entry}
 use Rattle.file_layout.specs.Tiles.{zeros, gap}
-use Rattle.file_layout.specs.Plan.{header_words, tables_end, spans_of}
-use Rattle.file_layout.specs.Entries.{list_words, entry_of}
+use Rattle.file_layout.specs.inner.Plan.{header_words, tables_end, spans_of}
+use Rattle.file_layout.specs.inner.Entries.{list_words, entry_of}
 use Rattle.file_layout.proofs.SectionLaws.{length-padded}
 use Rattle.file_layout.proofs.FrameLaws.{framed, planned_low}
 use Rattle.file_layout.proofs.FinishLaws.{tail_short, finished, finished_short, length-finished, written_back}

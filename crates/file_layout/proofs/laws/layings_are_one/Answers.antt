@@ -1,4 +1,4 @@
-use Rattle.file_layout.specs.Sections.{is_empty_list, IsItself}
+use Rattle.file_layout.specs.inner.Sections.{is_empty_list, IsItself}
 use Rattle.file_layout.proofs.LayingOnce.{layings_one}
 use Rattle.file_layout.proofs.laws.layings_are_one.Goals as goal
 

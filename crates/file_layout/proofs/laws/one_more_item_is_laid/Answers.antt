@@ -1,5 +1,5 @@
 use Rattle.std.proofs.Common.{refl}
-use Rattle.file_layout.specs.Sections.{IsItself, is_empty_list, wide_bytes}
+use Rattle.file_layout.specs.inner.Sections.{IsItself, is_empty_list, wide_bytes}
 use Rattle.file_layout.proofs.SectionLaws.{Laying-more, few_more}
 use Rattle.file_layout.proofs.laws.one_more_item_is_laid.Goals as goal
 

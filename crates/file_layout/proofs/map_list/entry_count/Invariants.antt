@@ -1,6 +1,6 @@
 use Rattle.std.proofs.Common.{◌≡◌, length, take}
 use Rattle.std.specs.List.{filter}
-use Rattle.file_layout.specs.Entries.{has_some}
+use Rattle.file_layout.specs.inner.Entries.{has_some}
 use Rattle.file_layout.proofs.map_list.entry_count.Given as goal
 
 abbrev pub invariant-loop-entry : goal.invariant-loop-entry

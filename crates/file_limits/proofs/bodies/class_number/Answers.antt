@@ -1,8 +1,9 @@
 use Rattle.std.proofs.Common.{map, sym, subst, Option, ℕ}
 use Rattle.tables_names.specs.Closure.{NameRanks}
 use Rattle.program_types.specs.View as view
-use Rattle.file_limits.specs.Limits.{BodyIsReady, codes_in, codes_of}
-use Rattle.file_limits.specs.Lowest.{IsLowestBroken}
+use Rattle.file_limits.specs.Limits.{codes_in, codes_of}
+use Rattle.file_limits.specs.inner.Limits.{BodyIsReady}
+use Rattle.file_limits.specs.inner.Lowest.{IsLowestBroken}
 use Rattle.file_limits.proofs.BodyLaws.{both_least}
 use Rattle.file_limits.proofs.bodies.class_number.Goals as goal
 use Rattle.dex_base.proofs.ListFacts.{all_front, all_back}

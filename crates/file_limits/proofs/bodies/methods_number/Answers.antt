@@ -1,5 +1,5 @@
 use Rattle.tables_names.specs.Closure.{NameRanks}
-use Rattle.file_limits.specs.Limits.{BodyIsReady}
+use Rattle.file_limits.specs.inner.Limits.{BodyIsReady}
 use Rattle.file_limits.proofs.BodyLaws.{no_body}
 use Rattle.file_limits.proofs.RankLaws.{ready_at, methods_more}
 use Rattle.file_limits.proofs.bodies.methods_number.Goals as goal

@@ -2,7 +2,7 @@ use Rattle.std.proofs.Common.{map, take}
 use Rattle.tables_names.specs.Closure.{NameRanks}
 use Rattle.program_types.specs.View as view
 use Rattle.file_limits.specs.Limits.{codes_in}
-use Rattle.file_limits.specs.Lowest.{IsLowestBroken}
+use Rattle.file_limits.specs.inner.Lowest.{IsLowestBroken}
 use Rattle.file_limits.proofs.bodies.methods_number.Given as goal
 
 abbrev pub invariant-loop-method : goal.invariant-loop-method

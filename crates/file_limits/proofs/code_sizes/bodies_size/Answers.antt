@@ -4,7 +4,7 @@ use Rattle.file_layout.specs.Sections.{wide_all}
 use Rattle.program_types.specs.Content.{Code}
 use Rattle.program_types.specs.View as view
 use Rattle.program_types.specs.declared.class.Method.{Method}
-use Rattle.file_limits.specs.Sum.{IsSum}
+use Rattle.file_limits.specs.inner.Sum.{IsSum}
 use Rattle.file_limits.specs.Wide.{wide_body}
 use Rattle.file_limits.proofs.PartLaws.{map_map}
 use Rattle.file_limits.proofs.SumLaws.{room_more}

@@ -5,7 +5,7 @@ use Rattle.code_put.specs.Fits.{catches_in}
 use Rattle.program_types.specs.Content.{Try}
 use Rattle.program_types.specs.View as view
 use Rattle.program_types.specs.declared.code.Try as held
-use Rattle.file_limits.specs.Sum.{IsSum}
+use Rattle.file_limits.specs.inner.Sum.{IsSum}
 use Rattle.file_limits.proofs.code_sizes.catches_size.Goals as goal
 
 abbrev no_try : held.Try

@@ -1,7 +1,7 @@
 use Rattle.std.proofs.Common.{◌*◌, map, take}
 use Rattle.code_put.specs.Fits.{catches_in}
 use Rattle.program_types.specs.View as view
-use Rattle.file_limits.specs.Sum.{IsSum}
+use Rattle.file_limits.specs.inner.Sum.{IsSum}
 use Rattle.file_limits.proofs.code_sizes.catches_size.Given as goal
 
 abbrev pub invariant-loop-one : goal.invariant-loop-one

@@ -1,6 +1,6 @@
 use Rattle.std.proofs.Common.{arith, refl, subst, inl, map}
 use Rattle.program_types.specs.View as view
-use Rattle.file_limits.specs.Sum.{IsSum}
+use Rattle.file_limits.specs.inner.Sum.{IsSum}
 use Rattle.file_limits.specs.Wide.{bodies_in, wide_body}
 use Rattle.file_limits.proofs.SumLaws.{wide_all_append}
 use Rattle.file_limits.proofs.file_size.class_size.Goals as goal

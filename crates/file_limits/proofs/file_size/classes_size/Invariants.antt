@@ -1,7 +1,7 @@
 use Rattle.std.proofs.Common.{map, take}
 use Rattle.file_layout.specs.Sections.{wide_all}
 use Rattle.program_types.specs.View as view
-use Rattle.file_limits.specs.Sum.{IsSum}
+use Rattle.file_limits.specs.inner.Sum.{IsSum}
 use Rattle.file_limits.specs.Wide.{wide_class}
 use Rattle.file_limits.proofs.file_size.classes_size.Given as goal
 

@@ -1,7 +1,7 @@
 use Rattle.std.proofs.Common.{arith, refl, subst, inl}
 use Rattle.std.proofs.lemmas.List.{length-map}
 use Rattle.program_types.specs.View as view
-use Rattle.file_limits.specs.Sum.{IsSum}
+use Rattle.file_limits.specs.inner.Sum.{IsSum}
 use Rattle.file_limits.proofs.file_size.data_size.Goals as goal
 
 pub returns : goal.returns

@@ -2,7 +2,7 @@ use Rattle.std.proofs.Common.{length, ap, arith, refl, subst, inl}
 use Rattle.std.proofs.lemmas.List.{length-map}
 use Rattle.file_layout.specs.Sections.{wide_all}
 use Rattle.tables_names.specs.Keys.{key_of_desc, key_of_field, key_of_method}
-use Rattle.file_limits.specs.Sum.{IsSum}
+use Rattle.file_limits.specs.inner.Sum.{IsSum}
 use Rattle.file_limits.specs.Wide.{wide_proto, wide_string}
 use Rattle.file_limits.proofs.file_size.names_size.Goals as goal
 

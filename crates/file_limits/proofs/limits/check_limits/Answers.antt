@@ -2,7 +2,7 @@ use Rattle.std.proofs.Common.{◌<◌, length, ap, arith, subst, Option, rules}
 use Rattle.std.proofs.lemmas.List.{length-map}
 use Rattle.dex_base.specs.declared.fault.Fault.{Fault}
 use Rattle.file_limits.proofs.LimitLaws.{big_lowest, protos_lowest, small_lowest, small_of, types_lowest}
-use Rattle.file_limits.specs.Lowest.{IsLowestOf}
+use Rattle.file_limits.specs.inner.Lowest.{IsLowestOf}
 use Rattle.file_limits.specs.Wide.{wide_of}
 use Rattle.tables_names.specs.Closure.{Five, NameRanks}
 use Rattle.tables_names.specs.Keys.{key_of_desc, key_of_proto}

@@ -5,7 +5,7 @@ use Rattle.program_types.specs.Depth.{depth, greatest_depth}
 use Rattle.program_types.specs.View as view
 use Rattle.program_types.specs.declared.value.Value as made
 use Rattle.dex_value.specs.Wide.{wide_value}
-use Rattle.file_limits.specs.Sum.{IsSum}
+use Rattle.file_limits.specs.inner.Sum.{IsSum}
 use Rattle.file_limits.proofs.SumLaws.{values_room_more}
 use Rattle.file_limits.proofs.value_sizes.+values.Goals as goal
 use Rattle.program_types.proofs.Nesting.{value_less}

@@ -3,7 +3,7 @@ use Rattle.program_types.specs.Content.{values}
 use Rattle.program_types.specs.Depth.{depth, greatest_depth}
 use Rattle.program_types.specs.View as view
 use Rattle.dex_value.specs.Wide.{wide_values}
-use Rattle.file_limits.specs.Sum.{IsSum}
+use Rattle.file_limits.specs.inner.Sum.{IsSum}
 use Rattle.file_limits.proofs.value_sizes.+values.Given as goal
 
 abbrev pub decreases-value_size : goal.decreases-value_size

@@ -1,4 +1,4 @@
-use Rattle.file_needed.specs.Bodies.{caught_in_body}
+use Rattle.file_needed.specs.inner.Bodies.{caught_in_body}
 use Rattle.program_types.specs.View as view
 use Rattle.file_needed.proofs.Steps.{flat_more}
 use Rattle.file_needed.proofs.classes.add_all_caught.Goals as goal

@@ -1,7 +1,7 @@
 use Rattle.tables_names.specs.Closure.{HasShorty}
 use Rattle.program_types.specs.Mentions.{names_of_class}
 use Rattle.program_types.specs.View as view
-use Rattle.file_needed.specs.Bodies.{other_names}
+use Rattle.file_needed.specs.inner.Bodies.{other_names}
 use Rattle.file_needed.proofs.Steps.{flat_more, flat_kept}
 use Rattle.file_needed.proofs.classes.add_classes.Goals as goal
 

@@ -1,7 +1,7 @@
 use Rattle.std.proofs.Common.{◌≡◌, map, take}
 use Rattle.std.specs.List.{flat_map}
 use Rattle.tables_names.specs.Closure.{with_names}
-use Rattle.file_needed.specs.Bodies.{other_names}
+use Rattle.file_needed.specs.inner.Bodies.{other_names}
 use Rattle.program_types.specs.View as view
 use Rattle.file_needed.proofs.classes.add_classes.Given as goal
 

@@ -7,7 +7,7 @@ use Rattle.tables_names.specs.Needed.{needed}
 use Rattle.tables_names.specs.Numbers.{sets}
 use Rattle.program_types.specs.Mentions.{mentions}
 use Rattle.program_types.specs.View as view
-use Rattle.file_needed.specs.Bodies.{defined_in, named_in_code}
+use Rattle.file_needed.specs.inner.Bodies.{defined_in, named_in_code}
 use Rattle.file_needed.proofs.ClassNames.{all_names, all_own, code_named}
 use Rattle.file_needed.proofs.Steps.{nothing_noted}
 use Rattle.file_needed.proofs.classes.gathered.Goals as goal

@@ -3,7 +3,7 @@ use Rattle.std.proofs.lemmas.Result.{on_ok_weaker}
 use Rattle.std.specs.List.{flat_map}
 use Rattle.tables_names.specs.Closure.{HasShorty}
 use Rattle.program_types.specs.View as view
-use Rattle.file_needed.specs.Bodies.{named_in_body}
+use Rattle.file_needed.specs.inner.Bodies.{named_in_body}
 use Rattle.tables_names.proofs.NotedLemmas.{notes_both}
 use Rattle.file_needed.proofs.classes.note_class.Goals as goal
 use Rattle.dex_base.proofs.ListFacts.{all_front, all_back}

@@ -4,7 +4,7 @@ use Rattle.tables_names.specs.Closure.{HasShorty}
 use Rattle.program_types.specs.View as view
 use Rattle.program_types.specs.declared.class.Class.{Class}
 use Rattle.tables_names.specs.Noted.{AddsNoted}
-use Rattle.file_needed.specs.Bodies.{named_in_class}
+use Rattle.file_needed.specs.inner.Bodies.{named_in_class}
 use Rattle.tables_names.proofs.NotedLemmas.{notes_none}
 use Rattle.file_needed.proofs.Steps.{notes_more, flat_kept}
 use Rattle.file_needed.proofs.classes.note_classes.Goals as goal

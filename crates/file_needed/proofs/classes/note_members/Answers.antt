@@ -4,7 +4,7 @@ use Rattle.program_types.specs.declared.class.Class.{Class}
 use Rattle.tables_names.specs.Closure.{HasShorty}
 use Rattle.tables_names.specs.Noted.{AreNoted, members_of}
 use Rattle.tables_names.specs.Numbers.{sets}
-use Rattle.file_needed.specs.Bodies.{defined_in, own_names}
+use Rattle.file_needed.specs.inner.Bodies.{defined_in, own_names}
 use Rattle.file_needed.proofs.Steps.{flat_kept, flat_more, no_notes, noted_next}
 use Rattle.file_needed.proofs.classes.note_members.Goals as goal
 

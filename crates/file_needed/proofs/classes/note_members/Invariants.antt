@@ -5,7 +5,7 @@ use Rattle.program_types.specs.View as view
 use Rattle.tables_names.specs.Closure.{with_names}
 use Rattle.tables_names.specs.Noted.{AreNoted}
 use Rattle.tables_names.specs.Numbers.{sets}
-use Rattle.file_needed.specs.Bodies.{defined_in, own_names}
+use Rattle.file_needed.specs.inner.Bodies.{defined_in, own_names}
 use Rattle.file_needed.proofs.classes.note_members.Given as goal
 
 abbrev pub invariant-loop-class : goal.invariant-loop-class

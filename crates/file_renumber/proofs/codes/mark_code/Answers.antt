@@ -3,7 +3,7 @@ use Rattle.std.specs.List.{flat_map}
 use Rattle.program_types.specs.Content.{Name}
 use Rattle.program_types.specs.Mentions.{names_of_insn, names_of_try}
 use Rattle.tables_rows.specs.Stands.{NameStands}
-use Rattle.file_renumber.specs.Marked.{AddsNames}
+use Rattle.file_renumber.specs.inner.Marked.{AddsNames}
 use Rattle.file_renumber.proofs.MarkLemmas.{adds_more, has_marks_after}
 use Rattle.code_read.specs.Walk.{starts}
 use Rattle.file_renumber.proofs.WideLemmas.{plain_names, plain_wide, tried_wide}

@@ -1,7 +1,7 @@
 use Rattle.std.proofs.Common.{◌≡◌, ◌<◌, ◌+◌, ℕ, length, get_or, set, sym, subst, ◌∙◌, arith, inl, inr}
 use Rattle.std.proofs.lemmas.Bool.{cases_lt}
 use Rattle.std.proofs.lemmas.List.{get_or-set_same, get_or-set_other}
-use Rattle.file_renumber.specs.Numbers.{before}
+use Rattle.file_renumber.specs.inner.Numbers.{before}
 use Rattle.file_renumber.proofs.ColumnLemmas.{before_fits, before_next}
 use Rattle.file_renumber.proofs.column.count_before.Goals as goal
 

@@ -1,5 +1,5 @@
 use Rattle.std.proofs.Common.{◌≡◌, ℕ, ◌<◌, ◌≤◌, get_or}
-use Rattle.file_renumber.specs.Numbers.{before}
+use Rattle.file_renumber.specs.inner.Numbers.{before}
 use Rattle.file_renumber.proofs.column.count_before.Given as goal
 
 abbrev pub invariant-loop-i : goal.invariant-loop-i

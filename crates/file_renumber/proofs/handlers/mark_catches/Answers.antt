@@ -2,8 +2,8 @@ use Rattle.std.proofs.Common.{take, get_or, arith}
 use Rattle.program_types.specs.Content.{OfDesc}
 use Rattle.tables_rows.specs.Stands.{NameStands}
 use Rattle.file_renumber.proofs.MarkLemmas.{has_marks_after}
-use Rattle.code_read.specs.Handlers.{SpellsCatch}
-use Rattle.file_renumber.specs.Fronts.{types_of}
+use Rattle.code_read.specs.inner.Handlers.{SpellsCatch}
+use Rattle.file_renumber.specs.inner.Fronts.{types_of}
 use Rattle.file_renumber.proofs.HandlerLemmas.{counted, no_catch, catches_start, catches_more, catches_end, type_row_of}
 use Rattle.file_renumber.proofs.FrontLemmas.{due_next}
 use Rattle.file_renumber.proofs.handlers.mark_catches.Goals as goal

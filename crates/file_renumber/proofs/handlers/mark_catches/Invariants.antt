@@ -2,7 +2,7 @@ use Rattle.std.proofs.Common.{ℕ, List}
 use Rattle.dex_base.specs.Grammar.{Takes, Many}
 use Rattle.program_types.specs.Content.{Catch}
 use Rattle.tables_rows.specs.Stands.{NameStands}
-use Rattle.code_read.specs.Handlers.{SpellsCatch}
+use Rattle.code_read.specs.inner.Handlers.{SpellsCatch}
 use Rattle.file_renumber.proofs.HandlerLemmas.{MarkedCatches}
 use Rattle.file_renumber.proofs.handlers.mark_catches.Given as goal
 

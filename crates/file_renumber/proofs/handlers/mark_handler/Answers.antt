@@ -5,7 +5,8 @@ use mir.Val.{SFits}
 use mir.Syntax.{w32}
 use Rattle.tables_rows.specs.Stands.{NameStands}
 use Rattle.dex_base.specs.Grammar.{Takes}
-use Rattle.code_read.specs.Handlers.{Handler, SpellsHandler, catches_of}
+use Rattle.code_read.specs.Handlers.{Handler, catches_of}
+use Rattle.code_read.specs.inner.Handlers.{SpellsHandler}
 use Rattle.file_renumber.proofs.HandlerLemmas.{HandlerParts, handler_parts, parts_from}
 use Rattle.file_renumber.proofs.handlers.mark_handler.Goals as goal
 use Rattle.file_renumber.proofs.handlers.mark_handler.Goals.{After-unsigned_abs}

@@ -1,7 +1,7 @@
 use Rattle.std.proofs.Common.{get_or, arith}
 use Rattle.std.proofs.lemmas.Option.{slice_get_within}
 use Rattle.tables_rows.specs.Stands.{NameStands}
-use Rattle.code_read.specs.Handlers.{SpellsCatch}
+use Rattle.code_read.specs.inner.Handlers.{SpellsCatch}
 use Rattle.file_renumber.proofs.HandlerLemmas.{counted, no_catch}
 use Rattle.file_renumber.proofs.FrontLemmas.{due_next}
 use Rattle.file_renumber.proofs.CatchLemmas.{written_none, rank_next, written_next, written_all}

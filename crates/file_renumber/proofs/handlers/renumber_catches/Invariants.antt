@@ -1,4 +1,4 @@
-use Rattle.file_renumber.specs.CarriedCodes.{CarriedCatches}
+use Rattle.file_renumber.specs.inner.CarriedCodes.{CarriedCatches}
 use Rattle.file_renumber.proofs.CatchLemmas.{WrittenCatches}
 use Rattle.file_renumber.proofs.handlers.renumber_catches.Given as goal
 

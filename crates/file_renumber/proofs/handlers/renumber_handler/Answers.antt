@@ -5,7 +5,7 @@ use mir.Syntax.{w32}
 use Rattle.dex_base.specs.Leb128.{Spells, SpellsSigned, Shortest}
 use Rattle.dex_base.specs.Grammar.{Appends, Takes}
 use Rattle.tables_rows.specs.Stands.{NameStands}
-use Rattle.file_renumber.specs.CarriedCodes.{CarriedCatches, CarriedHandler}
+use Rattle.file_renumber.specs.inner.CarriedCodes.{CarriedCatches, CarriedHandler}
 use Rattle.code_read.specs.Handlers.{catches_of}
 use Rattle.code_read.proofs.HandlerReading.{has-all, lacks-all}
 use Rattle.file_renumber.proofs.HandlerLemmas.{HandlerParts, handler_parts, parts_from, last_place, no_last}

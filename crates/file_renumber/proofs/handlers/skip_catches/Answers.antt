@@ -1,7 +1,7 @@
 use Rattle.std.proofs.Common.{◌+◌, ℕ, List, drop, get_or, sym, subst, arith}
 use Rattle.dex_base.specs.Grammar.{Takes, Each}
 use Rattle.tables_rows.specs.Stands.{NameStands}
-use Rattle.code_read.specs.Handlers.{SpellsCatch}
+use Rattle.code_read.specs.inner.Handlers.{SpellsCatch}
 use Rattle.file_renumber.proofs.HandlerLemmas.{counted, no_catch}
 use Rattle.file_renumber.proofs.FrontLemmas.{due_start, due_next, due_end}
 use Rattle.file_renumber.proofs.handlers.skip_catches.Goals as goal

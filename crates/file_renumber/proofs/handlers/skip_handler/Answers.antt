@@ -5,7 +5,8 @@ use mir.Syntax.{w32}
 use Rattle.dex_base.specs.Leb128.{Spells}
 use Rattle.dex_base.specs.Grammar.{Takes}
 use Rattle.tables_rows.specs.Stands.{NameStands}
-use Rattle.code_read.specs.Handlers.{Handler, SpellsHandler, catches_of}
+use Rattle.code_read.specs.Handlers.{Handler, catches_of}
+use Rattle.code_read.specs.inner.Handlers.{SpellsHandler}
 use Rattle.code_read.proofs.HandlerReading.{has-all, lacks-all}
 use Rattle.file_renumber.proofs.HandlerLemmas.{HandlerParts, handler_parts, parts_from, counted, last_place, no_last}
 use Rattle.file_renumber.proofs.handlers.skip_handler.Goals as goal

@@ -1,7 +1,7 @@
 use Rattle.std.proofs.Common.{◌∙◌, ap}
 use Rattle.dex_insn.proofs.Unique.{once}
 use Rattle.dex_insn.specs.Raw.{raw, units}
-use Rattle.file_renumber.specs.InPlace.{is_padded}
+use Rattle.file_renumber.specs.inner.InPlace.{is_padded}
 use Rattle.file_renumber.proofs.in_place.payload_at.Goals as goal
 
 pub returns : goal.returns

@@ -1,7 +1,7 @@
 use Rattle.std.proofs.Common.{ℕ, ◌∙◌, ap}
 use Rattle.dex_base.specs.Fields.{u16_at}
 use Rattle.dex_insn.specs.Opcodes.{index_kind_of}
-use Rattle.file_renumber.specs.Renumbered.{number_in}
+use Rattle.file_renumber.specs.inner.Renumbered.{number_in}
 use Rattle.file_renumber.proofs.ShapeLemmas.{short_put}
 use Rattle.file_renumber.proofs.in_place.renumber_short.Goals as goal
 

@@ -4,7 +4,7 @@ use Rattle.dex_insn.specs.Fields.{field}
 use Rattle.dex_insn.specs.Opcodes.{index_kind_of}
 use Rattle.program_types.specs.Content.{Name}
 use Rattle.tables_rows.specs.Stands.{NameStands}
-use Rattle.file_renumber.specs.Marked.{AddsNames}
+use Rattle.file_renumber.specs.inner.Marked.{AddsNames}
 use Rattle.file_renumber.proofs.MarkLemmas.{adds_none}
 use Rattle.file_renumber.proofs.InsnLemmas.{row_of, some_kind, named_of, unnamed}
 use Rattle.file_renumber.proofs.ShapeLemmas.{unit_long}

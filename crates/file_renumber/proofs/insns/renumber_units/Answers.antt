@@ -1,5 +1,5 @@
 use Rattle.std.proofs.Common.{◌≡◌, ◌/◌, ◌*◌, ℕ, List, length, subst, ◌∙◌, arith}
-use Rattle.file_renumber.specs.InPlace.{IsRenumbered}
+use Rattle.file_renumber.specs.inner.InPlace.{IsRenumbered}
 use Rattle.file_renumber.proofs.WrittenLemmas.{put_back, next_in, can_next, written_start, written_left, written_more, written_end, written_fit}
 use Rattle.file_renumber.proofs.insns.renumber_units.Goals as goal
 use Rattle.dex_base.proofs.ListFacts.{rest_is}

@@ -4,7 +4,7 @@ use Rattle.program_types.specs.Content.{Name}
 use Rattle.dex_value.specs.Faults.{widest_of}
 use Rattle.dex_value.specs.Reading.{sized_code, table_of_type}
 use Rattle.dex_value.specs.Spelling.{unsigned_of}
-use Rattle.file_renumber.specs.Marked.{AddsNames}
+use Rattle.file_renumber.specs.inner.Marked.{AddsNames}
 use Rattle.file_renumber.proofs.MarkLemmas.{adds_none}
 use Rattle.file_renumber.proofs.NameLemmas.{row_of_low, row_for, no_name, named_four}
 use Rattle.file_renumber.proofs.marking.mark_low.Goals as goal

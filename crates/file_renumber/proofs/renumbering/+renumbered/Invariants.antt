@@ -1,5 +1,5 @@
 use Rattle.std.proofs.Common.{◌+◌, ◌*◌, ◌≤◌, length}
-use Rattle.file_renumber.specs.ValueWalks.{CarriedValues}
+use Rattle.file_renumber.specs.inner.ValueWalks.{CarriedValues}
 use Rattle.file_renumber.proofs.CarryLemmas.{Renumbered}
 use Rattle.file_renumber.proofs.renumbering.+renumbered.Given as goal
 

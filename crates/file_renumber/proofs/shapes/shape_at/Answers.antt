@@ -1,6 +1,6 @@
 use Rattle.std.proofs.Common.{◌∙◌, ap, sym, arith}
 use Rattle.dex_insn.specs.Opcodes.{format_of}
-use Rattle.file_renumber.specs.Shapes.{shape_in}
+use Rattle.file_renumber.specs.inner.Shapes.{shape_in}
 use Rattle.file_renumber.proofs.FormLemmas.{of_payload, of_format}
 use Rattle.file_renumber.proofs.ShapeLemmas.{unit_long, payload_first, no_payload_op, no_payload_zero, no_payload_far, op_is}
 use Rattle.file_renumber.proofs.shapes.shape_at.Goals as goal

@@ -2,10 +2,10 @@ use Rattle.std.proofs.Common.{◌≡◌, ◌∙◌, ℕ, List, ap, length, repli
 use Rattle.std.proofs.lemmas.Result.{IfOk-weaker}
 use Rattle.tables_rows.specs.Stands.{NameStands}
 use Rattle.code_read.specs.Places.{Rises}
-use Rattle.file_renumber.specs.Fronts.{AreListed}
+use Rattle.file_renumber.specs.inner.Fronts.{AreListed}
 use Rattle.file_renumber.proofs.ListLemmas.{list_of_tries}
-use Rattle.file_renumber.specs.CarriedCodes.{CarriedTries}
-use Rattle.file_renumber.specs.TryWalks.{CarriedList}
+use Rattle.file_renumber.specs.inner.CarriedCodes.{CarriedTries}
+use Rattle.file_renumber.specs.inner.TryWalks.{CarriedList}
 use Rattle.file_renumber.proofs.tries.distinct_of.Goals as goal
 use Rattle.file_renumber.proofs.tries.distinct_of.Goals.{In_ok-list}
 

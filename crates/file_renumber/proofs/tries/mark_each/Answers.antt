@@ -8,12 +8,12 @@ use Rattle.tables_rows.specs.Stands.{NameStands}
 use Rattle.file_renumber.proofs.MarkLemmas.{has_marks_after}
 use Rattle.code_read.proofs.Lists.{zeros}
 use Rattle.code_read.specs.Places.{Rises, position}
-use Rattle.code_read.specs.Handlers.{SpellsHandler}
+use Rattle.code_read.specs.inner.Handlers.{SpellsHandler}
 use Rattle.code_read.specs.Item.{try_handler}
 use Rattle.code_read.specs.Tries.{handler_of}
 use Rattle.code_put.specs.Fits.{catches_in}
-use Rattle.file_renumber.specs.Marked.{AddsNames}
-use Rattle.file_renumber.specs.TryWalks.{ListedTries, MarksOnce}
+use Rattle.file_renumber.specs.inner.Marked.{AddsNames}
+use Rattle.file_renumber.specs.inner.TryWalks.{ListedTries, MarksOnce}
 use Rattle.file_renumber.proofs.TryLemmas.{tries_start, there, taken_at, tries_more, tries_end, as_many, number_inside, found_in, zeros_long}
 use Rattle.file_renumber.proofs.tries.mark_each.Goals as goal
 use Rattle.file_renumber.proofs.tries.mark_each.Goals.{After-index-offset, After-loop-i}

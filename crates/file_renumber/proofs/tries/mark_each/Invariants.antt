@@ -1,5 +1,5 @@
 use Rattle.std.proofs.Common.{◌*◌, ◌≤◌}
-use Rattle.file_renumber.specs.TryWalks.{ListedTries}
+use Rattle.file_renumber.specs.inner.TryWalks.{ListedTries}
 use Rattle.file_renumber.proofs.TryLemmas.{MarkedTries}
 use Rattle.file_renumber.proofs.tries.mark_each.Given as goal
 

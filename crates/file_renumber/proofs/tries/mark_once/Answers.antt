@@ -2,7 +2,7 @@ use Rattle.std.proofs.Common.{ℕ, List, length-drop, refl, sym, subst, inl, inr
 use Rattle.std.proofs.lemmas.Result.{on_ok_weaker}
 use Rattle.dex_base.specs.Grammar.{Takes}
 use Rattle.tables_rows.specs.Stands.{NameStands}
-use Rattle.code_read.specs.Handlers.{SpellsHandler}
+use Rattle.code_read.specs.inner.Handlers.{SpellsHandler}
 use Rattle.file_renumber.proofs.TryLemmas.{handler_some}
 use Rattle.file_renumber.proofs.tries.mark_once.Goals as goal
 

@@ -2,7 +2,7 @@ use Rattle.std.proofs.Common.{◌≡◌, ◌∙◌, ℕ, length, ap, arith, repl
 use Rattle.std.proofs.lemmas.Result.{on_ok_weaker, IfOk-weaker}
 use Rattle.tables_rows.specs.Stands.{NameStands}
 use Rattle.file_renumber.proofs.ListLemmas.{list_of_tries}
-use Rattle.file_renumber.specs.TryWalks.{HasTries, ListedTries}
+use Rattle.file_renumber.specs.inner.TryWalks.{HasTries, ListedTries}
 use Rattle.file_renumber.proofs.tries.mark_tries.Goals as goal
 use Rattle.file_renumber.proofs.tries.mark_tries.Goals.{In_ok-list}
 

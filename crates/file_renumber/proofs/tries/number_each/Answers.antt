@@ -4,7 +4,7 @@ use Rattle.tables_names.specs.Closure.{NameRanks}
 use Rattle.code_read.proofs.Lists.{zeros}
 use Rattle.code_read.specs.Places.{position}
 use Rattle.code_read.specs.Item.{try_handler}
-use Rattle.code_put.specs.Writing.{IsDistinct}
+use Rattle.code_put.specs.inner.Writing.{IsDistinct}
 use Rattle.code_put.proofs.HandlerOnce.{handler-once, ranks-injective, packs-unique}
 use Rattle.code_put.proofs.DistinctLaws.{distinct-none, distinct-more}
 use Rattle.code_put.proofs.NumberLaws.{none-held}

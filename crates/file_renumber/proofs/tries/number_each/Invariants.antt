@@ -1,7 +1,7 @@
 use Rattle.std.proofs.Common.{map}
 use Rattle.tables_names.specs.Closure.{NameRanks}
-use Rattle.code_put.specs.Writing.{IsDistinct}
-use Rattle.file_renumber.specs.TryWalks.{CarriedList, AreKnown}
+use Rattle.code_put.specs.inner.Writing.{IsDistinct}
+use Rattle.file_renumber.specs.inner.TryWalks.{CarriedList, AreKnown}
 use Rattle.file_renumber.proofs.tries.number_each.Given as goal
 
 abbrev pub invariant-loop-i : goal.invariant-loop-i

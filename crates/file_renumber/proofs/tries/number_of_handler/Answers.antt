@@ -3,11 +3,11 @@ use Rattle.std.proofs.lemmas.List.{length-map}
 use Rattle.dex_base.specs.Fields.{AreBytes}
 use Rattle.tables_rows.specs.Stands.{NameStands}
 use Rattle.tables_names.specs.Closure.{NameRanks}
-use Rattle.code_put.specs.Packs.{PacksHandler}
-use Rattle.file_renumber.specs.CarriedCodes.{CarriedHandler}
+use Rattle.code_put.specs.inner.Packs.{PacksHandler}
+use Rattle.file_renumber.specs.inner.CarriedCodes.{CarriedHandler}
 use Rattle.file_renumber.proofs.TryLemmas.{handler_some}
 use Rattle.file_renumber.proofs.KnownLemmas.{known_more, all_bytes, number_low}
-use Rattle.file_renumber.specs.TryWalks.{IsWrittenOf}
+use Rattle.file_renumber.specs.inner.TryWalks.{IsWrittenOf}
 use Rattle.file_renumber.proofs.tries.number_of_handler.Goals as goal
 use Rattle.file_renumber.proofs.tries.number_of_handler.Goals.{In_ok-number}
 

@@ -1,17 +1,17 @@
 use Rattle.std.proofs.Common.{List, [], get_or, subst, arith}
 use Rattle.std.proofs.lemmas.List.{take_all}
 use Rattle.program_types.specs.Content.{Value}
-use Rattle.file_layout.specs.Sections.{is_empty_list}
-use Rattle.file_layout.specs.Tiles.{AreShared}
+use Rattle.file_layout.specs.inner.Sections.{is_empty_list}
+use Rattle.file_layout.specs.inner.Tiles.{AreShared}
 use Rattle.dex_base.specs.Leb128.{Shortest}
 use Rattle.dex_value.specs.Spelling.{SpellsArray}
 use Rattle.dex_value.specs.Wide.{wide_array}
 use Rattle.tables_names.specs.Closure.{NameRanks}
-use Rattle.file_assemble.specs.Arrays.{WritesArray}
+use Rattle.file_assemble.specs.inner.Arrays.{WritesArray}
 use Rattle.file_assemble.proofs.LayingLaws.{items_few}
 use Rattle.file_assemble.proofs.RankedArrays.{array_packs, array_one, array_most, arrays_once}
 use Rattle.file_layout.proofs.SharingLaws.{sharing_start, sharing_next, sharing_end, sharing_shared}
-use Rattle.file_strip.specs.Statics.{IsCarriedStatics, WritesStatics}
+use Rattle.file_strip.specs.inner.Statics.{IsCarriedStatics, WritesStatics}
 use Rattle.file_renumber.proofs.MarkLemmas.{zip_at}
 use Rattle.file_strip.proofs.MovedLaws.{moved_none}
 use Rattle.file_strip.proofs.arrays.place_arrays.Goals as goal

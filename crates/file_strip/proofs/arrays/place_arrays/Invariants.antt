@@ -1,14 +1,14 @@
 use Rattle.std.proofs.Common.{List, take, drop}
 use Rattle.program_types.specs.Content.{Value}
 use Rattle.tables_names.specs.Closure.{Five, NameRanks}
-use Rattle.file_layout.specs.Sections.{is_empty_list}
+use Rattle.file_layout.specs.inner.Sections.{is_empty_list}
 use Rattle.dex_base.specs.Leb128.{Shortest}
 use Rattle.dex_value.specs.Spelling.{SpellsArray}
 use Rattle.dex_value.specs.Wide.{wide_array}
-use Rattle.file_assemble.specs.Arrays.{WritesArray}
-use Rattle.file_layout.specs.Sharing.{Sharing}
-use Rattle.file_strip.specs.Statics.{AreCarriedStatics, WritesStatics}
-use Rattle.file_strip.specs.Moved.{AreMoved}
+use Rattle.file_assemble.specs.inner.Arrays.{WritesArray}
+use Rattle.file_layout.specs.inner.Sharing.{Sharing}
+use Rattle.file_strip.specs.inner.Statics.{AreCarriedStatics, WritesStatics}
+use Rattle.file_strip.specs.inner.Moved.{AreMoved}
 use Rattle.file_strip.proofs.arrays.place_arrays.Given as goal
 
 abbrev pub invariant-loop-off : goal.invariant-loop-off

@@ -1,7 +1,7 @@
 use Rattle.std.proofs.Common.{subst, sym}
 use Rattle.tables_names.specs.Needed.{needed}
-use Rattle.file_limits.specs.Wide.{array_values}
-use Rattle.file_strip.specs.Words.{AreClassWords}
+use Rattle.file_limits.specs.inner.Wide.{array_values}
+use Rattle.file_strip.specs.inner.Words.{AreClassWords}
 use Rattle.file_strip.proofs.StaticsLaws.{class_statics}
 use Rattle.file_strip.proofs.arrays.put_arrays.Goals as goal
 

@@ -1,7 +1,7 @@
 use Rattle.std.proofs.Common.{◌≡◌, ◌<◌, ◌^◌, ◌∷◌, [], ◌++◌, ℕ, length, sym, subst, ap, ◌∙◌, arith, slice_get, Some}
 use Rattle.std.proofs.lemmas.Result.{on_ok_weaker}
 use Rattle.dex_base.specs.Words.{words_bytes}
-use Rattle.file_strip.specs.Names.{StringOrNone, TypeOrNone}
+use Rattle.file_strip.specs.inner.Names.{StringOrNone, TypeOrNone}
 use Rattle.tables_names.specs.Needed.{needed}
 use Rattle.file_strip.proofs.ClassRowLaws.{class_within, superclass, source, class_row}
 use Rattle.file_strip.proofs.class_defs.put_class.Goals as goal

@@ -1,6 +1,6 @@
 use Rattle.std.proofs.Common.{arith}
-use Rattle.file_assemble.specs.Codes.{WritesBody, is_bodiless}
-use Rattle.file_strip.specs.Bodies.{WritesCarried}
+use Rattle.file_assemble.specs.inner.Codes.{WritesBody, is_bodiless}
+use Rattle.file_strip.specs.inner.Bodies.{WritesCarried}
 use Rattle.file_strip.proofs.BodyLaws.{some_carried}
 use Rattle.file_strip.proofs.MovedLaws.{item_again, item_used, moved_more}
 use Rattle.file_strip.proofs.StaticsLaws.{off_some}

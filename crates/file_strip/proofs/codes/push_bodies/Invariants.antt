@@ -1,5 +1,5 @@
 use Rattle.std.proofs.Common.{◌≡◌, ◌++◌, map, take}
-use Rattle.file_strip.specs.Bodies.{body_of}
+use Rattle.file_strip.specs.inner.Bodies.{body_of}
 use Rattle.file_strip.proofs.codes.push_bodies.Given as goal
 
 abbrev pub invariant-loop-entry : goal.invariant-loop-entry

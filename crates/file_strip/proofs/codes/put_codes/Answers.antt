@@ -1,12 +1,13 @@
 use Rattle.std.proofs.Common.{◌+◌, ◌<◌, ◌^◌, List, Option, length, sym, subst, arith}
-use Rattle.file_layout.specs.Sections.{Laid, wide_all}
-use Rattle.file_layout.specs.Tiles.{AreShared}
+use Rattle.file_layout.specs.Sections.{wide_all}
+use Rattle.file_layout.specs.inner.Sections.{Laid}
+use Rattle.file_layout.specs.inner.Tiles.{AreShared}
 use Rattle.file_limits.specs.Wide.{wide_body}
-use Rattle.file_assemble.specs.Codes.{PacksBody, is_bodiless}
+use Rattle.file_assemble.specs.inner.Codes.{PacksBody, is_bodiless}
 use Rattle.program_types.specs.Content.{Code}
 use Rattle.tables_names.specs.Closure.{NameRanks}
 use Rattle.tables_names.specs.Needed.{needed}
-use Rattle.file_strip.specs.Bodies.{AreOwned, numbered}
+use Rattle.file_strip.specs.inner.Bodies.{AreOwned, numbered}
 use Rattle.file_strip.specs.declared.codes.PlacedBody.{PlacedBody}
 use Rattle.file_strip.proofs.FarLaws.{first_class, none_far}
 use Rattle.file_strip.proofs.GatherLaws.{alone, short_of}

@@ -1,9 +1,9 @@
 use Rattle.std.proofs.Common.{◌≡◌, ◌+◌, ℕ, List, length, take, drop, sym, subst, ap, ◌∙◌, arith}
 use Rattle.std.proofs.lemmas.List.{length-map, length-take}
 use Rattle.file_classes.specs.ClassData.{EntriesAt}
-use Rattle.file_classes.specs.Reading.{entries, method_entry}
-use Rattle.file_layout.specs.Sections.{AddsSome}
-use Rattle.file_assemble.specs.Data.{PacksData, has_no_members, method_count}
+use Rattle.file_classes.specs.inner.Reading.{entries, method_entry}
+use Rattle.file_layout.specs.inner.Sections.{AddsSome}
+use Rattle.file_assemble.specs.inner.Data.{PacksData, has_no_members, method_count}
 use Rattle.tables_names.specs.Closure.{NameRanks}
 use Rattle.tables_names.specs.Needed.{needed}
 use Rattle.file_strip.proofs.SiteLaws.{entries_carried}

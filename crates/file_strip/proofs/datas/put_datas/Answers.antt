@@ -1,5 +1,5 @@
 use Rattle.std.proofs.Common.{arith}
-use Rattle.file_assemble.specs.Data.{PacksData, has_no_members, wide_with_codes}
+use Rattle.file_assemble.specs.inner.Data.{PacksData, has_no_members, wide_with_codes}
 use Rattle.file_assemble.proofs.LayingLaws.{items_few}
 use Rattle.file_assemble.proofs.SitedLaws.{room_of_sited}
 use Rattle.tables_names.specs.Closure.{NameRanks}

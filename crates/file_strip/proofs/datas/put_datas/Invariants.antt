@@ -1,5 +1,5 @@
 use Rattle.program_types.specs.Content.{Program}
-use Rattle.file_strip.specs.Keeping.{Keeps}
+use Rattle.file_strip.specs.inner.Keeping.{Keeps}
 use Rattle.file_strip.proofs.SiteLaws.{ClassDataIsLaid}
 use Rattle.file_strip.proofs.datas.put_datas.Given as goal
 

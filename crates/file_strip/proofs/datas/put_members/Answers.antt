@@ -1,12 +1,12 @@
 use Rattle.std.proofs.Common.{◌≡◌, ◌++◌, ℕ, List, length, map, sym, subst, ap, ◌∙◌, arith, length-drop}
 use Rattle.std.proofs.lemmas.List.{length-map, length-take, take-append-drop}
 use Rattle.std.proofs.lemmas.Result.{on_ok_weaker}
-use Rattle.file_classes.specs.Reading.{field_entry, method_entry}
+use Rattle.file_classes.specs.inner.Reading.{field_entry, method_entry}
 use Rattle.file_classes.specs.declared.class_data.FieldEntry.{FieldEntry}
 use Rattle.file_classes.specs.declared.class_data.MethodEntry.{MethodEntry}
-use Rattle.file_assemble.specs.Data.{FieldRanks, MethodRanks}
+use Rattle.file_assemble.specs.inner.Data.{FieldRanks, MethodRanks}
 use Rattle.tables_names.specs.Closure.{NameRanks}
-use Rattle.file_strip.specs.Members.{IsCarriedRun}
+use Rattle.file_strip.specs.inner.Members.{IsCarriedRun}
 use Rattle.file_assemble.proofs.ClassDataLaws.{members_append}
 use Rattle.file_strip.proofs.datas.put_members.Goals as goal
 

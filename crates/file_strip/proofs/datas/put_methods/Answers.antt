@@ -1,6 +1,6 @@
 use Rattle.std.proofs.Common.{map, get_or, arith, refl}
 use Rattle.std.proofs.lemmas.List.{length-map}
-use Rattle.file_classes.specs.Reading.{method_entry}
+use Rattle.file_classes.specs.inner.Reading.{method_entry}
 use Rattle.file_classes.specs.declared.class_data.MethodEntry as made
 use Rattle.file_strip.proofs.MemberLaws.{methods_start, run_index, run_low, method_more, methods_end}
 use Rattle.file_strip.proofs.datas.put_methods.Goals as goal

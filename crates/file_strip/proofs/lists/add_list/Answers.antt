@@ -1,7 +1,7 @@
 use Rattle.std.proofs.Common.{arith}
-use Rattle.file_layout.specs.Sections.{is_empty_list}
-use Rattle.file_assemble.specs.Lists.{SpellsRanks}
-use Rattle.file_strip.specs.Lists.{WritesList}
+use Rattle.file_layout.specs.inner.Sections.{is_empty_list}
+use Rattle.file_assemble.specs.inner.Lists.{SpellsRanks}
+use Rattle.file_strip.specs.inner.Lists.{WritesList}
 use Rattle.file_strip.proofs.ListLaws.{room_of_bytes}
 use Rattle.file_strip.proofs.MovedLaws.{item_again, item_used, moved_more}
 use Rattle.file_strip.proofs.lists.add_list.Goals as goal

@@ -1,7 +1,7 @@
 use Rattle.std.proofs.Common.{◌≡◌, sym, subst, ap, ◌∙◌, arith}
 use Rattle.dex_container.specs.Layout.{size_of, offset_of}
 use Rattle.file_renumber.proofs.ColumnLemmas.{table_size}
-use Rattle.file_strip.specs.Lists.{AreFirstLists}
+use Rattle.file_strip.specs.inner.Lists.{AreFirstLists}
 use Rattle.file_strip.proofs.ListLaws.{first_lists, parameter_lists}
 use Rattle.file_strip.proofs.lists.parameter_offsets.Goals as goal
 

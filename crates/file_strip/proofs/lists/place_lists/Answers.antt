@@ -1,14 +1,14 @@
 use Rattle.std.proofs.Common.{List, [], get_or, subst, arith}
 use Rattle.std.proofs.lemmas.List.{take_all}
 use Rattle.program_types.specs.Content.{Units}
-use Rattle.file_layout.specs.Sections.{is_empty_list}
-use Rattle.file_layout.specs.Tiles.{AreShared}
+use Rattle.file_layout.specs.inner.Sections.{is_empty_list}
+use Rattle.file_layout.specs.inner.Tiles.{AreShared}
 use Rattle.file_limits.specs.Wide.{wide_list}
-use Rattle.file_assemble.specs.Lists.{SpellsRanks}
+use Rattle.file_assemble.specs.inner.Lists.{SpellsRanks}
 use Rattle.file_assemble.proofs.LayingLaws.{items_few, room_at}
 use Rattle.file_assemble.proofs.RankedLists.{list_packs, list_one, list_most, lists_once}
 use Rattle.file_layout.proofs.SharingLaws.{sharing_start, sharing_next, sharing_end, sharing_shared}
-use Rattle.file_strip.specs.Lists.{IsCarriedList, WritesList}
+use Rattle.file_strip.specs.inner.Lists.{IsCarriedList, WritesList}
 use Rattle.file_renumber.proofs.MarkLemmas.{zip_at}
 use Rattle.file_strip.proofs.MovedLaws.{moved_none}
 use Rattle.file_strip.proofs.lists.place_lists.Goals as goal

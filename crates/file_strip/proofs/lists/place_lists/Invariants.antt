@@ -1,12 +1,12 @@
 use Rattle.std.proofs.Common.{List, take, drop}
 use Rattle.program_types.specs.Content.{Units}
 use Rattle.tables_names.specs.Closure.{Five}
-use Rattle.file_layout.specs.Sections.{is_empty_list}
+use Rattle.file_layout.specs.inner.Sections.{is_empty_list}
 use Rattle.file_limits.specs.Wide.{wide_list}
-use Rattle.file_assemble.specs.Lists.{SpellsRanks}
-use Rattle.file_layout.specs.Sharing.{Sharing}
-use Rattle.file_strip.specs.Lists.{AreCarriedLists, WritesList}
-use Rattle.file_strip.specs.Moved.{AreMoved}
+use Rattle.file_assemble.specs.inner.Lists.{SpellsRanks}
+use Rattle.file_layout.specs.inner.Sharing.{Sharing}
+use Rattle.file_strip.specs.inner.Lists.{AreCarriedLists, WritesList}
+use Rattle.file_strip.specs.inner.Moved.{AreMoved}
 use Rattle.file_strip.proofs.lists.place_lists.Given as goal
 
 abbrev pub invariant-loop-off : goal.invariant-loop-off

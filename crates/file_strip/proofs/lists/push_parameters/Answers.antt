@@ -1,5 +1,5 @@
 use Rattle.std.proofs.Common.{◌∷◌, [], ◌++◌, ℕ, sym, subst, ap, ◌∙◌, arith, refl, true≢false}
-use Rattle.file_strip.specs.Lists.{AreFirstLists}
+use Rattle.file_strip.specs.inner.Lists.{AreFirstLists}
 use Rattle.file_strip.proofs.ListLaws.{list_kept, list_not_kept, protos_long}
 use Rattle.file_strip.proofs.lists.push_parameters.Goals as goal
 

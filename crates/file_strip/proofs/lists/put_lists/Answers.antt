@@ -1,6 +1,6 @@
 use Rattle.std.proofs.Common.{List, ℕ, ◌++◌, ap, ◌∙◌}
 use Rattle.tables_names.specs.Needed.{needed}
-use Rattle.file_limits.specs.Wide.{list_values}
+use Rattle.file_limits.specs.inner.Wide.{list_values}
 use Rattle.file_strip.proofs.ListLaws.{all_lists}
 use Rattle.file_strip.proofs.lists.put_lists.Goals as goal
 

@@ -1,6 +1,6 @@
 use Rattle.std.proofs.Common.{arith}
 use Rattle.tables_rows.proofs.TypeLists.{indexes_of}
-use Rattle.tables_rows.specs.Halves.{halves}
+use Rattle.tables_rows.specs.inner.Halves.{halves}
 use Rattle.file_strip.proofs.ListLaws.{indexes_few, ranked_of, no_types, list_spelled}
 use Rattle.file_strip.proofs.lists.renumber_list.Goals as goal
 

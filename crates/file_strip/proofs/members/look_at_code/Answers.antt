@@ -4,7 +4,7 @@ use Rattle.program_types.specs.Mentions.{if_any, names_of_code}
 use Rattle.tables_names.specs.Closure.{with_names}
 use Rattle.tables_rows.proofs.CachedLaws.{cached_more}
 use Rattle.file_limits.specs.Wide.{wide_body}
-use Rattle.file_strip.specs.Survey.{AreFound, CodeIsFound, FindsNames}
+use Rattle.file_strip.specs.inner.Survey.{AreFound, CodeIsFound, FindsNames}
 use Rattle.file_strip.proofs.FoundLaws.{arrays_stay, code_is_found, code_there, codes_stay, finds_held}
 use Rattle.file_strip.proofs.members.look_at_code.Goals as goal
 

@@ -4,13 +4,13 @@ use Rattle.std.proofs.lemmas.List.{length-map}
 use Rattle.program_types.specs.Content.{Method}
 use Rattle.program_types.specs.Mentions.{if_any, names_of_code, names_of_method}
 use Rattle.file_layout.specs.Sections.{wide_all}
-use Rattle.file_limits.specs.Sum.{IsSum}
+use Rattle.file_limits.specs.inner.Sum.{IsSum}
 use Rattle.file_limits.specs.Wide.{bodies_in, wide_body}
 use Rattle.file_classes.specs.Classes.{IsMethod}
-use Rattle.file_classes.specs.Reading.{method_entry}
+use Rattle.file_classes.specs.inner.Reading.{method_entry}
 use Rattle.file_classes.specs.declared.class_data.MethodEntry.{MethodEntry}
 use Rattle.file_classes.proofs.MemberLaws.{next_index, there}
-use Rattle.file_strip.specs.Survey.{FindsNames}
+use Rattle.file_strip.specs.inner.Survey.{FindsNames}
 use Rattle.file_strip.specs.declared.survey.Surveyed.{Surveyed}
 use Rattle.file_strip.proofs.FoundLaws.{finds_marked, finds_more, has_found_after, has_marks}
 use Rattle.file_strip.proofs.WalkLaws.{all_of_run, method_row, method_small, method_step, next_body, next_method, self_name}

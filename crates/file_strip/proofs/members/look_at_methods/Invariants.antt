@@ -3,11 +3,11 @@ use Rattle.std.specs.List.{flat_map}
 use Rattle.std.specs.Prelude.{sum}
 use Rattle.program_types.specs.Mentions.{names_of_method}
 use Rattle.file_layout.specs.Sections.{wide_all}
-use Rattle.file_limits.specs.Sum.{IsSum}
+use Rattle.file_limits.specs.inner.Sum.{IsSum}
 use Rattle.file_limits.specs.Wide.{bodies_in, wide_body}
 use Rattle.file_classes.specs.ClassData.{steps}
-use Rattle.file_classes.specs.Reading.{method_entry}
-use Rattle.file_strip.specs.Survey.{FindsNames, HasFound, HasMethods}
+use Rattle.file_classes.specs.inner.Reading.{method_entry}
+use Rattle.file_strip.specs.inner.Survey.{FindsNames, HasFound, HasMethods}
 use Rattle.file_strip.proofs.members.look_at_methods.Given as goal
 
 abbrev pub invariant-loop-entry : goal.invariant-loop-entry

@@ -2,10 +2,10 @@ use Rattle.std.proofs.Common.{List, ◌∷◌, [], map, get_or, subst, arith, re
 use Rattle.std.proofs.lemmas.List.{length-map}
 use Rattle.program_types.specs.Content.{Member}
 use Rattle.program_types.specs.Mentions.{field_of_class}
-use Rattle.file_renumber.specs.Marked.{AddsNames}
+use Rattle.file_renumber.specs.inner.Marked.{AddsNames}
 use Rattle.file_renumber.proofs.MarkLemmas.{has_marks_after}
 use Rattle.file_classes.specs.Classes.{IsField}
-use Rattle.file_classes.specs.Reading.{field_entry}
+use Rattle.file_classes.specs.inner.Reading.{field_entry}
 use Rattle.file_classes.specs.declared.class_data.FieldEntry.{FieldEntry}
 use Rattle.file_classes.proofs.MemberLaws.{next_index}
 use Rattle.file_strip.proofs.WalkLaws.{all_of_run, field_row, field_small, field_step, next_field}

@@ -1,10 +1,10 @@
 use Rattle.std.proofs.Common.{◌≡◌, ◌<◌, ◌^◌, map, take}
 use Rattle.std.specs.Prelude.{sum}
 use Rattle.program_types.specs.Mentions.{field_of_class}
-use Rattle.file_renumber.specs.Marked.{AddsNames, HasMarks}
+use Rattle.file_renumber.specs.inner.Marked.{AddsNames, HasMarks}
 use Rattle.file_classes.specs.ClassData.{steps}
-use Rattle.file_classes.specs.Reading.{field_entry}
-use Rattle.file_strip.specs.Survey.{HasFields}
+use Rattle.file_classes.specs.inner.Reading.{field_entry}
+use Rattle.file_strip.specs.inner.Survey.{HasFields}
 use Rattle.file_strip.proofs.members.mark_fields.Given as goal
 
 abbrev pub invariant-loop-entry : goal.invariant-loop-entry

@@ -1,5 +1,5 @@
 use Rattle.std.proofs.Common.{List, ℕ, true≢false, refl, sym, subst, arith}
-use Rattle.file_limits.specs.Sum.{IsSum}
+use Rattle.file_limits.specs.inner.Sum.{IsSum}
 use Rattle.file_limits.specs.Wide.{wide_list}
 use Rattle.program_types.specs.Content.{Units}
 use Rattle.tables_rows.specs.Stands.{TypesAt}

@@ -1,6 +1,6 @@
 use Rattle.std.proofs.Common.{◌≡◌, ◌*◌, length, arith, refl, inl}
 use Rattle.tables_rows.proofs.TypeLists.{indexes_of}
-use Rattle.tables_rows.specs.Halves.{halves}
+use Rattle.tables_rows.specs.inner.Halves.{halves}
 use Rattle.file_strip.proofs.SizeLaws.{no_list, some_list}
 use Rattle.file_strip.proofs.sizes.list_size.Goals as goal
 use Rattle.file_renumber.proofs.MarkLemmas.{types_count}

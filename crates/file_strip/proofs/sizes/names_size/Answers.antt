@@ -1,5 +1,5 @@
 use Rattle.std.proofs.Common.{arith, refl, subst, inl}
-use Rattle.file_limits.specs.Sum.{IsSum}
+use Rattle.file_limits.specs.inner.Sum.{IsSum}
 use Rattle.file_strip.proofs.SizeLaws.{totals, count_is}
 use Rattle.file_strip.proofs.sizes.names_size.Goals as goal
 

@@ -1,8 +1,8 @@
 use Rattle.file_limits.specs.Wide.{wide_string}
 use Rattle.program_types.specs.Content.{Program}
 use Rattle.tables_names.specs.Needed.{needed}
-use Rattle.file_strip.specs.Keeping.{Keeps}
-use Rattle.file_strip.specs.Sizes.{IsFirstSum}
+use Rattle.file_strip.specs.inner.Keeping.{Keeps}
+use Rattle.file_strip.specs.inner.Sizes.{IsFirstSum}
 use Rattle.file_strip.proofs.sizes.strings_size.Given as goal
 
 abbrev pub invariant-loop-i : goal.invariant-loop-i

@@ -1,7 +1,7 @@
 use Rattle.std.proofs.Common.{◌+◌, length, ap, sym, ◌∙◌, arith, List, ℕ}
-use Rattle.file_layout.specs.Plan.{tables_end}
+use Rattle.file_layout.specs.inner.Plan.{tables_end}
 use Rattle.file_layout.proofs.TileLaws.{length-zeros}
-use Rattle.file_assemble.specs.Making.{places_of}
+use Rattle.file_assemble.specs.inner.Making.{places_of}
 use Rattle.file_assemble.proofs.AssembledLaws.{array_count, assembled, data_count, list_count, row_count, text_count}
 use Rattle.tables_names.specs.Needed.{needed}
 use Rattle.file_strip.proofs.ReadyLaws.{room}

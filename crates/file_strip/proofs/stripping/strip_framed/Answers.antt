@@ -3,8 +3,8 @@ use Rattle.dex_base.specs.Fields.{AreBytes}
 use Rattle.dex_base.specs.declared.fault.Fault.{Fault}
 use Rattle.program_types.specs.Content.{Program}
 use Rattle.file_read.specs.Means.{Means}
-use Rattle.file_strip.specs.Keeping.{Keeps}
-use Rattle.file_strip.specs.Ready.{IsReady}
+use Rattle.file_strip.specs.inner.Keeping.{Keeps}
+use Rattle.file_strip.specs.inner.Ready.{IsReady}
 use Rattle.file_limits.specs.Limits.{IsLowestLimit}
 use Rattle.file_limits.specs.Wide.{wide}
 use Rattle.file_limits.proofs.LimitLaws.{small_of}

@@ -1,11 +1,11 @@
 use Rattle.std.proofs.Common.{◌+◌, ℕ, List, refl, inl, sym, subst, arith}
 use Rattle.program_types.specs.Content.{Name}
 use Rattle.tables_rows.specs.Stands.{TypesAt}
-use Rattle.file_limits.specs.Sum.{IsSum}
+use Rattle.file_limits.specs.inner.Sum.{IsSum}
 use Rattle.file_limits.specs.Wide.{wide_list}
 use Rattle.file_classes.specs.ClassData.{EntriesAt}
-use Rattle.file_classes.specs.Reading.{entries}
-use Rattle.file_strip.specs.Survey.{FindsNames, SpellsMembers, names_of_head, names_of_members, wide_members}
+use Rattle.file_classes.specs.inner.Reading.{entries}
+use Rattle.file_strip.specs.inner.Survey.{FindsNames, SpellsMembers, names_of_head, names_of_members, wide_members}
 use Rattle.file_strip.specs.declared.survey.Surveyed.{Surveyed}
 use Rattle.file_strip.proofs.ClassSteps.{class_names, spells_members}
 use Rattle.file_strip.proofs.FoundLaws.{finds_marked, finds_more, has_found_after}

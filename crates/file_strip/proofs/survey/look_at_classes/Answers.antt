@@ -5,11 +5,11 @@ use Rattle.program_types.specs.Content.{Program}
 use Rattle.program_types.specs.Mentions.{names_of_class}
 use Rattle.tables_names.specs.Closure.{Five, nothing, with_names}
 use Rattle.tables_rows.proofs.CachedLaws.{cached_none}
-use Rattle.file_renumber.specs.Marked.{AreMarks}
+use Rattle.file_renumber.specs.inner.Marked.{AreMarks}
 use Rattle.file_layout.specs.Sections.{wide_all}
-use Rattle.file_limits.specs.Sum.{IsSum}
+use Rattle.file_limits.specs.inner.Sum.{IsSum}
 use Rattle.file_limits.specs.Wide.{wide_class}
-use Rattle.file_strip.specs.Survey.{ArrayIsFound, CodeIsFound}
+use Rattle.file_strip.specs.inner.Survey.{ArrayIsFound, CodeIsFound}
 use Rattle.file_strip.proofs.ClassSteps.{class_at, needed_is, next_class, next_wide}
 use Rattle.file_strip.proofs.survey.look_at_classes.Goals as goal
 

@@ -6,10 +6,10 @@ use Rattle.program_types.specs.Mentions.{names_of_class}
 use Rattle.tables_names.specs.Closure.{nothing, with_names}
 use Rattle.tables_rows.specs.Names.{AreRows}
 use Rattle.file_layout.specs.Sections.{wide_all}
-use Rattle.file_limits.specs.Sum.{IsSum}
+use Rattle.file_limits.specs.inner.Sum.{IsSum}
 use Rattle.file_limits.specs.Wide.{wide_class}
 use Rattle.file_classes.specs.Classes.{SpellsClass}
-use Rattle.file_strip.specs.Survey.{AreFound}
+use Rattle.file_strip.specs.inner.Survey.{AreFound}
 use Rattle.file_strip.proofs.survey.look_at_classes.Given as goal
 
 abbrev pub invariant-loop-i : goal.invariant-loop-i

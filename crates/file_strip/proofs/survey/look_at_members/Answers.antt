@@ -3,13 +3,13 @@ use Rattle.std.specs.List.{flat_map}
 use Rattle.std.proofs.lemmas.List.{length-map}
 use Rattle.program_types.specs.Mentions.{field_of_class, names_of_method, names_of_value}
 use Rattle.file_layout.specs.Sections.{wide_all}
-use Rattle.file_limits.specs.Sum.{IsSum}
+use Rattle.file_limits.specs.inner.Sum.{IsSum}
 use Rattle.file_limits.specs.Wide.{bodies_in, wide_body}
 use Rattle.file_limits.proofs.SumLaws.{wide_all_append}
 use Rattle.dex_value.specs.Wide.{wide_values}
 use Rattle.program_types.specs.Content.{Class, values}
-use Rattle.file_classes.specs.Reading.{entries, field_entry, method_entry}
-use Rattle.file_strip.specs.Survey.{FindsNames, SpellsMembers}
+use Rattle.file_classes.specs.inner.Reading.{entries, field_entry, method_entry}
+use Rattle.file_strip.specs.inner.Survey.{FindsNames, SpellsMembers}
 use Rattle.file_strip.proofs.FoundLaws.{finds_marked, finds_more, has_found_after, has_marks}
 use Rattle.file_strip.proofs.survey.look_at_members.Goals as goal
 use Rattle.file_strip.proofs.survey.look_at_members.Goals.{In_ok-array, In_ok-mark_fields, In_ok-mark_fields-2}

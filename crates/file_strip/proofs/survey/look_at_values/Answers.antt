@@ -3,7 +3,7 @@ use Rattle.std.specs.List.{flat_map}
 use Rattle.program_types.specs.Mentions.{names_of_value}
 use Rattle.tables_names.specs.Closure.{with_names}
 use Rattle.tables_rows.proofs.CachedLaws.{cached_more}
-use Rattle.file_strip.specs.Survey.{ArrayIsFound}
+use Rattle.file_strip.specs.inner.Survey.{ArrayIsFound}
 use Rattle.file_strip.proofs.FoundLaws.{array_is_found, array_there, arrays_stay, codes_stay, finds_held}
 use Rattle.file_strip.proofs.survey.look_at_values.Goals as goal
 

@@ -3,7 +3,7 @@ use Rattle.program_types.specs.Content.{Class, OfDesc, OfText}
 use Rattle.program_types.specs.Mentions.{if_any}
 use Rattle.tables_rows.specs.Stands.{StringStands, TypeStands, TypesAt}
 use Rattle.file_renumber.proofs.MarkLemmas.{adds_more, has_marks_after}
-use Rattle.file_renumber.specs.Marked.{AddsNames}
+use Rattle.file_renumber.specs.inner.Marked.{AddsNames}
 use Rattle.file_classes.specs.Classes.{SpellsClass}
 use Rattle.file_classes.specs.ClassRows.{IndexOrNone}
 use Rattle.file_strip.proofs.survey.mark_head.Goals as goal

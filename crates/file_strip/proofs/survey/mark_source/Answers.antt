@@ -2,7 +2,7 @@ use Rattle.std.proofs.Common.{refl, sym, subst, Option, ◌∷◌, []}
 use Rattle.program_types.specs.Content.{OfText, Units}
 use Rattle.program_types.specs.Mentions.{if_any}
 use Rattle.tables_rows.specs.Stands.{StringStands}
-use Rattle.file_renumber.specs.Marked.{AddsNames}
+use Rattle.file_renumber.specs.inner.Marked.{AddsNames}
 use Rattle.file_strip.proofs.FoundLaws.{some_row}
 use Rattle.file_strip.proofs.survey.mark_source.Goals as goal
 

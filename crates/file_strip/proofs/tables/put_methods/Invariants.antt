@@ -1,9 +1,9 @@
-use Rattle.file_assemble.specs.Rows.{SpellsMethodRow}
+use Rattle.file_assemble.specs.inner.Rows.{SpellsMethodRow}
 use Rattle.program_types.specs.Content.{Program}
 use Rattle.program_types.specs.Key.{method_ref_key}
 use Rattle.tables_names.specs.Needed.{needed}
-use Rattle.file_strip.specs.Keeping.{Keeps}
-use Rattle.file_strip.specs.Tables.{AreFirstRows}
+use Rattle.file_strip.specs.inner.Keeping.{Keeps}
+use Rattle.file_strip.specs.inner.Tables.{AreFirstRows}
 use Rattle.file_strip.proofs.tables.put_methods.Given as goal
 
 abbrev pub invariant-loop-i : goal.invariant-loop-i

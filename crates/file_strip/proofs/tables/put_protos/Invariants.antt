@@ -1,7 +1,7 @@
 use Rattle.program_types.specs.Content.{Program}
 use Rattle.tables_names.specs.Needed.{needed}
-use Rattle.file_strip.specs.Keeping.{Keeps}
-use Rattle.file_strip.specs.Tables.{AreFirstProtos}
+use Rattle.file_strip.specs.inner.Keeping.{Keeps}
+use Rattle.file_strip.specs.inner.Tables.{AreFirstProtos}
 use Rattle.file_strip.proofs.tables.put_protos.Given as goal
 
 abbrev pub invariant-loop-i : goal.invariant-loop-i

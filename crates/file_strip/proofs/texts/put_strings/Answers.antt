@@ -1,12 +1,12 @@
 use Rattle.std.proofs.Common.{◌≡◌, ◌-◌, ℕ, [], length, get_or, sym, subst, ap, ◌∙◌, arith}
 use Rattle.dex_base.specs.Mutf8.{PacksText}
 use Rattle.dex_container.specs.Layout.{size_of, offset_of}
-use Rattle.file_layout.specs.Sections.{Laying, never}
-use Rattle.file_limits.specs.Wide.{text_values, wide_text}
+use Rattle.file_layout.specs.inner.Sections.{Laying, never}
+use Rattle.file_limits.specs.inner.Wide.{text_values, wide_text}
 use Rattle.file_assemble.proofs.ApartLaws.{texts_shared}
 use Rattle.tables_names.specs.Needed.{needed}
 use Rattle.file_renumber.proofs.ColumnLemmas.{table_size}
-use Rattle.file_strip.specs.Texts.{AreFirstTexts}
+use Rattle.file_strip.specs.inner.Texts.{AreFirstTexts}
 use Rattle.file_strip.proofs.KeepLaws.{number_is}
 use Rattle.file_strip.proofs.TextLaws.{strings_long, first_texts, all_texts, texts_count, texts_of_keys}
 use Rattle.file_strip.proofs.texts.put_strings.Goals as goal

@@ -1,6 +1,6 @@
 use Rattle.program_types.specs.Content.{Program}
-use Rattle.file_strip.specs.Keeping.{Keeps}
-use Rattle.file_strip.specs.Texts.{AreFirstTexts}
+use Rattle.file_strip.specs.inner.Keeping.{Keeps}
+use Rattle.file_strip.specs.inner.Texts.{AreFirstTexts}
 use Rattle.file_strip.proofs.texts.put_strings.Given as goal
 
 abbrev pub invariant-loop-i : goal.invariant-loop-i

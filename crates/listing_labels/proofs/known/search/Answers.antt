@@ -1,7 +1,7 @@
 use Rattle.std.proofs.Common.{◌∙◌, sym, ap, rules, []}
 use Rattle.std.proofs.lemmas.Fn.{always_returns_same}
-use Rattle.listing_labels.specs.Order.{shortlex}
-use Rattle.listing_labels.specs.View.{place_in}
+use Rattle.listing_labels.specs.inner.Order.{shortlex}
+use Rattle.listing_labels.specs.inner.View.{place_in}
 use Rattle.listing_labels.proofs.OrderLaws.{above_missing, searched}
 use Rattle.listing_labels.proofs.known.search.Goals as goal
 

@@ -1,7 +1,8 @@
 use Rattle.std.proofs.Common.{◌∙◌, sym, ap, arith, refl, ℕ, List}
 use Rattle.listing_words.specs.Words.{up_to_space}
 use Rattle.listing_labels.specs.Lines.{is_comment}
-use Rattle.listing_labels.specs.Labels.{labels_ahead, insns_ahead, is_mark, is_stop}
+use Rattle.listing_labels.specs.Labels.{labels_ahead, is_mark, is_stop}
+use Rattle.listing_labels.specs.inner.Labels.{insns_ahead}
 use Rattle.listing_labels.proofs.AheadLaws.{ahead_none, ahead_skips, ahead_stops, ahead_marks, ahead_counts, count_none, count_skips, count_stops, count_marks, count_counts, marks}
 use Rattle.listing_labels.proofs.labels.look_ahead.Goals as goal
 use Rattle.listing_labels.proofs.labels.look_ahead.Goals.{then-not-is_comment+else-is_stop+then-is_mark+in_ok-put, then-not-is_comment+else-is_stop+else-is_mark, else-not-is_comment}

@@ -1,6 +1,7 @@
 use Rattle.std.proofs.Common.{◌≡◌, ◌≤◌, ◌+◌, [], length}
 use Rattle.listing_labels.specs.Lines.{lines}
-use Rattle.listing_labels.specs.Labels.{labels_ahead, insns_ahead}
+use Rattle.listing_labels.specs.Labels.{labels_ahead}
+use Rattle.listing_labels.specs.inner.Labels.{insns_ahead}
 use Rattle.listing_labels.proofs.labels.look_ahead.Given as goal
 
 abbrev pub invariant-loop-next : goal.invariant-loop-next

@@ -1,5 +1,5 @@
 use Rattle.std.proofs.Common.{arith, [], ◌∷◌, map}
-use Rattle.listing_slots.specs.View.{datum}
+use Rattle.listing_slots.specs.inner.View.{datum}
 use Rattle.std.proofs.lemmas.List.{append-nil, map-append}
 use Rattle.listing_slots.proofs.OperandLaws.{data_push, stay_more}
 use Rattle.listing_labels.proofs.SpellLaws.{all_end, all_more, bad_more, bad_here}

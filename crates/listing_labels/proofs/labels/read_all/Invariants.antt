@@ -1,8 +1,8 @@
 use Rattle.std.proofs.Common.{ℕ, ◌+◌, ◌≤◌, List, ◌++◌, length, map, drop, vec_len, vec_capacity}
-use Rattle.listing_words.specs.View.{word}
+use Rattle.listing_words.specs.inner.View.{word}
 use Rattle.listing_slots.specs.Data.{Datum}
-use Rattle.listing_slots.specs.ValidNames.{StayValid}
-use Rattle.listing_slots.specs.View.{datum}
+use Rattle.listing_slots.specs.inner.ValidNames.{StayValid}
+use Rattle.listing_slots.specs.inner.View.{datum}
 use Rattle.listing_labels.specs.Labels.{SpellsAll, MisspellsAll}
 use Rattle.listing_labels.proofs.labels.read_all.Given as goal
 

@@ -1,6 +1,6 @@
 use Rattle.std.proofs.Common.{ap, map, Option}
 use Rattle.dex_insn.specs.declared.opcode.Format.{Format}
-use Rattle.listing_slots.specs.View.{datum}
+use Rattle.listing_slots.specs.inner.View.{datum}
 use Rattle.listing_lines.specs.Lines.{insn_of}
 use Rattle.listing_lines.proofs.lines.make_insn.Goals as goal
 

@@ -1,7 +1,7 @@
 use Rattle.std.proofs.Common.{◌∙◌, ap, inl, inr, ◌++◌, ◌∷◌, []}
 use Rattle.listing_slots.specs.declared.datum.Datum.TheVariants as made
 use Rattle.listing_slots.specs.declared.key.Key.TheVariants as key
-use Rattle.listing_slots.specs.View.{datum}
+use Rattle.listing_slots.specs.inner.View.{datum}
 use Rattle.listing_slots.specs.Data.{word_of}
 use Rattle.listing_lines.proofs.LineLaws.{between_start, between_step}
 use Rattle.listing_lines.proofs.lines.words_between.Goals as goal

@@ -1,5 +1,5 @@
 use Rattle.std.proofs.Common.{◌≡◌, map, take}
-use Rattle.listing_slots.specs.View.{datum}
+use Rattle.listing_slots.specs.inner.View.{datum}
 use Rattle.listing_slots.specs.Data.{word_of}
 use Rattle.listing_lines.proofs.lines.words_of.Given as goal
 

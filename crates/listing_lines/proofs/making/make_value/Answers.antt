@@ -1,6 +1,6 @@
 use Rattle.std.proofs.Common.{◌∙◌, map, arith}
-use Rattle.listing_slots.specs.View.{datum}
-use Rattle.listing_lines.specs.MakingView.{making}
+use Rattle.listing_slots.specs.inner.View.{datum}
+use Rattle.listing_lines.specs.inner.MakingView.{making}
 use Rattle.listing_lines.proofs.MakingLaws.{fold_start, fold_end, none_made, one_made}
 use Rattle.listing_lines.proofs.making.make_value.Goals as goal
 

@@ -1,6 +1,6 @@
 use Rattle.std.proofs.Common.{◌≡◌, map, drop}
 use Rattle.listing_lines.specs.Needs.{first_late}
-use Rattle.listing_lines.specs.NeedView.{need}
+use Rattle.listing_lines.specs.inner.NeedView.{need}
 use Rattle.listing_lines.proofs.needs.first_late.Given as goal
 
 abbrev pub invariant-loop-one : goal.invariant-loop-one

@@ -1,7 +1,7 @@
 use Rattle.std.proofs.Common.{◌≡◌, map, take}
 use Rattle.program_types.specs.View.{value}
 use Rattle.listing_parse.specs.Members.{value_or_zero}
-use Rattle.listing_parse.specs.View.{given}
+use Rattle.listing_parse.specs.inner.View.{given}
 use Rattle.listing_parse.proofs.close.alloc_values.Given as goal
 
 abbrev pub invariant-loop-i : goal.invariant-loop-i

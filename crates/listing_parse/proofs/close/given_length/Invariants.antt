@@ -1,6 +1,6 @@
 use Rattle.std.proofs.Common.{◌≡◌, ◌≤◌, map, drop}
 use Rattle.listing_parse.specs.Members.{given_length}
-use Rattle.listing_parse.specs.View.{given}
+use Rattle.listing_parse.specs.inner.View.{given}
 use Rattle.listing_parse.proofs.CloseLaws.{ends_at}
 use Rattle.listing_parse.proofs.close.given_length.Given as goal
 

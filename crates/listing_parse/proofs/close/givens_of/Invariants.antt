@@ -1,5 +1,5 @@
 use Rattle.std.proofs.Common.{◌≡◌, ◌++◌, map}
-use Rattle.listing_parse.specs.View.{given, held_static}
+use Rattle.listing_parse.specs.inner.View.{given, held_static}
 use Rattle.listing_parse.proofs.close.givens_of.Given as goal
 
 abbrev pub invariant-loop-key : goal.invariant-loop-key

@@ -1,6 +1,6 @@
 use Rattle.std.proofs.Common.{◌≡◌, ◌++◌, map}
 use Rattle.program_types.specs.View.{member}
-use Rattle.listing_parse.specs.View.{held_instance}
+use Rattle.listing_parse.specs.inner.View.{held_instance}
 use Rattle.listing_parse.proofs.close.instances_of.Given as goal
 
 abbrev pub invariant-loop-key : goal.invariant-loop-key

@@ -1,6 +1,6 @@
 use Rattle.std.proofs.Common.{◌≡◌, ◌++◌, map}
 use Rattle.program_types.specs.View.{method}
-use Rattle.listing_parse.specs.View.{held_method}
+use Rattle.listing_parse.specs.inner.View.{held_method}
 use Rattle.listing_parse.proofs.close.methods_of.Given as goal
 
 abbrev pub invariant-loop-key : goal.invariant-loop-key

@@ -1,5 +1,5 @@
 use Rattle.std.proofs.Common.{Some, map, refl, sym, ap, ◌∙◌}
-use Rattle.listing_parse.specs.View.{held_method}
+use Rattle.listing_parse.specs.inner.View.{held_method}
 use Rattle.listing_parse.proofs.EntryLaws.{method_coded, method_uncoded}
 use Rattle.listing_parse.proofs.close.set_code.Goals as goal
 

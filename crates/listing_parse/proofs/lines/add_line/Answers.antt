@@ -1,8 +1,8 @@
 use Rattle.std.proofs.Common.{◌∙◌, sym, subst, map}
 use Rattle.std.proofs.lemmas.Result.{IfErr-weaker}
-use Rattle.listing_words.specs.View.{word}
-use Rattle.listing_parse.specs.Named.{ReadingIsNamed}
-use Rattle.listing_parse.specs.ReadingView.{reading}
+use Rattle.listing_words.specs.inner.View.{word}
+use Rattle.listing_parse.specs.inner.Named.{ReadingIsNamed}
+use Rattle.listing_parse.specs.inner.ReadingView.{reading}
 use Rattle.listing_parse.proofs.NamedLaws.{second_named}
 use Rattle.listing_parse.proofs.RefusedLaws.{unsaid_refused}
 use Rattle.listing_parse.proofs.lines.add_line.Goals as goal

@@ -1,12 +1,12 @@
 use Rattle.std.proofs.Common.{◌∙◌, sym, ap, ℕ, ◌+◌, map, Some}
 use Rattle.std.proofs.lemmas.Result.{on_ok_weaker}
-use Rattle.listing_words.specs.View.{word}
-use Rattle.listing_slots.specs.View.{datum}
-use Rattle.listing_slots.specs.ShapeView.{shape}
-use Rattle.listing_parse.specs.View.{state}
+use Rattle.listing_words.specs.inner.View.{word}
+use Rattle.listing_slots.specs.inner.View.{datum}
+use Rattle.listing_slots.specs.inner.ShapeView.{shape}
+use Rattle.listing_parse.specs.inner.View.{state}
 use Rattle.listing_labels.specs.Lines.{lines}
 use Rattle.listing_parse.specs.Text.{Reading, labels_after}
-use Rattle.listing_parse.specs.ReadingView.{reading}
+use Rattle.listing_parse.specs.inner.ReadingView.{reading}
 use Rattle.listing_parse.proofs.NamedLaws.{said_named}
 use Rattle.listing_parse.proofs.RefusedLaws.{shapeless, misplaced, misspelled, twice, taken}
 use Rattle.listing_parse.proofs.lines.add_says.Goals as goal

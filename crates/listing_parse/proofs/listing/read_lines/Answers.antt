@@ -1,9 +1,9 @@
 use Rattle.std.proofs.Common.{◌≡◌, ◌∙◌, ◌+◌, refl, sym, ap, subst, arith, List, ℕ, length, ◌++◌, ◌∷◌, []}
 use Rattle.std.proofs.lemmas.List.{length_push}
 use Rattle.listing_labels.specs.Lines.{lines}
-use Rattle.listing_parse.specs.Named.{StateIsNamed}
+use Rattle.listing_parse.specs.inner.Named.{StateIsNamed}
 use Rattle.listing_parse.specs.Text.{Reading, begin, Reads}
-use Rattle.listing_parse.specs.ReadingView.{reading}
+use Rattle.listing_parse.specs.inner.ReadingView.{reading}
 use Rattle.listing_parse.proofs.NamedLaws.{first_named}
 use Rattle.listing_parse.proofs.ReadingLaws.{Reads-push, lines_push, bad_line, lines_in, base_of, all_read, read_whole}
 use Rattle.listing_parse.proofs.listing.read_lines.Goals as goal

@@ -1,8 +1,8 @@
 use Rattle.std.proofs.Common.{◌≡◌, ◌≤◌, ◌+◌, ◌++◌, ℕ, List, length}
 use Rattle.listing_labels.specs.Lines.{lines}
-use Rattle.listing_parse.specs.Named.{ReadingIsNamed}
+use Rattle.listing_parse.specs.inner.Named.{ReadingIsNamed}
 use Rattle.listing_parse.specs.Text.{begin, Reads}
-use Rattle.listing_parse.specs.ReadingView.{reading}
+use Rattle.listing_parse.specs.inner.ReadingView.{reading}
 use Rattle.listing_parse.proofs.listing.read_lines.Given as goal
 
 abbrev pub invariant-loop-line : goal.invariant-loop-line

@@ -1,8 +1,8 @@
 use Rattle.std.proofs.Common.{◌∙◌, sym, subst}
 use Rattle.std.specs.List.{AllByRecursion}
 use Rattle.program_rules.specs.Rules.{CodesHold}
-use Rattle.program_rules.specs.Valid.{InsnsAreNamed}
-use Rattle.listing_parse.specs.View.{state}
+use Rattle.program_rules.specs.inner.Valid.{InsnsAreNamed}
+use Rattle.listing_parse.specs.inner.View.{state}
 use Rattle.listing_parse.proofs.ReadingLaws.{lines_of, whole_text, unfinished_text, unruly_text}
 use Rattle.listing_parse.proofs.listing.read_program.Goals as goal
 use Rattle.dex_base.proofs.ListFacts.{passed}

@@ -1,6 +1,6 @@
 use Rattle.std.proofs.Common.{◌∙◌, ◌+◌, ◌++◌, ◌∷◌, [], ℕ, List, take, get_or, subst}
 use Rattle.std.proofs.lemmas.List.{take_all, take_more}
-use Rattle.listing_print.specs.Marks.{IsMarked}
+use Rattle.listing_print.specs.inner.Marks.{IsMarked}
 use Rattle.listing_print.proofs.MarkLaws.{marked_join}
 use Rattle.listing_print.proofs.marks.mark_all.Goals as goal
 

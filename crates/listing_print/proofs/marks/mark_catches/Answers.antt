@@ -3,7 +3,7 @@ use Rattle.std.proofs.lemmas.List.{take_all}
 use Rattle.program_types.specs.Content as content
 use Rattle.program_types.specs.View.{catch}
 use Rattle.program_types.specs.declared.code.Catch.{Catch}
-use Rattle.listing_print.specs.Marks.{IsMarked}
+use Rattle.listing_print.specs.inner.Marks.{IsMarked}
 use Rattle.listing_print.proofs.MarkLaws.{marked_join, map_more}
 use Rattle.listing_print.proofs.marks.mark_catches.Goals as goal
 

@@ -1,7 +1,7 @@
 use Rattle.std.proofs.Common.{◌≡◌, ◌++◌, ℕ, List, length, map, take}
 use Rattle.program_types.specs.Content.{Catch}
 use Rattle.program_types.specs.View.{catch}
-use Rattle.listing_print.specs.Marks.{IsMarked}
+use Rattle.listing_print.specs.inner.Marks.{IsMarked}
 use Rattle.listing_print.proofs.marks.mark_catches.Given as goal
 
 abbrev pub invariant-loop-i : goal.invariant-loop-i

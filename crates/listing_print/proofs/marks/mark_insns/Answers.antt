@@ -4,7 +4,7 @@ use Rattle.std.proofs.lemmas.List.{take_all}
 use Rattle.program_types.specs.View.{insn}
 use Rattle.program_types.specs.Formed.{insn_leads}
 use Rattle.program_types.specs.declared.insn.Insn.{Insn}
-use Rattle.listing_print.specs.Marks.{IsMarked}
+use Rattle.listing_print.specs.inner.Marks.{IsMarked}
 use Rattle.listing_print.proofs.MarkLaws.{marked_join, flat_more}
 use Rattle.listing_print.proofs.marks.mark_insns.Goals as goal
 

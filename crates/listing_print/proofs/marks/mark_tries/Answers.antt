@@ -4,7 +4,7 @@ use Rattle.std.proofs.lemmas.List.{take_all}
 use Rattle.program_types.specs.View.{try}
 use Rattle.program_types.specs.declared.code.Try.{Try}
 use Rattle.listing_print.specs.Canon.{try_numbers}
-use Rattle.listing_print.specs.Marks.{IsMarked}
+use Rattle.listing_print.specs.inner.Marks.{IsMarked}
 use Rattle.listing_print.proofs.MarkLaws.{marked_join, flat_more}
 use Rattle.listing_print.proofs.marks.mark_tries.Goals as goal
 

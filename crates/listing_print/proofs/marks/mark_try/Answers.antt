@@ -2,7 +2,7 @@ use Rattle.std.proofs.Common.{◌∷◌, [], ℕ, List, map, sym, subst}
 use Rattle.std.proofs.lemmas.List.{append-nil}
 use Rattle.program_types.specs.Content as content
 use Rattle.program_types.specs.View.{catch}
-use Rattle.listing_print.specs.Marks.{IsMarked}
+use Rattle.listing_print.specs.inner.Marks.{IsMarked}
 use Rattle.listing_print.proofs.MarkLaws.{marked_try}
 use Rattle.listing_print.proofs.marks.mark_try.Goals as goal
 

@@ -1,7 +1,7 @@
 use Rattle.std.proofs.Common.{rules, ◌≡◌, List, [], Bool, length, sym, subst}
 use Rattle.program_types.specs.View.{code}
 use Rattle.listing_print.specs.Canon.{code_numbers}
-use Rattle.listing_print.specs.Marks.{IsMarked}
+use Rattle.listing_print.specs.inner.Marks.{IsMarked}
 use Rattle.listing_print.proofs.MarkLaws.{whole_written, none_marked}
 use Rattle.listing_print.proofs.marks.marks_of.Goals as goal
 

@@ -1,5 +1,5 @@
 use Rattle.std.proofs.Common.{◌∙◌, sym, arith, ◌-◌, rules, map, drop}
-use Rattle.listing_words.specs.View.{word}
+use Rattle.listing_words.specs.inner.View.{word}
 use Rattle.listing_slots.proofs.FormLaws.{close_none, close_end, close_here, close_more}
 use Rattle.listing_slots.proofs.forms.before_close.Goals as goal
 

@@ -1,5 +1,5 @@
 use Rattle.std.proofs.Common.{◌≡◌, drop, map}
-use Rattle.listing_words.specs.View.{word}
+use Rattle.listing_words.specs.inner.View.{word}
 use Rattle.listing_slots.specs.Slots.{have_forms}
 use Rattle.listing_slots.proofs.forms.have_forms.Given as goal
 

@@ -1,9 +1,9 @@
 use Rattle.std.proofs.Common.{ℕ, List, ◌++◌, map, drop}
-use Rattle.listing_words.specs.View.{word}
+use Rattle.listing_words.specs.inner.View.{word}
 use Rattle.listing_slots.specs.Data.{Datum}
 use Rattle.listing_slots.specs.Slots.{SpellsSlots, MisspellsSlots}
-use Rattle.listing_slots.specs.ValidNames.{StayValid}
-use Rattle.listing_slots.specs.View.{datum}
+use Rattle.listing_slots.specs.inner.ValidNames.{StayValid}
+use Rattle.listing_slots.specs.inner.View.{datum}
 use Rattle.listing_slots.proofs.read.read_operands.Given as goal
 
 abbrev pub invariant-loop-i : goal.invariant-loop-i

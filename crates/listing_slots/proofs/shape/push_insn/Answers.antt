@@ -1,5 +1,5 @@
 use Rattle.std.proofs.Common.{map}
-use Rattle.listing_words.specs.View.{word}
+use Rattle.listing_words.specs.inner.View.{word}
 use Rattle.listing_slots.proofs.ShapeLaws.{payload_found, payload_none, plain_found, plain_none}
 use Rattle.listing_slots.proofs.shape.push_insn.Goals as goal
 

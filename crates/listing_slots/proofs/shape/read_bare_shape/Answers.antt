@@ -1,5 +1,5 @@
 use Rattle.std.proofs.Common.{map, sym, ap, ◌∙◌, inr}
-use Rattle.listing_words.specs.View.{word}
+use Rattle.listing_words.specs.inner.View.{word}
 use Rattle.listing_words.specs.Words.{plain_word}
 use Rattle.listing_slots.proofs.ShapeLaws.{bare_none, bare_only, bare_keyed_only, bare_shape, bare_lengths, keyed_lengths, keyed_line, made_all, made_none, first_is, empty_is}
 use Rattle.listing_slots.proofs.shape.read_bare_shape.Goals as goal

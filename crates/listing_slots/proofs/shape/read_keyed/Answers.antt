@@ -1,5 +1,5 @@
 use Rattle.std.proofs.Common.{map, sym, ◌∙◌}
-use Rattle.listing_words.specs.View.{word}
+use Rattle.listing_words.specs.inner.View.{word}
 use Rattle.listing_slots.proofs.ShapeLaws.{keyed_found, keyed_none, keyed_formless}
 use Rattle.listing_slots.proofs.shape.read_keyed.Goals as goal
 

@@ -1,5 +1,5 @@
 use Rattle.std.proofs.Common.{map, sym, ap, ◌∙◌}
-use Rattle.listing_words.specs.View.{word}
+use Rattle.listing_words.specs.inner.View.{word}
 use Rattle.listing_words.specs.Words.{plain_word}
 use Rattle.listing_slots.proofs.ShapeLaws.{insn_found, insn_none, insn_formless, insn_empty, first_is, empty_is}
 use Rattle.listing_slots.proofs.shape.read_labelled.Goals as goal

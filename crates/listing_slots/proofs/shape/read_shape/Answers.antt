@@ -1,5 +1,5 @@
 use Rattle.std.proofs.Common.{map, sym, ap, ◌∙◌, true, false, ◌≡◌, inr}
-use Rattle.listing_words.specs.View.{word}
+use Rattle.listing_words.specs.inner.View.{word}
 use Rattle.listing_words.specs.Words.{plain_word}
 use Rattle.listing_slots.proofs.ShapeLaws.{labelled_shape, labelled_only, keyed_line, keyed_only, made_all, made_none, no_words, first_is, empty_is, keyed_lengths, insn_lengths, leadless}
 use Rattle.listing_slots.proofs.shape.read_shape.Goals as goal

@@ -1,7 +1,8 @@
 use Rattle.std.proofs.Common.{◌≡◌, ◌≤◌, drop, map}
-use Rattle.listing_words.specs.View.{word}
+use Rattle.listing_words.specs.inner.View.{word}
 use Rattle.listing_slots.specs.declared.due.Due.TheVariants as due
-use Rattle.listing_slots.specs.Shapes.{value_slots, depth_of}
+use Rattle.listing_slots.specs.Shapes.{value_slots}
+use Rattle.listing_slots.specs.inner.Shapes.{depth_of}
 use Rattle.listing_slots.proofs.ValueSlotLaws.{after_slots}
 use Rattle.listing_slots.proofs.values.push_value.Given as goal
 

@@ -1,6 +1,6 @@
 use Rattle.std.proofs.Common.{arith, length, take, ◌<◌, ap}
 use Rattle.std.proofs.lemmas.List.{map-append}
-use Rattle.listing_words.specs.Names.{TakesDescriptor}
+use Rattle.listing_words.specs.inner.Names.{TakesDescriptor}
 use Rattle.listing_words.proofs.TakingLaws.{Each-push}
 use Rattle.listing_words.proofs.NameLaws.{no_front, front_taken}
 use Rattle.listing_words.proofs.names.read_params.Goals as goal

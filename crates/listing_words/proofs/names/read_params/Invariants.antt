@@ -1,7 +1,7 @@
 use Rattle.std.proofs.Common.{length, map}
 use Rattle.program_types.specs.View.{desc}
 use Rattle.listing_words.specs.Taking.{EachTaken}
-use Rattle.listing_words.specs.Names.{TakesDescriptor}
+use Rattle.listing_words.specs.inner.Names.{TakesDescriptor}
 use Rattle.listing_words.proofs.names.read_params.Given as goal
 
 abbrev pub invariant-loop-n : goal.invariant-loop-n

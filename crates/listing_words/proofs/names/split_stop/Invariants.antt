@@ -1,5 +1,5 @@
 use Rattle.std.proofs.Common.{◌≡◌, ◌++◌, take, drop}
-use Rattle.listing_words.specs.Names.{up_to, from}
+use Rattle.listing_words.specs.inner.Names.{up_to, from}
 use Rattle.listing_words.proofs.names.split_stop.Given as goal
 
 abbrev pub invariant-loop-end : goal.invariant-loop-end

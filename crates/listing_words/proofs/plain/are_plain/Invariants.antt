@@ -1,5 +1,5 @@
 use Rattle.std.proofs.Common.{ℕ, ◌<◌, get_or, IsTrue}
-use Rattle.listing_words.specs.Plain.{IsPlainFrom}
+use Rattle.listing_words.specs.inner.Plain.{IsPlainFrom}
 use Rattle.listing_words.proofs.plain.are_plain.Given as goal
 
 abbrev pub invariant-loop-unit : goal.invariant-loop-unit

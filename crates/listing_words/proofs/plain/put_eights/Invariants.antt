@@ -1,5 +1,5 @@
 use Rattle.std.proofs.Common.{◌*◌}
-use Rattle.listing_words.specs.Plain.{IsFront}
+use Rattle.listing_words.specs.inner.Plain.{IsFront}
 use Rattle.listing_words.proofs.plain.put_eights.Given as goal
 
 abbrev pub invariant-loop-i : goal.invariant-loop-i

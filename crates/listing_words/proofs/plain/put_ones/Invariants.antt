@@ -1,4 +1,4 @@
-use Rattle.listing_words.specs.Plain.{IsFront}
+use Rattle.listing_words.specs.inner.Plain.{IsFront}
 use Rattle.listing_words.proofs.plain.put_ones.Given as goal
 
 abbrev pub invariant-loop-i : goal.invariant-loop-i

@@ -1,5 +1,5 @@
 use Rattle.std.proofs.Common.{ℕ, ◌-◌, ◌<◌, get_or}
-use Rattle.listing_words.specs.Runs.{IsOf}
+use Rattle.listing_words.specs.inner.Runs.{IsOf}
 use Rattle.listing_words.proofs.runs.run.Given as goal
 
 abbrev pub invariant-loop-at : goal.invariant-loop-at

@@ -1,5 +1,5 @@
 use Rattle.std.proofs.Common.{ℕ, ◌<◌, ◌+◌}
-use Rattle.program_code_rules.specs.Parts.{KeyIsBelow}
+use Rattle.program_code_rules.specs.inner.Parts.{KeyIsBelow}
 use Rattle.program_code_rules.proofs.operands.keys_rise.Given as goal
 
 abbrev pub invariant-loop-k : goal.invariant-loop-k

@@ -3,7 +3,7 @@ use Rattle.std.proofs.lemmas.Bool.{cases_lt}
 use Rattle.std.proofs.lemmas.List.{length-map, take_at, get_or_append_left}
 use Rattle.std.proofs.Math.Seq.{get_or-append_seam}
 use Rattle.program_types.specs.View.{insn}
-use Rattle.program_code_rules.specs.Branches.{AreOrigins}
+use Rattle.program_code_rules.specs.inner.Branches.{AreOrigins}
 use Rattle.program_code_rules.proofs.origins.origins_of.Goals as goal
 
 pub loop-k-preserved : goal.loop-k-preserved

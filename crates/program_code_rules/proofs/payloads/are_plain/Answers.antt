@@ -2,7 +2,7 @@ use Rattle.std.proofs.Common.{rules, ◌≡◌, ◌∙◌, ap, arith, below_more
 use Rattle.std.proofs.lemmas.List.{get_or-map}
 use Rattle.program_types.specs.Formed.{insn_at}
 use Rattle.program_types.specs.View.{insn}
-use Rattle.program_code_rules.specs.Parts.{HasNoPayload}
+use Rattle.program_code_rules.specs.inner.Parts.{HasNoPayload}
 use Rattle.program_code_rules.proofs.payloads.are_plain.Goals as goal
 
 pub returns-then-not-is_plain : goal.returns-then-not-is_plain

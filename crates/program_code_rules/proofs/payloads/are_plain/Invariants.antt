@@ -2,7 +2,7 @@ use Rattle.std.proofs.Common.{map}
 use Rattle.program_types.specs.Formed.{insn_at}
 use Rattle.program_types.specs.View.{insn}
 use Rattle.program_code_rules.specs.First.{AllHold}
-use Rattle.program_code_rules.specs.Parts.{HasNoPayload}
+use Rattle.program_code_rules.specs.inner.Parts.{HasNoPayload}
 use Rattle.program_code_rules.proofs.payloads.are_plain.Given as goal
 
 abbrev pub invariant-loop-k : goal.invariant-loop-k

@@ -1,7 +1,7 @@
 use Rattle.std.proofs.Common.{◌↔◌, map, drop}
 use Rattle.std.specs.List.{AllByRecursion}
 use Rattle.program_types.specs.View.{insn}
-use Rattle.program_rules.specs.Valid.{InsnIsNamed}
+use Rattle.program_rules.specs.inner.Valid.{InsnIsNamed}
 use Rattle.program_rules.proofs.bodies.insns_are_valid.Given as goal
 
 abbrev pub invariant-loop-each : goal.invariant-loop-each

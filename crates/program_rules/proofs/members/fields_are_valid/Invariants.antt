@@ -1,7 +1,7 @@
 use Rattle.std.proofs.Common.{◌↔◌, map, drop}
 use Rattle.std.specs.List.{AllByRecursion}
 use Rattle.program_types.specs.View.{member}
-use Rattle.program_rules.specs.Parts.{FieldIsValid}
+use Rattle.program_rules.specs.inner.Parts.{FieldIsValid}
 use Rattle.program_rules.proofs.members.fields_are_valid.Given as goal
 
 abbrev pub invariant-loop-each : goal.invariant-loop-each

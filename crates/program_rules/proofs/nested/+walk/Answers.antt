@@ -1,6 +1,6 @@
 use Rattle.std.proofs.Common.{subst}
 use Rattle.program_types.specs.View.{value}
-use Rattle.program_rules.specs.Nested.{IsWalked, IsLook}
+use Rattle.program_rules.specs.inner.Nested.{IsWalked, IsLook}
 use Rattle.program_rules.specs.declared.nested.Look.{Look}
 use Rattle.program_types.specs.declared.value.Value.{Value as Held}
 use Rattle.program_rules.proofs.NestedLaws.{look-deeper, look-whole}

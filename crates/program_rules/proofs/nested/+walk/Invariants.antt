@@ -1,6 +1,6 @@
 use Rattle.std.proofs.Common.{◌+◌, ◌*◌}
 use Rattle.program_types.specs.View.{value}
-use Rattle.program_rules.specs.Nested.{IsLook, IsSoFar}
+use Rattle.program_rules.specs.inner.Nested.{IsLook, IsSoFar}
 use Rattle.program_rules.proofs.NestedLaws.{rest_of}
 use Rattle.program_rules.proofs.nested.+walk.Given as goal
 

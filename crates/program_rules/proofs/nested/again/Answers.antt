@@ -1,6 +1,6 @@
 use Rattle.std.proofs.Common.{subst}
 use Rattle.program_types.specs.View.{value}
-use Rattle.program_rules.specs.Nested.{IsWalked}
+use Rattle.program_rules.specs.inner.Nested.{IsWalked}
 use Rattle.program_rules.specs.declared.nested.Walked.{Walked}
 use Rattle.program_rules.proofs.NestedLaws.{walked-deeper}
 use Rattle.program_rules.proofs.nested.again.Goals as goal

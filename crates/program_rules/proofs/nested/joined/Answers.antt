@@ -1,6 +1,6 @@
 use Rattle.std.proofs.Common.{get_or, subst}
 use Rattle.program_types.specs.View.{value}
-use Rattle.program_rules.specs.Nested.{IsWalked, IsSoFar}
+use Rattle.program_rules.specs.inner.Nested.{IsWalked, IsSoFar}
 use Rattle.program_rules.specs.declared.nested.Walked.{Walked}
 use Rattle.program_rules.specs.declared.nested.Look.{Look}
 use Rattle.program_rules.proofs.NestedLaws.{good-at, one-left}

@@ -4,5 +4,5 @@ use Rattle.program_types.specs.View.{desc}
 use Rattle.program_rules.proofs.NumberLaws.{distinct-by}
 use Rattle.program_rules.proofs.numbers.are_distinct_in.Goals as goal
 
-pub returns-clause-ok : goal.returns-clause-ok
-returns-clause-ok c = distinct-by (map desc c.args.list.now) (length c.args.list.now) (sym (length-map c.args.list.now desc)) _ c.in_ok-numbers.ensures.ok.again _ c.is_none.ensures
+pub returns : goal.returns
+returns c = record { ok = distinct-by (map desc c.args.list.now) (length c.args.list.now) (sym (length-map c.args.list.now desc)) _ c.in_ok-numbers.ensures.ok.again _ c.is_none.ensures }

@@ -1,6 +1,6 @@
 use Rattle.std.proofs.Common.{map}
 use Rattle.program_types.specs.View.{desc}
-use Rattle.program_rules.specs.Numbers.{AreNumbers}
+use Rattle.program_rules.specs.inner.Numbers.{AreNumbers}
 use Rattle.program_rules.proofs.numbers.numbers_of.Given as goal
 
 abbrev pub invariant-loop-k : goal.invariant-loop-k

@@ -3,7 +3,7 @@ use Rattle.program_types.specs.View.{class}
 use Rattle.program_rules.proofs.NumberLaws.{not-yet}
 use Rattle.program_rules.proofs.OrderLaws.{class-at, first-broken, one-more, all-kept}
 use Rattle.program_rules.specs.Rules.{CodesHold}
-use Rattle.program_rules.specs.Valid.{InsnsAreNamed}
+use Rattle.program_rules.specs.inner.Valid.{InsnsAreNamed}
 use Rattle.program_rules.proofs.program.check_classes.Goals as goal
 use Rattle.dex_base.proofs.ListFacts.{passed, all_at}
 

@@ -1,6 +1,6 @@
 use Rattle.std.proofs.Common.{◌≡◌, map, take}
 use Rattle.program_types.specs.View.{class, desc}
-use Rattle.program_rules.specs.Numbers.{types}
+use Rattle.program_rules.specs.inner.Numbers.{types}
 use Rattle.program_rules.proofs.program.types_of.Given as goal
 
 abbrev pub invariant-loop-one : goal.invariant-loop-one

@@ -1,4 +1,4 @@
-use Rattle.program_types.specs.KeyLaws.{key_cmp-total, key_cmp-same}
+use Rattle.program_types.specs.inner.KeyLaws.{key_cmp-total, key_cmp-same}
 use Rattle.program_types.proofs.compare.key_laws.Goals as goal
 
 pub returns-clause-total : goal.returns-clause-total

@@ -1,6 +1,6 @@
 use Rattle.std.proofs.Common.{◌≡◌, refl, sym, ap, subst, ◌∙◌, true≢false, nat_cmp, ◌∷◌}
 use Rattle.std.specs.Cmp.Lexicographic.{slice_cmp}
-use Rattle.tables_rows.specs.Halves.{halves}
+use Rattle.tables_rows.specs.inner.Halves.{halves}
 use Rattle.tables_rows.specs.RowFields.{proto_return}
 use Rattle.tables_rows.specs.Stands.{SpellsIndexes}
 use Rattle.dex_container.specs.Where.{AtOrNone}

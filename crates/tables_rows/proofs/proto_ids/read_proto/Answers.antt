@@ -1,7 +1,7 @@
 use Rattle.std.proofs.Common.{◌∙◌, ◌∷◌, refl, sym, ap, map, subst, true≢false}
 use Rattle.program_types.specs.Shorty.{letter_of}
 use Rattle.program_types.specs.View.{str, desc}
-use Rattle.tables_rows.specs.Known.{IsKnown}
+use Rattle.tables_rows.specs.inner.Known.{IsKnown}
 use Rattle.tables_rows.specs.Stands.{StringStands}
 use Rattle.tables_rows.specs.TableFaults.{ParametersAt, ParameterList, Shorty}
 use Rattle.tables_rows.proofs.CachedLaws.{cached_more}

@@ -1,6 +1,6 @@
 use Rattle.std.proofs.Common.{arith, ◌≡◌, ◌<◌, ◌/◌, length, min, sym, ap, ◌∙◌, nat_cmp, inl, inr}
 use Rattle.std.proofs.lemmas.Bool.{cases_lt}
-use Rattle.tables_rows.specs.Halves.{halves}
+use Rattle.tables_rows.specs.inner.Halves.{halves}
 use Rattle.tables_rows.proofs.HalvesLaws.{u16_at-halves}
 use Rattle.dex_base.proofs.OrderLaws.{cmp_equal, cmp_unequal, cmp_end}
 use Rattle.tables_rows.proofs.type_list.cmp_indexes.Goals as goal

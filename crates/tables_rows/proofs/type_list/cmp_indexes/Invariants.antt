@@ -1,6 +1,6 @@
 use Rattle.std.proofs.Common.{◌≡◌, drop, nat_cmp}
 use Rattle.std.specs.Cmp.Lexicographic.{slice_cmp}
-use Rattle.tables_rows.specs.Halves.{halves}
+use Rattle.tables_rows.specs.inner.Halves.{halves}
 use Rattle.tables_rows.proofs.type_list.cmp_indexes.Given as goal
 
 abbrev pub invariant-loop-i : goal.invariant-loop-i

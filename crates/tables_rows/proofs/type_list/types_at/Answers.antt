@@ -3,7 +3,7 @@ use Rattle.std.proofs.lemmas.List.{map-append, take_all, length-map}
 use Rattle.std.proofs.lemmas.Option.{slice_get_within}
 use Rattle.std.specs.List.{AllZip}
 use Rattle.program_types.specs.View.{desc}
-use Rattle.tables_rows.specs.Halves.{halves}
+use Rattle.tables_rows.specs.inner.Halves.{halves}
 use Rattle.tables_rows.specs.Names.{TypeIsAt}
 use Rattle.tables_rows.proofs.HalvesLaws.{u16_at-halves}
 use Rattle.tables_rows.proofs.TypeLists.{no_list, no_type, list_of, zip_more}

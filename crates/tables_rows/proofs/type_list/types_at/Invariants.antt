@@ -1,7 +1,7 @@
 use Rattle.std.proofs.Common.{map, take}
 use Rattle.std.specs.List.{AllZip}
 use Rattle.program_types.specs.View.{desc}
-use Rattle.tables_rows.specs.Halves.{halves}
+use Rattle.tables_rows.specs.inner.Halves.{halves}
 use Rattle.tables_rows.specs.Names.{TypeIsAt}
 use Rattle.tables_rows.proofs.type_list.types_at.Given as goal
 

@@ -1,6 +1,6 @@
 use Rattle.std.proofs.Common.{◌⊎◌, inl, inr, refl}
 use Rattle.dexasm_world.specs.State.{FileState}
-use Rattle.dexasm_world.specs.Steps.{Same, Dressed}
+use Rattle.dexasm_world.specs.inner.Steps.{Same, Dressed}
 use Rattle.disk_samples.specs.Disks.{files_of}
 use Rattle.disk_samples.specs.declared.change.Change.TheVariants.{Dress}
 use Rattle.disk_samples.specs.declared.change.Outcome.TheVariants.{Failed}

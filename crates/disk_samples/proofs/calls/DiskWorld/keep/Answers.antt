@@ -1,5 +1,5 @@
 use Rattle.std.proofs.Common.{[], refl}
-use Rattle.dexasm_world.specs.Steps.{Kept, Wrote}
+use Rattle.dexasm_world.specs.inner.Steps.{Kept, Wrote}
 use Rattle.disk_samples.specs.Logs.{step}
 use Rattle.disk_samples.specs.Disks.{files_of}
 use Rattle.disk_samples.specs.declared.change.Change.TheVariants.{Keep}

@@ -1,6 +1,6 @@
 use Rattle.std.proofs.Common.{◌≡◌, ◌∙◌, ◌⊎◌, inl, inr, ℕ, Bool, true, None, Err, sym, subst, refl}
 use Rattle.dexasm_world.specs.State.{Path, FileState}
-use Rattle.dexasm_world.specs.Steps.{Same, MadeAs}
+use Rattle.dexasm_world.specs.inner.Steps.{Same, MadeAs}
 use Rattle.disk_samples.specs.Logs.{step}
 use Rattle.disk_samples.specs.Disks.{files_of}
 use Rattle.disk_samples.specs.declared.change.Change.{Change}

@@ -1,6 +1,6 @@
 use Rattle.std.proofs.Common.{ℕ, ◌-◌, ◌/◌, ◌≤◌, Err, take, length, sym, subst, refl, arith}
 use Rattle.dexasm_world.specs.State.{FileState}
-use Rattle.dexasm_world.specs.Steps.{Wrote}
+use Rattle.dexasm_world.specs.inner.Steps.{Wrote}
 use Rattle.disk_samples.specs.Disks.{files_of}
 use Rattle.disk_samples.specs.declared.change.Change.TheVariants.{Write}
 use Rattle.disk_samples.specs.declared.change.Outcome.TheVariants.{Failed}

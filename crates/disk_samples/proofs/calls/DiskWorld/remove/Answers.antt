@@ -1,6 +1,6 @@
 use Rattle.std.proofs.Common.{◌⊎◌, inl, inr, sym, subst, refl}
 use Rattle.dexasm_world.specs.State.{Path, FileState}
-use Rattle.dexasm_world.specs.Steps.{Same, Removed}
+use Rattle.dexasm_world.specs.inner.Steps.{Same, Removed}
 use Rattle.disk_samples.specs.Disks.{files_of}
 use Rattle.disk_samples.specs.declared.change.Change.TheVariants.{Remove}
 use Rattle.disk_samples.specs.declared.change.Outcome.TheVariants.{MayHaveLeft}

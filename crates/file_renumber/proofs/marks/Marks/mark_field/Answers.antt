@@ -2,7 +2,7 @@ use Rattle.std.proofs.Common.{◌≡◌, ℕ, List, sym, ap, subst, ◌∙◌, g
 use Rattle.program_types.specs.Content.{FieldRef, OfText, OfDesc}
 use Rattle.tables_names.specs.Closure.{Five, with_name}
 use Rattle.tables_rows.specs.Stands.{FieldStands, StringStands, TypeStands}
-use Rattle.file_renumber.specs.Marked.{Marked, AreMarks}
+use Rattle.file_renumber.specs.inner.Marked.{Marked, AreMarks}
 use Rattle.file_renumber.proofs.MarkLemmas.{field_is_there, field_marked}
 use Rattle.file_renumber.proofs.ColumnLemmas.{set_back, within}
 use Rattle.file_renumber.proofs.marks.Marks.mark_field.Goals as goal

@@ -2,11 +2,11 @@ use Rattle.std.proofs.Common.{◌≡◌, ◌<◌, ℕ, List, [], length, map, ta
 use Rattle.std.proofs.lemmas.List.{take_all}
 use Rattle.program_types.specs.Content.{Units, OfDesc}
 use Rattle.tables_names.specs.Closure.{with_names}
-use Rattle.tables_rows.specs.Halves.{halves}
+use Rattle.tables_rows.specs.inner.Halves.{halves}
 use Rattle.tables_rows.specs.Stands.{TypeStands}
 use Rattle.tables_rows.proofs.HalvesLaws.{u16_at-halves}
 use Rattle.tables_rows.proofs.TypeLists.{indexes_of}
-use Rattle.file_renumber.specs.Marked.{Marked, AreMarks, IsOneOf}
+use Rattle.file_renumber.specs.inner.Marked.{Marked, AreMarks, IsOneOf}
 use Rattle.file_renumber.proofs.MarkLemmas.{list_is_there, list_marked, same_lists, type_at, types_count, next_type}
 use Rattle.tables_names.proofs.FiveLemmas.{refused}
 use Rattle.file_renumber.proofs.marks.Marks.mark_list.Goals as goal

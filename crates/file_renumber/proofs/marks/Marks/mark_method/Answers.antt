@@ -2,7 +2,7 @@ use Rattle.std.proofs.Common.{◌≡◌, ℕ, List, sym, ap, subst, ◌∙◌, g
 use Rattle.program_types.specs.Content.{MethodRef, OfText, OfDesc}
 use Rattle.tables_names.specs.Closure.{Five, with_name, with_proto}
 use Rattle.tables_rows.specs.Stands.{MethodStands, StringStands, TypeStands, ProtoStands}
-use Rattle.file_renumber.specs.Marked.{Marked, AreMarks}
+use Rattle.file_renumber.specs.inner.Marked.{Marked, AreMarks}
 use Rattle.file_renumber.proofs.MarkLemmas.{method_is_there, method_marked}
 use Rattle.file_renumber.proofs.ColumnLemmas.{set_back, within}
 use Rattle.file_renumber.proofs.marks.Marks.mark_method.Goals as goal

@@ -3,7 +3,7 @@ use Rattle.program_types.specs.Content.{Proto, OfText, OfDesc}
 use Rattle.program_types.specs.Shorty.{shorty}
 use Rattle.tables_names.specs.Closure.{Five, with_name, with_names}
 use Rattle.tables_rows.specs.Stands.{ProtoStands, StringStands, TypeStands, TypesAt}
-use Rattle.file_renumber.specs.Marked.{Marked, AreMarks}
+use Rattle.file_renumber.specs.inner.Marked.{Marked, AreMarks}
 use Rattle.file_renumber.proofs.MarkLemmas.{proto_is_there, proto_marked}
 use Rattle.file_renumber.proofs.ColumnLemmas.{set_back, within}
 use Rattle.file_renumber.proofs.marks.Marks.mark_proto.Goals as goal

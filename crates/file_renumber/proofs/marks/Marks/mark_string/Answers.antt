@@ -1,5 +1,5 @@
 use Rattle.std.proofs.Common.{ap, sym, subst, ◌∙◌}
-use Rattle.file_renumber.specs.Marked.{Marked, AreMarks}
+use Rattle.file_renumber.specs.inner.Marked.{Marked, AreMarks}
 use Rattle.file_renumber.proofs.MarkLemmas.{string_marked}
 use Rattle.file_renumber.proofs.ColumnLemmas.{set_back, within}
 use Rattle.file_renumber.proofs.marks.Marks.mark_string.Goals as goal

@@ -2,7 +2,7 @@ use Rattle.std.proofs.Common.{◌≡◌, ℕ, List, sym, ap, subst, ◌∙◌, g
 use Rattle.program_types.specs.Content.{OfText}
 use Rattle.tables_names.specs.Closure.{with_name}
 use Rattle.tables_rows.specs.Stands.{StringStands}
-use Rattle.file_renumber.specs.Marked.{Marked, AreMarks}
+use Rattle.file_renumber.specs.inner.Marked.{Marked, AreMarks}
 use Rattle.file_renumber.proofs.MarkLemmas.{type_is_there, type_marked}
 use Rattle.file_renumber.proofs.ColumnLemmas.{set_back, within}
 use Rattle.file_renumber.proofs.marks.Marks.mark_type.Goals as goal

@@ -1,5 +1,5 @@
 use Rattle.std.proofs.Common.{ap}
-use Rattle.file_renumber.specs.Marked.{Marked}
+use Rattle.file_renumber.specs.inner.Marked.{Marked}
 use Rattle.file_renumber.proofs.ColumnLemmas.{counts_back}
 use Rattle.file_renumber.proofs.marks.Marks.number.Goals as goal
 

@@ -1,5 +1,5 @@
 use Rattle.std.proofs.Common.{map}
-use Rattle.listing_labels.specs.View.{label}
+use Rattle.listing_labels.specs.inner.View.{label}
 use Rattle.listing_labels.proofs.OrderLaws.{in_front, in_rest}
 use Rattle.listing_labels.proofs.known.Labels.place_of.Goals as goal
 

@@ -1,7 +1,7 @@
 use Rattle.std.proofs.Common.{◌∙◌, sym, ap, map, ◌≡◌, []}
 use Rattle.std.proofs.lemmas.List.{map-append, nil_from_length}
 use Rattle.std.proofs.lemmas.Result.{on_ok_weaker}
-use Rattle.listing_labels.specs.View.{label}
+use Rattle.listing_labels.specs.inner.View.{label}
 use Rattle.listing_labels.proofs.OrderLaws.{rising_push, goes_above, stays, goes_after}
 use Rattle.listing_labels.proofs.known.Labels.put.Goals as goal
 

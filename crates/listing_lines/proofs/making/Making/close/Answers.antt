@@ -1,7 +1,7 @@
 use Rattle.std.proofs.Common.{◌∙◌, ◌++◌, ◌∷◌, [], ap, map, min, take, drop, sym, arith}
 use Rattle.std.proofs.lemmas.List.{length-map, map-append}
 use Rattle.program_types.specs.View.{value}
-use Rattle.listing_lines.specs.MakingView.{making}
+use Rattle.listing_lines.specs.inner.MakingView.{making}
 use Rattle.listing_lines.proofs.MakingLaws.{close_empty, close_one, values_cut}
 use Rattle.listing_lines.proofs.making.Making.close.Goals as goal
 

@@ -1,6 +1,6 @@
 use Rattle.std.proofs.Common.{refl}
 use Rattle.listing_parse.specs.States.{inside}
-use Rattle.listing_parse.specs.View.{block}
+use Rattle.listing_parse.specs.inner.View.{block}
 use Rattle.listing_parse.proofs.block.Block.add_insn.Goals as goal
 
 pub returns-in_ok-add_insn-in-Code-clause-added : goal.returns-in_ok-add_insn-in-Code-clause-added

@@ -1,5 +1,5 @@
 use Rattle.std.proofs.Common.{refl, ◌∙◌, sym, ap, is_some}
-use Rattle.listing_parse.specs.View.{open_class}
+use Rattle.listing_parse.specs.inner.View.{open_class}
 use Rattle.listing_parse.proofs.EntryLaws.{instance_put}
 use Rattle.listing_parse.proofs.open_class.Open.put_instance.Goals as goal
 

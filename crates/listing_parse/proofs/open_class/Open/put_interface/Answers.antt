@@ -4,7 +4,7 @@ use lib.Dec.{eqb}
 use Rattle.program_types.specs.View.{desc}
 use Rattle.program_types.specs.declared.names.Desc.{Desc}
 use Rattle.listing_slots.proofs.KeyLaws.{same_is}
-use Rattle.listing_parse.specs.View.{open_class}
+use Rattle.listing_parse.specs.inner.View.{open_class}
 use Rattle.listing_parse.proofs.OpenLaws.{interface_put}
 use Rattle.listing_parse.proofs.open_class.Open.put_interface.Goals as goal
 

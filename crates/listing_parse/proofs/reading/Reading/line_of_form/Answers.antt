@@ -1,8 +1,8 @@
 use Rattle.std.proofs.Common.{◌∙◌, sym, ap, map}
-use Rattle.listing_words.specs.View.{word}
-use Rattle.listing_parse.specs.View.{state}
+use Rattle.listing_words.specs.inner.View.{word}
+use Rattle.listing_parse.specs.inner.View.{state}
 use Rattle.listing_lines.specs.Places.{is_start}
-use Rattle.listing_parse.specs.ReadingView.{reading}
+use Rattle.listing_parse.specs.inner.ReadingView.{reading}
 use Rattle.listing_parse.proofs.FormLineLaws.{second_first, second_late, second_elsewhere}
 use Rattle.listing_parse.proofs.reading.Reading.line_of_form.Goals as goal
 

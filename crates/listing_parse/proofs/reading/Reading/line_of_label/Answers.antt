@@ -1,6 +1,6 @@
 use Rattle.std.proofs.Common.{◌∙◌, sym}
-use Rattle.listing_parse.specs.View.{state}
-use Rattle.listing_parse.specs.ReadingView.{reading}
+use Rattle.listing_parse.specs.inner.View.{state}
+use Rattle.listing_parse.specs.inner.ReadingView.{reading}
 use Rattle.listing_parse.proofs.FormLineLaws.{label_here, label_there}
 use Rattle.listing_parse.proofs.reading.Reading.line_of_label.Goals as goal
 

@@ -1,9 +1,9 @@
 use Rattle.std.proofs.Common.{rules, ◌≡◌, ◌∙◌, sym, ap, map, ◌∷◌, length}
-use Rattle.listing_words.specs.View.{word}
+use Rattle.listing_words.specs.inner.View.{word}
 use Rattle.listing_words.specs.Words.{plain_word}
-use Rattle.listing_parse.specs.View.{state}
+use Rattle.listing_parse.specs.inner.View.{state}
 use Rattle.listing_lines.specs.Places.{is_insns}
-use Rattle.listing_parse.specs.ReadingView.{reading}
+use Rattle.listing_parse.specs.inner.ReadingView.{reading}
 use Rattle.listing_parse.proofs.FormLineLaws.{lone, mark_misplaced, mark_placed}
 use Rattle.listing_parse.proofs.reading.Reading.line_of_mark.Goals as goal
 

@@ -1,4 +1,4 @@
-use Rattle.listing_parse.specs.View.{state}
+use Rattle.listing_parse.specs.inner.View.{state}
 use Rattle.listing_parse.proofs.reading.Reading.may_be.Goals as goal
 
 pub returns-in-One : goal.returns-in-One

@@ -2,9 +2,9 @@ use Rattle.std.proofs.Common.{◌∙◌, sym, ap, subst, arith, List, ℕ}
 use Rattle.listing_words.specs.Words.{plain_word}
 use Rattle.listing_slots.specs.declared.slot.Slot.{Slot}
 use Rattle.listing_slots.specs.Slots.{SpellsSlot}
-use Rattle.listing_slots.specs.Spelled.{IsSpelled, IsValid}
-use Rattle.listing_slots.specs.ValidNames.{Spellings}
-use Rattle.listing_slots.specs.View.{datum}
+use Rattle.listing_slots.specs.inner.Spelled.{IsSpelled, IsValid}
+use Rattle.listing_slots.specs.inner.ValidNames.{Spellings}
+use Rattle.listing_slots.specs.inner.View.{datum}
 use Rattle.listing_slots.proofs.KeyLaws.{same_true}
 use Rattle.listing_slots.proofs.spelled.Spelled.find.Goals as goal
 

@@ -1,7 +1,7 @@
 use Rattle.std.proofs.Common.{◌∙◌, sym, ap, Some}
 use Rattle.std.proofs.lemmas.List.Elements.{All-set}
-use Rattle.listing_slots.specs.Spelled.{IsSpelled, IsValid}
-use Rattle.listing_slots.specs.ValidNames.{Spellings}
+use Rattle.listing_slots.specs.inner.Spelled.{IsSpelled, IsValid}
+use Rattle.listing_slots.specs.inner.ValidNames.{Spellings}
 use Rattle.listing_slots.proofs.spelled.Spelled.keep.Goals as goal
 
 pub invariant_of-self : goal.invariant_of-self

@@ -1,5 +1,5 @@
 use Rattle.std.proofs.Common.{◌≡◌, map, take}
-use Rattle.tables_names.specs.Noted.{rank_by}
+use Rattle.tables_names.specs.inner.Noted.{rank_by}
 use Rattle.tables_names.proofs.noted.RankOf.ranks.Given as goal
 
 abbrev pub invariant-loop-number : goal.invariant-loop-number

@@ -1,0 +1,77 @@
+//! One call on a whole file or program: `calls NAME`, on the file on standard input, where NAME is `read`, `write`, `strip`,
+//! `align_all`, `print` or `run`, prints a sum of what it gave. tools/try memory refuses its requests for memory.
+
+use crate::listing::size_of;
+use crate::words::word;
+use bumpalo::Bump;
+use dex_base::{Fault, adler32};
+use dex_file::{align_all, read, strip, write};
+use dexasm_job::Job;
+use dexasm_run::{RunFault, Watched, run as run_job};
+use listing_print::print;
+use std::alloc::Global;
+use std::io;
+
+/// Bytes for which the writer of a run has room from the beginning.
+const ROOM: usize = 1 << 16;
+
+/// What the call gave, as a number.
+fn called(alloc: Global, name: &str, bytes: &[u8]) -> Result<u64, Fault> {
+    match name {
+        "read" => program_read(alloc, bytes),
+        "write" => file_written(alloc, bytes),
+        "strip" => Ok(sum_of(&strip(alloc, bytes)?)),
+        "align_all" => program_aligned(alloc, bytes),
+        "print" => program_printed(alloc, bytes),
+        _ => job_run(alloc, bytes),
+    }
+}
+
+fn sum_of(bytes: &[u8]) -> u64 {
+    u64::from(adler32(bytes))
+}
+
+fn program_read(alloc: Global, bytes: &[u8]) -> Result<u64, Fault> {
+    let arena = Bump::new(alloc);
+    let program = read(alloc, &arena, bytes)?;
+    Ok(size_of(&program))
+}
+
+fn file_written(alloc: Global, bytes: &[u8]) -> Result<u64, Fault> {
+    let arena = Bump::new(alloc);
+    let program = read(alloc, &arena, bytes)?;
+    Ok(sum_of(&write(alloc, &program)?))
+}
+
+fn program_aligned(alloc: Global, bytes: &[u8]) -> Result<u64, Fault> {
+    let arena = Bump::new(alloc);
+    let program = read(alloc, &arena, bytes)?;
+    Ok(size_of(&align_all(alloc, &arena, &program)?))
+}
+
+fn program_printed(alloc: Global, bytes: &[u8]) -> Result<u64, Fault> {
+    let arena = Bump::new(alloc);
+    let program = read(alloc, &arena, bytes)?;
+    Ok(sum_of(&print(alloc, &program)?))
+}
+
+/// A run into a writer that has room, so that nothing but the run asks for memory.
+fn job_run(alloc: Global, bytes: &[u8]) -> Result<u64, Fault> {
+    let mut output = Watched::new(Vec::with_capacity(alloc, ROOM)?);
+    match run_job(alloc, Job::List, &mut Watched::new(bytes), &mut output) {
+        Ok(()) => Ok(sum_of(&output.into_inner())),
+        Err(RunFault::Refused(fault)) => Err(fault),
+        Err(RunFault::Memory) => Err(Fault::MEMORY),
+        // Neither a slice nor a vector with room fails.
+        Err(RunFault::Input | RunFault::Output) => Ok(0),
+    }
+}
+
+/// What the words ask for.
+pub fn run(rt: &(impl Print + Alloc<A = Global>), words: &[&str], bytes: &[u8]) -> io::Result<()> {
+    let name = word(words, 0);
+    match called(rt.alloc(), name, bytes) {
+        Ok(sum) => println!(rt; "{name} {sum}"),
+        Err(fault) => println!(rt; "refused {} at {}", fault.code, fault.place),
+    }
+}

@@ -1,0 +1,25 @@
+-- What the private functions that read instructions say.
+use Rattle.std.specs.Prelude.{ℕ, ◌≡◌, ◌<◌, List, length, None}
+use Rattle.dex_insn.specs.Raw.{Raw}
+use Rattle.program_types.specs.Content.{Name, Insn}
+use Rattle.program_types.specs.Formed.{insn_at, insn_payload}
+use Rattle.code_read.specs.Walk.{starts, raw_at, address}
+use Rattle.code_read.specs.inner.Walk.{IsTable}
+use Rattle.code_read.specs.Symbols.{Says}
+use Rattle.code_read.specs.Linked.{lead, payload_of, SpellsInsns}
+
+-- The raw instruction at this address, linked: of a payload its kind alone is right.
+pub record IsHalfLinked (N : ℕ → Name → Type 0) (ss : List ℕ) (at : ℕ) (r : Raw) (i : Insn) : Type 0 where
+  pub kind : insn_payload i ≡ payload_of r
+  pub says : payload_of r ≡ None → Says N (lead ss at) r i
+
+-- All of them are.
+pub record AreHalfLinked (N : ℕ → Name → Type 0) (rs : List Raw) (is : List Insn) : Type 0 where
+  pub count : length is ≡ length rs
+  pub each : (k : ℕ) → k < length rs → IsHalfLinked N (starts rs) (address rs k) (raw_at rs k) (insn_at is k)
+
+-- The units spell these instructions, which begin at these addresses.
+pub record ReadInsns (N : ℕ → Name → Type 0) (us begins : List ℕ) (is : List Insn) : Type 0 where
+  pub raws : List Raw
+  pub table : IsTable begins raws
+  pub insns : SpellsInsns N us raws is

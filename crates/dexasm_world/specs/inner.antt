@@ -1,0 +1,6 @@
+-- What no promise reaches: the contracts of inner functions, and proofs, name it.
+pub mod Looks
+pub mod Parts
+pub mod Possible
+pub mod State
+pub mod Steps

@@ -1,0 +1,2 @@
+-- What no promise reaches: the contracts of inner functions, and proofs, name it.
+pub mod Bodies

@@ -1,0 +1,4 @@
+-- What no promise reaches: the contracts of inner functions, and proofs, name it.
+pub mod Broken
+pub mod FileDeciding
+pub mod Groups

@@ -1,0 +1,3 @@
+-- What no promise reaches: the contracts of inner functions, and proofs, name it.
+pub mod Twice
+pub mod Values

@@ -1,0 +1,5 @@
+-- What no promise reaches: the contracts of inner functions, and proofs, name it.
+pub mod LineView
+pub mod Lines
+pub mod MakingView
+pub mod NeedView
