@@ -38,7 +38,7 @@ SBATCH = b"""#!/bin/bash
 last=${2#--array=0-}
 for ((id = 0; id <= last; id++)); do SLURM_ARRAY_TASK_ID=$id bash -c "$4" || exit; done
 """
-ALL = ("name", "string", "program", "file", "path", "unread", "class", "has", "member", "call", "use")
+ALL = ("word", "name", "string", "program", "file", "path", "unread", "class", "has", "member", "call", "use")
 
 
 def write_shape(made: str | shapes.File, at: str, name: str) -> None:
@@ -57,7 +57,7 @@ class Corpus(CorpusTest):
         strange(at)
         out = self.added("a folder of strangers", at, "--memory", "300M", "c.db", "d")
         count = len(NAMES) + 1 + 2 * 3 + 1 + 2 + 2
-        self.check("dexasm-corpus, strangers", out.startswith(f"{count} files, "), out)
+        self.check("dexasm-corpus, strangers", out.startswith(f"{count} paths, "), out)
         self.check("dexasm-corpus, strangers, no name is obeyed", "PWNED" not in os.listdir(at), os.listdir(at))
         unread = {(str(path), entry, status) for path, entry, status, _ in rows(at, "select * from unread")}
         want = {
@@ -252,7 +252,7 @@ class Corpus(CorpusTest):
                 f"dexasm-corpus, merge {order}", seen == (0, "", "") and sums(at, file) == want, (seen, sums(at, file))
             )
         db = sqlite3.connect(os.path.join(at, "2.db"))
-        db.execute("update member set flags = flags + 1 where kind = 'virtual'")
+        db.execute("update member set flags = flags + 1 where kind = 'v'")
         db.commit()
         db.close()
         changed = sums(at, "2.db")
@@ -296,16 +296,18 @@ class Corpus(CorpusTest):
         put(at, "a.dex", assembled(LISTING))
         put(at, "text.db", b"no database, but long enough to be looked at as if it were one " * 40)
         newer = "pragma application_id = 1685611361; pragma user_version = 99; create table t(x)"
+        older = "pragma application_id = 1685611361; pragma user_version = 1; create table name(id integer primary key)"
         empty = "pragma application_id = 7"
         words: str | tuple[str, ...]
-        for file, words in (("other.db", "create table t(x)"), ("newer.db", newer), ("empty.db", empty)):
+        for file, words in (("other.db", "create table t(x)"), ("newer.db", newer), ("older.db", older), ("empty.db", empty)):
             db = sqlite3.connect(os.path.join(at, file))
             db.executescript(words)
             db.close()
         for file, says in (
             ("other.db", "other.db: no database of dexasm-corpus"),
             ("empty.db", "empty.db: no database of dexasm-corpus"),
-            ("newer.db", "newer.db: its version is 99"),
+            ("newer.db", "newer.db: its tables are of version 99"),
+            ("older.db", "older.db: its tables are of version 1, and those of this dexasm-corpus of version 2: make it anew"),
             ("text.db", "text.db: file is not a database"),
         ):
             before = get(at, file)
@@ -381,7 +383,7 @@ class Corpus(CorpusTest):
         for name in NAMES:
             put(at, f"{name}.dex", assembled(TEXT))
         status, out, said = shell(recipes[0], at)
-        wants = f"{len(NAMES) + 1} files, 1 new", "LHello;->ask()V", "the answer,LHello;->name:", "build1.dex", "same"
+        wants = f"{len(NAMES) + 1} paths, 0 not read; 1 new files", "LHello;->ask()V", "the answer,LHello;->name:", "build1.dex", "same"
         self.check(
             "RECIPES: a corpus", (status, said) == (0, "") and all(word in out for word in wants), (status, out, said)
         )

@@ -15,7 +15,7 @@ from collections.abc import Iterable, Iterator
 
 from tests import sought
 from .archives import archive
-from .corpora import WIDE, CorpusTest, padded, programs, rows, sums
+from .corpora import WIDE, CorpusTest, asked, padded, programs, rows, sums
 from .recipe import blocks
 from .rooms import ESC, HEAD, TOOLS, Ended, assembled, can_trace, get, is_one_line, put, room, run, shell, tool
 from .streaming import each, is_line
@@ -78,6 +78,7 @@ def here(at: str, name: str) -> bool:
 
 # Strings and names of files that a spreadsheet could take for formulas, and what `--csv` makes of them.
 CELLS = {"=1+1": "'=1+1", "+1+1": "'+1+1", "-1": "'-1", "@SUM(1)": "'@SUM(1)", "'=1": "'=1", "1=1": "1=1"}
+CELLS |= {"=HYPERLINK(A1)": "'=HYPERLINK(A1)"}
 
 
 # ---- schedulers
@@ -211,8 +212,7 @@ class HostileCorpus(CorpusTest):
 
     def test_sqlite(self) -> None:
         """RECIPES' queries by SQLite's own program: a path is obeyed by no terminal and looks like no other row."""
-        if not shutil.which("sqlite3"):
-            return
+        self.need("sqlite3", "the queries of RECIPES aren't tried by it")
         at = room("hostile paths")
         names = (f"{ESC}]0;owned\a{ESC}[31m\nforged|row", "a\u202eb", "a'b\"c", "\x9b31m", os.fsdecode(b"n\xff"))
         programs(at)
@@ -228,6 +228,22 @@ class HostileCorpus(CorpusTest):
             is_so = (status, said) == (0, "") and out.isascii() and all(line.isprintable() for line in out.splitlines())
             is_so = is_so and out.count("\n") == len(rows(at, words, "corpus.db")) > 0
             self.check(f"RECIPES by sqlite3: {words[:60]}", is_so, (status, out, said))
+
+    def test_hashes(self) -> None:
+        """Hashes that lie, and texts that stand twice: what is merged is found by its text all the same."""
+        at = self.prepared("hostile hashes")
+        want = sums(at)
+        lies = "update {0} set hash = 7; insert into {0}(hash, text) select 8, text from {0}"
+        changed(at, "e.db", ";".join(lies.format(table) for table in ("word", "string")))
+        for text, seen in limited(["dexasm-corpus merge m.db e.db", "dexasm-corpus merge m.db e.db c.db"], at):
+            is_so = seen == (0, "", "") and sums(at, "m.db") == want
+            self.check(f"{text}, hashes that lie", is_so, (seen, sums(at, "m.db")))
+        found, right = (asked(at, "callers", name, "Ll/B;->take(Ljava/lang/String;)V") for name in ("m.db", "c.db"))
+        self.check("dexasm-corpus callers, after a merge of hashes that lie", found == right != [], (found, right))
+        lost = "insert into name(class, member) select max(id) + 1, min(id) from word"
+        changed(at, "n.db", lost)
+        for text, seen in limited(["dexasm-corpus merge o.db n.db"], at):
+            self.check(f"{text}, a member of no class", seen == (0, "", "") and sums(at, "o.db") == want, seen)
 
     def test_believed(self) -> None:
         """A row that tells of one file what another one has: merge believes it, and merge --verify looks itself."""

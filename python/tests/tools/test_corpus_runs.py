@@ -19,6 +19,7 @@ import subprocess
 import sys
 import termios
 import time
+import unittest
 from collections.abc import Callable
 from typing import Any, TypeVar
 
@@ -43,7 +44,7 @@ from .rooms import (
 
 CORPUS = os.path.join(TOOLS, "dexasm-corpus")
 PATIENCE = LIMIT  # for what a run does meanwhile
-BAR = re.compile(r"\d+ files, \d+\.\d MB/s, \d+ refused(, \d+ s left)?")
+BAR = re.compile(r"\d+ paths, \d+\.\d MB/s, \d+ files refused(, \d+ s left)?")
 GONE = "dexasm-corpus: the scheduler is gone: "
 Seen = TypeVar("Seen")
 
@@ -140,12 +141,12 @@ def on_terminal(at: str, columns: int, *words: str, is_closed: bool = False, **e
 # ---- Dask
 
 
-def dask() -> str | None:
-    """The Python that has Dask, or None."""
+def dask() -> str:
+    """The Python that has Dask."""
     for python in (sys.executable, "/usr/bin/python3"):
         if shutil.which(python) and run([python, "-c", "import distributed"])[0] == 0:
             return python
-    return None
+    raise unittest.SkipTest("no Dask here: it isn't tried")
 
 
 class Cluster:
@@ -154,7 +155,8 @@ class Cluster:
     def __init__(self, python: str, at: str, workers: int, protocol: str = "tcp", **env: str) -> None:
         self.begun: list[subprocess.Popen[bytes]]
         self.python, self.at, self.begun = python, at, []
-        self.env = {**environment(), "PYTHONPATH": os.path.join(TOP, "python", "src"), **env}
+        sources = {"PYTHONPATH": os.path.join(TOP, "python", "src"), "PYTHONDONTWRITEBYTECODE": "1"}
+        self.env = {**environment(), **sources, **env}
         file = os.path.join(at, "address.json")
         if os.path.exists(file):
             os.remove(file)
@@ -334,9 +336,8 @@ class CorpusRuns(CorpusTest):
         *lines, last = got.split("\r\n")
         bars = [bar for bar in re.split(r"\r\x1b\[K", got.replace("\r\n", "")) if bar]
         said = "dexasm-corpus: \\x1b]0;none\\x07: No such file or directory"
-        self.check(
-            "dexasm-corpus, a terminal", status == 3 and out.startswith("131 files, 1 new, 131 refused"), (status, out)
-        )
+        is_counted = status == 3 and out.startswith("131 paths, 0 not read; 1 new files, 1 refused")
+        self.check("dexasm-corpus, a terminal", is_counted, (status, out))
         is_so = BAR.fullmatch(bars[0]) and all(BAR.fullmatch(bar) or bar == said for bar in bars)
         self.check("dexasm-corpus, a bar", is_so, bars)
         self.check(
@@ -349,14 +350,12 @@ class CorpusRuns(CorpusTest):
         self.check("dexasm-corpus, a terminal that obeys nothing", got[0] == 0 and got[2] == "", got)
         put(at, "slow.dex", slow(48000))
         status, out, got = on_terminal(at, 100, "--seconds", "600", "gone.db", "slow.dex", is_closed=True)
-        is_so = status == 0 and out.startswith("1 files, 1 new") and BAR.search(got)
+        is_so = status == 0 and out.startswith("1 paths, 0 not read; 1 new files") and BAR.search(got)
         self.check("dexasm-corpus, a terminal that goes away", is_so, (status, out, got))
 
     def test_dask(self) -> None:
         """Scheduler and two workers of Dask: the same content, with the folder and without."""
         python = dask()
-        if python is None:
-            return
         at = room("corpus dask")
         programs(at)
         strange(at)
@@ -373,8 +372,7 @@ class CorpusRuns(CorpusTest):
     def test_dask_tls(self) -> None:
         """Over TLS, with the certificates of Dask's own configuration; who has none isn't let in."""
         python = dask()
-        if python is None or not shutil.which("openssl"):
-            return
+        self.need("openssl", "Dask over TLS isn't tried")
         at = room("corpus dask tls")
         programs(at)
         new = "openssl req -x509 -newkey rsa:2048 -nodes -keyout key.pem -out cert.pem -days 2 -subj /CN=dask"
@@ -400,8 +398,6 @@ class CorpusRuns(CorpusTest):
     def test_dask_killed(self) -> None:
         """A worker of Dask is killed, then the scheduler, each while it looks at a file and others wait."""
         python = dask()
-        if python is None:
-            return
         at = room("corpus dask killed")
         put(at, "d/slow.dex", slow(8000))
         want = self.many(at, 70)

@@ -1,6 +1,7 @@
 """Keeps what many .dex files have in a database, and asks it: which are one program, who holds a class, who calls.
 
-usage: dexasm-corpus add [--processes N] [--seconds N] [--memory SIZE] [--again] [--strict] DATABASE PATH..
+usage: dexasm-corpus add [--processes N] [--seconds N] [--memory SIZE] [--again] [--strict] [--allow-empty] DATABASE
+                         PATH..
        dexasm-corpus add --scheduler ADDRESS [--trust] [--send] [..] DATABASE PATH..
        dexasm-corpus refused|same [--json|--csv|--csv-raw] DATABASE
        dexasm-corpus classes [--json|--csv|--csv-raw] DATABASE [NAME]
@@ -12,6 +13,7 @@ usage: dexasm-corpus add [--processes N] [--seconds N] [--memory SIZE] [--again]
   add        looks at .dex files, and at the classes*.dex of archives, and keeps what they have. In a folder these are
              the files that begin as one or are called *.dex; no link is followed there. `-` reads paths from standard
              input, each with a NUL after it. A file that is in, by its SHA-256, gets its path and no other look.
+             Where no such file is there, a line says so and the status is 3, unless --allow-empty is given
   refused    the files that aren't accepted, by fault, and the paths that can't be read
   same       each path of a program that stands at several: the stripped bytes of these files are the same, and those
              of one SHA-256 in the column `file` are copies to the byte
@@ -36,7 +38,8 @@ which it is stopped is a row with the status time, memory or killed, which --aga
 goes on by the same command, and loses and doubles nothing. With --scheduler the workers are those of Dask, and --send
 sends them the bytes of the files, where they haven't got the folder. Whoever answers at ADDRESS can run programs here
 and there; so it is tls://, with the certificates of Dask's own configuration (distributed.comm.tls), or a tcp:// of
-this machine, 127.0.0.1 or localhost. Any other one is taken with --trust only.
+this machine, 127.0.0.1 or localhost, at which whoever else has a login here could answer first. Any other one is taken
+with --trust only.
 
 Exit status: 0 done, 1 with --strict where a file isn't accepted or a path can't be read, or with --verify where a file
 is left out, 2 wrong words, 3 something can't be read or written, 4 out of memory.
@@ -61,7 +64,7 @@ if TYPE_CHECKING:
 
     from dexasm.tools.helper import Words
 
-# Addresses of Dask at which nobody else can answer: with certificates, or on this machine.
+# Addresses of Dask at which nobody from elsewhere can answer: with certificates, or on this machine.
 SAFE = re.compile(r"tls://.+|(?:tcp://)?(?:127(?:\.[0-9]{1,3}){3}|localhost|\[::1\]):[0-9]{1,5}")
 
 
@@ -104,7 +107,7 @@ def words_of(words: Words) -> Namespace:
         by[name].add_argument("--seconds", type=seconds, default=60)
         by[name].add_argument("--memory", type=size, default=2 << 30)
     by["add"].add_argument("--scheduler")
-    for word in ("--again", "--strict", "--send", "--trust"):
+    for word in ("--again", "--strict", "--allow-empty", "--send", "--trust"):
         by["add"].add_argument(word, action="store_true")
     by["merge"].add_argument("others", nargs="+")
     by["merge"].add_argument("--verify", action="store_true")
@@ -135,7 +138,9 @@ def main(words: Words) -> int:
     try:
         if asked.job == "add":
             counts = add(Corpus(asked.database), asked)
-            return counts.status or (REFUSED if asked.strict and counts.bad else 0)
+            if not (counts.paths or counts.unread or counts.status or asked.allow_empty):
+                raise Failed("nothing was looked at: no .dex file or archive with one is there (--allow-empty takes that)")
+            return counts.status or (REFUSED if asked.strict and counts.is_bad else 0)
         return {"merge": merge, "sum": sum_of}.get(asked.job, ask)(asked)
     except WRONG as error:
         raise Failed(f"{escaped(asked.database)}: {why(error)}") from None

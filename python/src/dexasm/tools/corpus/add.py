@@ -32,26 +32,29 @@ Jobs = list[tuple[object, ...]]
 
 
 class Counts:
-    """What was found; on a terminal it is shown as it comes."""
+    """What was found, of paths and of the files that weren't in before; on a terminal it is shown as it comes."""
 
     def __init__(self) -> None:
-        self.files = self.bytes = self.new = self.refused = self.limits = self.unread = self.status = 0
+        self.paths = self.bytes = self.new = self.refused = self.limits = self.unread = self.status = 0
+        self.is_bad = False  # a path can't be read, or its file isn't accepted
         self.all: int | None = None
         self.begun, self.line = time.monotonic(), Line()
 
-    @property
-    def bad(self) -> int:
-        return self.refused + self.limits + self.unread
-
     def take(self, found: tuple[Any, ...]) -> None:
+        """What was found at a path."""
         if found[0] == "unread":
             self.unread += 1
+            self.is_bad = True
             return
-        self.files += 1
+        self.paths += 1
         self.bytes += found[4]
-        if found[0] == "file":
-            self.refused += found[5] == "refused"
-            self.limits += found[5] not in ("ok", "refused")
+        self.is_bad = self.is_bad or found[0] == "file" and found[5] != "ok"
+
+    def take_new(self, states: list[str]) -> None:
+        """Files that weren't in, by what came of each."""
+        self.new += len(states)
+        self.refused += states.count("refused")
+        self.limits += len([one for one in states if one not in ("ok", "refused")])
 
     def show(self, jobs: int) -> None:
         """One line, at most twice a second; of names nothing is in it."""
@@ -59,13 +62,13 @@ class Counts:
             return
         taken = time.monotonic() - self.begun
         left = f", {taken / jobs * max(self.all - jobs, 0):.0f} s left" if self.all and jobs else ""
-        self.line.draw(f"{self.files} files, {self.bytes / 1e6 / taken:.1f} MB/s, {self.refused} refused{left}")
+        self.line.draw(f"{self.paths} paths, {self.bytes / 1e6 / taken:.1f} MB/s, {self.refused} files refused{left}")
 
     def end(self) -> None:
         taken = time.monotonic() - self.begun
         print(
-            f"{self.files} files, {self.new} new, {self.refused} refused, {self.limits} past a limit,"
-            f" {self.unread} not read: {self.bytes / 1e6:.1f} MB in {taken:.1f} s"
+            f"{self.paths} paths, {self.unread} not read; {self.new} new files, {self.refused} refused,"
+            f" {self.limits} past a limit: {self.bytes / 1e6:.1f} MB in {taken:.1f} s"
         )
 
 
@@ -245,7 +248,7 @@ def put_all(corpus: Corpus | Verified, counts: Counts, work: Iterator[Jobs], whe
                 continue
             jobs += len(batch)
             found += results
-        counts.new += corpus.put_all(found)
+        counts.take_new(corpus.put_all(found))
         for one in found:
             counts.take(one)
         counts.show(jobs)

@@ -19,13 +19,15 @@ from urllib.parse import quote
 from dexasm.tools.basis import Failed
 from dexasm.tools.escapes import escaped
 
-APPLICATION, VERSION = 0x64786361, 1  # ("dxca")
+APPLICATION, VERSION = 0x64786361, 2  # ("dxca")
 Answer = TypeVar("Answer")
 BUSY = 600  # seconds for which another writer is waited for
 NAMES = 500_000  # that are kept in memory with their numbers
 SCHEMA = """
-create table name(id integer primary key, text text not null unique);
-create table string(id integer primary key, text text not null unique);
+create table word(id integer primary key, hash integer not null, text text not null);
+create table name(id integer primary key, class integer not null references word,
+  member integer not null references word, unique(class, member));
+create table string(id integer primary key, hash integer not null, text text not null);
 create table program(id integer primary key, sha256 blob not null unique, size integer not null);
 create table file(id integer primary key, sha256 blob not null unique, size integer not null, status text not null,
   fault integer, fault_name text, place integer, program integer references program);
@@ -33,8 +35,8 @@ create table path(file integer not null references file, path not null, entry te
   primary key(file, path, entry)) without rowid;
 create table unread(path not null, entry text not null, status text not null, reason text not null,
   primary key(path, entry)) without rowid;
-create table class(id integer primary key, sha256 blob not null unique, name integer not null references name,
-  superclass integer references name, flags integer not null);
+create table class(id integer primary key, sha256 blob not null, name integer not null references word,
+  superclass integer references word, flags integer not null);
 create table has(program integer not null references program, class integer not null references class,
   primary key(program, class)) without rowid;
 create table member(class integer not null references class, name integer not null references name,
@@ -45,36 +47,44 @@ create table call(class integer not null references class, caller integer not nu
 create table use(class integer not null references class, member integer not null references name,
   string integer not null references string, places integer not null,
   primary key(class, member, string)) without rowid;
+create index word_by_hash on word(hash);
+create index string_by_hash on string(hash);
 create index path_by_path on path(path);
 create index file_of_program on file(program) where program is not null;
 create index file_by_fault on file(fault, status) where status <> 'ok';
+create index class_by_sha256 on class(substr(sha256, 1, 8));
 create index class_by_name on class(name);
 create index class_in_program on has(class);
 create index member_by_name on member(name);
 create index call_by_callee on call(callee);
 create index use_by_string on use(string);
+create view spelled as select n.id, c.text || '->' || m.text text
+  from name n join word c on c.id = class join word m on m.id = member;
 """
+# Whether two classes have one sum, and whether one has a sum, found by its first bytes.
+SAME = "substr({0}.sha256, 1, 8) = substr({1}.sha256, 1, 8) and {0}.sha256 = {1}.sha256"
+SAME_AS = "substr(sha256, 1, 8) = substr(?1, 1, 8) and sha256 = ?1"
+# How a type and a member are spelled.
+TYPE, MEMBER = "(select text from word where id = {})", "(select text from spelled where id = {})"
 # What SQLite raises where a database is damaged; its message may be no text.
 WRONG = (sqlite3.Error, UnicodeDecodeError)
 TABLES = "select type, name, tbl_name, sql from {}.sqlite_master"
 # What each table says without row numbers.
 CONTENT = {
-    "name": "select text from name",
+    "word": "select text from word",
+    "name": "select text from spelled",
     "string": "select text from string",
     "program": "select sha256, size from program",
     "file": "select f.sha256, f.size, status, fault, fault_name, place, p.sha256 from file f"
     " left join program p on p.id = program",
     "path": "select sha256, path, entry from path join file on id = file",
     "unread": "select path, entry, status, reason from unread",
-    "class": "select sha256, n.text, s.text, flags from class c join name n on n.id = name"
-    " left join name s on s.id = superclass",
+    "class": f"select sha256, {TYPE.format('name')}, {TYPE.format('superclass')}, flags from class",
     "has": "select p.sha256, c.sha256 from has join program p on p.id = program join class c on c.id = class",
-    "member": "select sha256, text, kind, m.flags from member m join class c on c.id = class"
-    " join name n on n.id = m.name",
-    "call": "select sha256, n.text, m.text, places from call join class c on c.id = class"
-    " join name n on n.id = caller join name m on m.id = callee",
-    "use": "select sha256, n.text, s.text, places from use join class c on c.id = class"
-    " join name n on n.id = member join string s on s.id = string",
+    "member": f"select sha256, {MEMBER.format('m.name')}, kind, m.flags from member m join class c on c.id = class",
+    "call": f"select sha256, {MEMBER.format('caller')}, {MEMBER.format('callee')}, places from call join class c on c.id = class",
+    "use": f"select sha256, {MEMBER.format('member')}, s.text, places from use join class c on c.id = class"
+    " join string s on s.id = string",
 }
 # Of a file that ended twice in different ways the first of these stays: what the file is, then what limits did.
 RANKS = ("ok", "refused", "memory", "time", "killed")
@@ -88,20 +98,33 @@ FIRST_REASON = (
     "on conflict do update set status = excluded.status, reason = excluded.reason"
     " where (excluded.status, excluded.reason) < (unread.status, unread.reason)"
 )
-# Numbers of another database's rows, and the rows: names first, so that what stands on them finds them.
-MERGE = """
-insert or ignore into main.name(text) select text from other.name;
-insert or ignore into main.string(text) select text from other.string;
+# Texts that another database has and this one hasn't. (Its own hashes aren't believed: a text with a wrong one would not be
+# found again.)
+NEW_TEXTS = """
+insert into main.{0}(hash, text) select digest(text), text from (select distinct text from other.{0}) o
+  where not exists (select 1 from main.{0} m where m.hash = digest(o.text) and m.text = o.text);
+"""
+# Numbers of another database's rows, and the rows: words first, then names, so that what stands on them finds them.
+MERGE = f"""
+{NEW_TEXTS.format("word")}{NEW_TEXTS.format("string")}
 insert or ignore into main.program(sha256, size) select sha256, size from other.program;
-create temp table names as select o.id, m.id new from other.name o join main.name m using(text);
-create temp table strings as select o.id, m.id new from other.string o join main.string m using(text);
+create temp table words as select o.id, m.id new from other.word o
+  join main.word m on m.hash = digest(o.text) and m.text = o.text;
+create temp table strings as select o.id, m.id new from other.string o
+  join main.string m on m.hash = digest(o.text) and m.text = o.text;
 create temp table programs as select o.id, m.id new from other.program o join main.program m using(sha256);
-create unique index temp.names_id on names(id, new);
+create unique index temp.words_id on words(id, new);
 create unique index temp.strings_id on strings(id, new);
 create unique index temp.programs_id on programs(id, new);
-insert or ignore into main.class(sha256, name, superclass, flags) select sha256, n.new, s.new, flags from other.class c
-  join names n on n.id = name left join names s on s.id = superclass;
-create temp table classes as select o.id, m.id new from other.class o join main.class m using(sha256);
+insert or ignore into main.name(class, member) select c.new, w.new from other.name o join words c on c.id = o.class
+  join words w on w.id = o.member;
+create temp table names as select o.id, m.id new from other.name o join words c on c.id = o.class
+  join words w on w.id = o.member join main.name m on m.class = c.new and m.member = w.new;
+create unique index temp.names_id on names(id, new);
+insert into main.class(sha256, name, superclass, flags) select sha256, n.new, s.new, flags from other.class c
+  join words n on n.id = name left join words s on s.id = superclass where not exists (select 1 from main.class m
+  where {SAME.format("m", "c")}) group by sha256;
+create temp table classes as select o.id, m.id new from other.class o join main.class m on {SAME.format("m", "o")};
 create unique index temp.classes_id on classes(id, new);
 insert or ignore into main.has select p.new, c.new from other.has join programs p on p.id = program
   join classes c on c.id = class;
@@ -112,7 +135,7 @@ insert or ignore into main.call select c.new, n.new, m.new, places from other.ca
 insert or ignore into main.use select c.new, n.new, s.new, places from other.use join classes c on c.id = class
   join names n on n.id = member join strings s on s.id = string;
 """
-DONE = "".join(f"drop table temp.{table};" for table in ("names", "strings", "programs", "classes"))
+DONE = "".join(f"drop table temp.{table};" for table in ("words", "names", "strings", "programs", "classes"))
 
 
 def kept(path: bytes) -> str | bytes:
@@ -121,6 +144,12 @@ def kept(path: bytes) -> str | bytes:
         return path.decode("utf8")
     except UnicodeDecodeError:
         return path
+
+
+def digest(text: str | bytes) -> int:
+    """By what a text is found: the first six bytes of its SHA-256. An index of whole texts would have each text again."""
+    given = text if isinstance(text, bytes) else text.encode("utf8", "surrogatepass")
+    return int.from_bytes(hashlib.sha256(given).digest()[:6], "big", signed=True)
 
 
 def place(path: str, mode: str) -> str:
@@ -139,6 +168,7 @@ def connected(path: str, is_made: bool = False) -> sqlite3.Connection:
         # (what SQLite's own page on databases of strangers asks for: www.sqlite.org/security.html)
         db.execute("pragma trusted_schema = off")
         db.execute("pragma cell_size_check = on")
+        db.create_function("digest", 1, digest, deterministic=True)
         if is_made:
             patient(lambda: made(db))
         patient(lambda: look(db, "main", name))
@@ -166,7 +196,8 @@ def look(db: sqlite3.Connection, which: str, name: str) -> None:
     if application != APPLICATION:
         raise Failed(f"{name}: no database of dexasm-corpus")
     if version != VERSION:
-        raise Failed(f"{name}: its version is {version}, and this dexasm-corpus has {VERSION}")
+        has = f"{name}: its tables are of version {version}, and those of this dexasm-corpus of version {VERSION}"
+        raise Failed(f"{has}: make it anew, by dexasm-corpus add and a new file")
     if {*db.execute(TABLES.format(which))} != tables():
         raise Failed(f"{name}: its tables, indexes, views and triggers aren't those of dexasm-corpus")
 
@@ -254,7 +285,11 @@ class Corpus:
         self.db, self.path = connected(path, is_made=True), path
         self.db.execute("pragma synchronous = normal")
         self.db.execute("pragma cache_size = -262144")
-        self.numbers: dict[str, dict[str, int]] = {"name": {}, "string": {}}
+        self.forget()
+
+    def forget(self) -> None:
+        """Forgets which numbers names and texts have: those that a transaction gave them are gone with it."""
+        self.numbers: dict[str, dict[str, int]] = {"word": {}, "string": {}, "name": {}}
 
     def known(self, key: int, is_again: bool) -> bytes:
         """The first bytes of each SHA-256 of a file that isn't looked at again, sorted."""
@@ -262,14 +297,14 @@ class Corpus:
         where = " where status in ('ok', 'refused')" if is_again else ""
         return b"".join(sha[:key] for sha, in self.db.execute(f"select sha256 from file{where} order by sha256"))
 
-    def put_all(self, found: list[tuple[Any, ...]]) -> int:
-        """One transaction; answers how many files weren't in before."""
+    def put_all(self, found: list[tuple[Any, ...]]) -> list[str]:
+        """One transaction; answers the status of each file that wasn't in before."""
         put: dict[str, Callable[..., bool]] = {"file": self.put_file, "seen": self.put_seen, "unread": self.put_unread}
         try:
             with written(self.db):
-                return sum([put[kind](kept(path), entry, *rest) for kind, path, entry, *rest in found])
+                return [one[5] for one in found if put[one[0]](kept(one[1]), *one[2:])]
         except BaseException:
-            self.numbers = {"name": {}, "string": {}}
+            self.forget()
             raise
 
     def put_unread(self, path: str | bytes, entry: str, status: str, reason: str) -> bool:
@@ -326,38 +361,49 @@ class Corpus:
 
     def one_class(self, sha: bytes, name: str, superclass: str | None, flags: int, rows: bytes) -> int | None:
         """The number of a class."""
-        there = self.db.execute("select id from class where sha256 = ?", (sha,)).fetchone()
+        there = self.db.execute(f"select id from class where {SAME_AS}", (sha,)).fetchone()
         if there:
             known: int = there[0]
             return known
-        of, text = self.number_of, self.text_of
-        row = sha, of(name), superclass and of(superclass), flags
+        of = self.name
+        row = sha, self.text("word", name), superclass and self.text("word", superclass), flags
         at = self.db.execute("insert into class(sha256, name, superclass, flags) values (?, ?, ?, ?)", row).lastrowid
         members, calls, strings = marshal.loads(rows)
         for table, found in (
             ("member", [(at, of(ref), kind, bits) for kind, ref, bits in members]),
             ("call", [(at, of(caller), of(callee), count) for caller, callee, count in calls]),
-            ("use", [(at, of(ref), text(said), count) for ref, said, count in strings]),
+            ("use", [(at, of(ref), self.text("string", said), count) for ref, said, count in strings]),
         ):
             self.db.executemany(f"insert into {table} values (?, ?, ?, ?)", found)
         return at
 
-    def number_of(self, word: str) -> int:
-        return self.number("name", word)
-
-    def text_of(self, word: str) -> int:
-        return self.number("string", word)
-
-    def number(self, table: str, word: str) -> int:
-        numbers = self.numbers[table]
-        found = numbers.get(word)
+    def name(self, ref: str) -> int:
+        """The number of a member, whose class and whose own name stand apart."""
+        found = self.numbers["name"].get(ref)
         if found is None:
-            there = self.db.execute(f"select id from {table} where text = ?", (word,)).fetchone()
-            found = there[0] if there else self.db.execute(f"insert into {table}(text) values (?)", (word,)).lastrowid
-            assert found is not None  # (a row that was put in has a number)
-            if len(numbers) >= NAMES:
-                numbers.clear()
-            numbers[word] = found
+            owner, _, member = ref.partition("->")
+            row = self.text("word", owner), self.text("word", member)
+            found = self.row_of("name", ref, "class = ? and member = ?", "(class, member)", row)
+        return found
+
+    def text(self, table: str, text: str) -> int:
+        """The number of a text in a table of texts."""
+        found = self.numbers[table].get(text)
+        if found is None:
+            found = self.row_of(table, text, "hash = ? and text = ?", "(hash, text)", (digest(text), text))
+        return found
+
+    def row_of(self, table: str, word: str, where: str, columns: str, row: tuple[Any, ...]) -> int:
+        """The number of a row that is there, or is put there; it is kept for the next time."""
+        there = self.db.execute(f"select id from {table} where {where}", row).fetchone()
+        found: int | None = there[0] if there else None
+        if found is None:
+            found = self.db.execute(f"insert into {table}{columns} values (?, ?)", row).lastrowid
+        assert found is not None  # (a row that was put in has a number)
+        numbers = self.numbers[table]
+        if len(numbers) >= NAMES:
+            numbers.clear()
+        numbers[word] = found
         return found
 
     def merge(self, path: str) -> None:

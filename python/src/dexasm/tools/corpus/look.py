@@ -11,8 +11,8 @@ import re
 from collections.abc import Callable, Generator, Iterator
 
 from dexasm.tools.basis import DEX, ZIP, Failed
-from dexasm.tools.workers.looker import ENDS, SAID, TRIES, Looker
-from dexasm.tools.workers.loop import opened_file
+from dexasm.tools.workers.looker import ENDS, TRIES, Looker
+from dexasm.tools.workers.loop import SAID, opened_file
 
 TYPE_CHECKING = False  # (as in typing)
 if TYPE_CHECKING:
@@ -34,8 +34,8 @@ class Job:
 
     needs = "hashlib", "collections", "dexasm.tools.archives", "dexasm.program"
 
-    def __init__(self, path: bytes, is_named: bool, given: bytes | None, skipped: tuple[str, ...]) -> None:
-        self.path, self.is_named, self.given, self.skipped = path, is_named, given, skipped
+    def __init__(self, path: bytes, is_named: bool, given: bytes | None, skipped: list[str]) -> None:
+        self.path, self.is_named, self.given, self.skipped = path, is_named, given, set(skipped)
 
     def open(self) -> io.BufferedReader | io.BytesIO:
         return opened_file(self.path) if self.given is None else io.BytesIO(self.given)
@@ -56,10 +56,16 @@ class Job:
                 look_at("", file.read, tell, is_known)
 
     def look_into(self, archive: zipfile.ZipFile, tell: Callable[..., None], is_known: Callable[[bytes], bool]) -> None:
+        import resource
+
         from dexasm.tools.archives import dex_files, taken_out
 
+        most = resource.getrlimit(resource.RLIMIT_AS)[0]
         for name, entries in dex_files(archive):
             if name in self.skipped:
+                continue
+            if entries[0].file_size > most:
+                tell("unread", name, "memory", SAID["memory"])  # (as it says itself)
                 continue
             try:
                 look_at(name, lambda: taken_out(archive, entries), tell, is_known)
@@ -120,14 +126,14 @@ def facts(text: str) -> tuple[object, ...]:
     members = []
     calls: Counter[tuple[str, str]] = Counter()
     strings: Counter[tuple[str, str]] = Counter()
-    for kind, fields in (("static", one.statics), ("instance", one.instances)):
+    for kind, fields in (("s", one.statics), ("i", one.instances)):
         for field in fields:
             ref = f"{name}->{spelled(field.name)}:{spelled(field.type)}"
             members.append((kind, ref, field.flags))
             for value in field.value.all() if field.value else ():
                 if value.kind == "string":
                     strings[ref, quoted(value.value)[1:-1]] += 1
-    for kind, methods in (("direct", one.directs), ("virtual", one.virtuals)):
+    for kind, methods in (("d", one.directs), ("v", one.virtuals)):
         for method in methods:
             ref = f"{name}->{spelled(method.name)}{spelled(method.proto)}"
             members.append((kind, ref, method.flags))
@@ -171,7 +177,7 @@ class CorpusLooker(Looker):
             if self.worker is None:
                 self.start()
             self.jobs += 1
-            self.send((path, is_named, given, tuple(skipped)))
+            self.send((path, is_named, given, skipped))
             entry, begun = yield from self.hear(path, skipped)
             if begun == "end":
                 return

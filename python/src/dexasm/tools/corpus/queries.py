@@ -6,7 +6,7 @@ from collections.abc import Iterable
 from typing import Any
 
 from dexasm.tools.basis import Failed
-from dexasm.tools.corpus.database import WRONG, attached, connected, is_damaged, why
+from dexasm.tools.corpus.database import MEMBER, TYPE, WRONG, attached, connected, digest, is_damaged, why
 from dexasm.tools.escapes import escaped
 
 Answer = tuple[list[str], Iterable[tuple[Any, ...]]]
@@ -24,25 +24,26 @@ where p.id in (select program from file left join path on path.file = file.id wh
   group by program having count(*) > 1)
 order by 1, 2, 4, 5
 """
-SEVERAL = """
-select n.text, lower(hex(sha256)), count(*) programs from has join class c on c.id = class join name n on n.id = c.name
+SEVERAL = f"""
+select {TYPE.format("c.name")}, lower(hex(sha256)), count(*) programs from has join class c on c.id = class
 group by class having programs > 1 order by 3 desc, 1, 2
 """
-CLASS = """
-select n.text, lower(hex(c.sha256)), s.text, c.flags, path, entry from name n join class c on c.name = n.id
-left join name s on s.id = c.superclass join has on class = c.id join file f on f.program = has.program
-join path on path.file = f.id where n.text = ? order by 2, 5, 6
+CLASS = f"""
+select {TYPE.format("c.name")}, lower(hex(c.sha256)), {TYPE.format("c.superclass")}, c.flags, path, entry from class c
+join has on class = c.id join file f on f.program = has.program join path on path.file = f.id
+where c.name = ? order by 2, 5, 6
 """
-CALLERS = """
-select m.text, n.text, places, path, entry from name m join call on callee = m.id join name n on n.id = caller
+CALLERS = f"""
+select {MEMBER.format("callee")}, {MEMBER.format("caller")}, places, path, entry from call
 join has on has.class = call.class join file f on f.program = has.program join path on path.file = f.id
-where m.text {} ? order by 1, 2, 4, 5
+where callee {{}} order by 1, 2, 4, 5
 """
-STRINGS = """
-select s.text, n.text, places, path, entry from string s join use on string = s.id join name n on n.id = member
+STRINGS = f"""
+select s.text, {MEMBER.format("member")}, places, path, entry from string s join use on string = s.id
 join has on has.class = use.class join file f on f.program = has.program join path on path.file = f.id
-where s.text {} ? order by 1, 2, 4, 5
+where {{}} order by 1, 2, 4, 5
 """
+FIND = "select id from word where hash = ? and text = ?"
 # Of each known program and each class of it the programs that have this class, and those that have one of its name.
 # (`cross join` keeps the order, from the smaller database on.)
 KNOWN = """
@@ -51,13 +52,14 @@ create temp table same(program integer, library integer, class integer, primary 
 create temp table named(program integer, library integer, class integer, primary key(program, library, class))
   without rowid;
 insert or ignore into same select h.program, k.program, k.class from known.has k
-  cross join known.class kc on kc.id = k.class cross join main.class c on c.sha256 = kc.sha256
+  cross join known.class kc on kc.id = k.class cross join main.class c on substr(c.sha256, 1, 8) = substr(kc.sha256, 1, 8)
+  and c.sha256 = kc.sha256
   cross join main.has h on h.class = c.id;
 create temp table pair as select distinct program, library from same;
 create unique index temp.pairs on pair(library, program);
 insert or ignore into named select h.program, k.program, k.class from known.has k
-  cross join known.class kc on kc.id = k.class cross join known.name kn on kn.id = kc.name
-  cross join main.name n on n.text = kn.text cross join main.class c on c.name = n.id
+  cross join known.class kc on kc.id = k.class cross join known.word kw on kw.id = kc.name
+  cross join main.word w on w.hash = digest(kw.text) and w.text = kw.text cross join main.class c on c.name = w.id
   cross join main.has h on h.class = c.id cross join pair on pair.library = k.program and pair.program = h.program;
 create temp table placed as select program library, min(path) path, entry from known.file
   join known.path on known.path.file = known.file.id where program is not null group by program;
@@ -76,7 +78,7 @@ select a.path, a.entry, l.path, l.entry, n.text,
 case when same.class is not null then 'same' when named.class is not null then 'changed' else 'missing' end
 from pair p cross join placed l on l.library = p.library cross join main.file f on f.program = p.program
 cross join main.path a on a.file = f.id cross join known.has k on k.program = p.library
-cross join known.class c on c.id = k.class cross join known.name n on n.id = c.name
+cross join known.class c on c.id = k.class cross join known.word n on n.id = c.name
 left join same on same.program = p.program and same.library = p.library and same.class = k.class
 left join named on named.program = p.program and named.library = p.library and named.class = k.class
 order by 1, 2, 3, 4, 5
@@ -92,8 +94,18 @@ def spelled(word: str, is_name: bool) -> str:
     return names.spelled(word) if is_name else names.quoted(word)[1:-1]
 
 
-def how(asked: Any) -> str:
-    return "glob" if asked.pattern else "="
+def word_of(db: sqlite3.Connection, word: str) -> int | None:
+    """The number of a type, or of a member without its class, that a database has."""
+    found = db.execute(FIND, (digest(word), word)).fetchone()
+    return found and int(found[0])
+
+
+def name_of(db: sqlite3.Connection, asked: str) -> int | None:
+    """The number of a member that a database has."""
+    owner, _, member = spelled(asked, True).partition("->")
+    found = db.execute("select id from name where class = ? and member = ?", (word_of(db, owner), word_of(db, member)))
+    row = found.fetchone()
+    return row and int(row[0])
 
 
 def refused(db: sqlite3.Connection, asked: Any) -> Answer:
@@ -107,16 +119,23 @@ def same(db: sqlite3.Connection, asked: Any) -> Answer:
 def classes(db: sqlite3.Connection, asked: Any) -> Answer:
     if asked.name is None:
         return ["class", "sha256", "programs"], db.execute(SEVERAL)
-    return ["class", "sha256", "superclass", "flags", "path", "entry"], db.execute(CLASS, (spelled(asked.name, True),))
+    return ["class", "sha256", "superclass", "flags", "path", "entry"], db.execute(CLASS, (word_of(db, spelled(asked.name, True)),))
 
 
 def callers(db: sqlite3.Connection, asked: Any) -> Answer:
-    rows = db.execute(CALLERS.format(how(asked)), (spelled(asked.word, True),))
+    if asked.pattern:
+        rows = db.execute(CALLERS.format("in (select id from spelled where text glob ?)"), (spelled(asked.word, True),))
+    else:
+        rows = db.execute(CALLERS.format("= ?"), (name_of(db, asked.word),))
     return ["method", "caller", "places", "path", "entry"], rows
 
 
 def strings(db: sqlite3.Connection, asked: Any) -> Answer:
-    rows = db.execute(STRINGS.format(how(asked)), (spelled(asked.word, False),))
+    text = spelled(asked.word, False)
+    if asked.pattern:
+        rows = db.execute(STRINGS.format("s.text glob ?"), (text,))
+    else:
+        rows = db.execute(STRINGS.format("s.hash = ? and s.text = ?"), (digest(text), text))
     return ["string", "member", "places", "path", "entry"], rows
 
 

@@ -26,7 +26,7 @@ class Verified:
         self.corpus, self.claims = corpus, claims
         self.files: set[bytes] = set()
 
-    def put_all(self, found: list[tuple[Any, ...]]) -> int:
+    def put_all(self, found: list[tuple[Any, ...]]) -> list[str]:
         mine = [one for one in found if one[0] != "unread" and (one[3], kept(one[1]), one[2]) in self.claims]
         self.files.update(one[3] for one in mine)
         return self.corpus.put_all(mine)
