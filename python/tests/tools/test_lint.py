@@ -319,7 +319,7 @@ end code
             self.check(f"dexasm-lint {words} {env}", is_so and is_one_line(got[2], "dexasm-lint: "), got)
         put(at, "a.zip", b"PK\3\4" + bytes(99))
         got = tool("dexasm-lint", "a.zip", "ok.txt", at=at)
-        self.check("dexasm-lint, an archive", got[:2] == (3, "ok.txt: ok\n") and "dexasm-apk" in got[2], got)
+        self.check("dexasm-lint, an archive", got[:2] == (3, "ok.txt: ok\n") and "no zip archive" in got[2], got)
         for words in (("--rules",), (f"--{ESC}[31m",), ("-x",)):
             got = tool("dexasm-lint", *words, at=at)
             self.check(f"dexasm-lint {words!r}", got[:2] == (2, "") and ESC not in got[2] and "usage: " in got[2], got)

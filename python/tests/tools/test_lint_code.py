@@ -15,7 +15,7 @@ from collections.abc import Iterable, Iterator
 from typing import Any
 
 from dexasm import program as programs
-from dexasm.code import Insn
+from dexasm.code import Insn, Label, PackedSwitch
 from dexasm.tools.lint import code as lint_code, kinds, verify
 from dexasm.tools.lint.asks import Line
 from dexasm.tools.lint.classes import Classes
@@ -23,6 +23,12 @@ from dexasm.tools.lint.steps import step_of
 from tests import tried
 from .rooms import ESC, HEAD, TOP, HelperTest, assembled, dexasm, get, put, room, tool
 
+SWITCH = "packed-switch v0 :p / :x / return-void / :p / packed-switch-payload {}"
+CATCH = (
+    ":a / invoke-static {{ }} LX;->m()V / :b / return-void / :h / move-exception v0 / return-void / try :a :b / "
+    "catch {} :h"
+)
+HANDLER = CATCH.replace("v0 / return-void", "v0 / neg-int v0 v0 => nop / return-void")
 Row = tuple[Any, ...]  # rule, method, code, and of some the number of the instruction that is told of
 PUBLIC, STATIC, CONSTRUCTOR = 0x1, 0x8, 0x10001
 ROWS: tuple[Row, ...] = (
@@ -53,6 +59,17 @@ ROWS: tuple[Row, ...] = (
     ("register-kind", "([IF)V 2 2 0", "aget v0 v0 v1 => float-to-int v1 v1 / return-void"),
     ("register-kind", "([FI)V 2 2 0", "aput v1 v0 v1 => aget v1 v0 v1 / return-void"),
     ("register-kind", "(I)V 1 1 0", "aget v0 v0 v0 => nop / return-void"),
+    ("register-kind", "()LX; 1 0 0", "const/4 v0 0 / aget v0 v0 v0 => aget-object v0 v0 v0 / return-object v0", 2),
+    (
+        "register-kind",
+        "()V 1 0 0",
+        "const/4 v0 0 / aget-byte v0 v0 v0 => aget v0 v0 v0 / neg-float v0 v0 / return-void",
+        2,
+    ),
+    ("register-kind", "()V 1 0 0", HANDLER.format("Landroid/os/RemoteException;")),
+    ("register-kind", "()V 1 0 0", HANDLER.format("Lorg/json/JSONException;")),
+    ("register-kind", "()V 1 0 0", HANDLER.format("LE;")),
+    ("register-kind", "()V 1 0 0", HANDLER.format("LX; :h / catchall")),
     ("register-kind", "(F)V 1 1 0", "new-array v0 v0 [I => const/4 v0 1 / return-void"),
     ("register-kind", "(F)I 1 1 0", "return v0 => float-to-int v0 v0 / return v0"),
     ("register-kind", "(II)LX; 2 2 0", "return-object v0 => const/4 v0 0 / return-object v0"),
@@ -82,6 +99,18 @@ ROWS: tuple[Row, ...] = (
         "(I)V 3 1 1",
         "const/4 v1 0 / :x / new-instance v0 LX; / if-eqz v1 :y / "
         "invoke-direct { v1 } LX;-><init>()V => nop / :y / move-object v1 v0 => nop / if-nez v2 :x / return-void",
+        2,
+    ),
+    ("register-unset", "(I)V 2 1 0", "if-eqz v1 :y / const/4 v0 1 => nop / :y / move v1 v0 => nop / return-void", 2),
+    (
+        "register-unset",
+        "(I)V 2 1 0",
+        "if-eqz v1 :y / sget-object v0 LX;->o:LX; / :y / move-object v0 v0 => nop / return-void",
+    ),
+    (
+        "register-unset",
+        "(I)V 3 1 0",
+        "if-eqz v2 :y / const-wide/16 v0 1 => nop / :y / move-wide v0 v0 => nop / return-void",
         2,
     ),
     ("register-unset", "()V 1 0 0", "neg-int v0 v0 => const/4 v0 0 / return-void"),
@@ -124,6 +153,11 @@ ROWS: tuple[Row, ...] = (
         "uninitialized-use",
         "<init> (I)V 2 2 1",
         "iput v1 v0 LB;->b:I => iput v1 v0 LT;->f:I / " "invoke-direct { v0 } LB;-><init>()V / return-void",
+    ),
+    (
+        "uninitialized-use",
+        "<init> (I)V 2 2 1",
+        "iput v1 v0 LT;->b:I => iput v1 v0 LT;->f:I / invoke-direct { v0 } LB;-><init>()V / return-void",
     ),
     (
         "uninitialized-use",
@@ -176,6 +210,14 @@ ROWS: tuple[Row, ...] = (
     ("call-kind", "(LT;)V 1 1 1", "invoke-static { } LT;->v()V => invoke-virtual { v0 } LT;->v()V / return-void"),
     ("call-kind", "this ()V 1 1 1", "invoke-direct { v0 } LT;->q()V => invoke-static { } LT;->q()V / return-void"),
     ("call-kind", "(LI;)V 1 1 1", "invoke-virtual { v0 } LI;->m()V => invoke-interface { v0 } LI;->m()V / return-void"),
+    (
+        "call-kind",
+        "(LI;)V 1 1 1",
+        "invoke-interface { v0 } LI;->p()V => invoke-interface { v0 } LI;->m()V / return-void",
+    ),
+    ("call-kind", "(LI;)V 1 1 1", "invoke-direct { v0 } LI;->p()V => invoke-interface { v0 } LI;->m()V / return-void"),
+    ("call-kind", "(LI;)V 1 1 1", "invoke-virtual { v0 } LI;->s()V => invoke-static { } LI;->s()V / return-void"),
+    ("call-kind", "()V 0 0 0", "invoke-static { } LI;->m()V => invoke-static { } LI;->s()V / return-void"),
     ("call-kind", "(LT;)V 1 1 1", "invoke-interface { v0 } LT;->v()V => invoke-virtual { v0 } LT;->v()V / return-void"),
     (
         "call-kind",
@@ -299,6 +341,15 @@ ROWS: tuple[Row, ...] = (
         "move-exception v0 => nop / return-void / try :a :b / catchall :h",
         3,
     ),
+    (
+        "exception-place",
+        "()V 1 0 0",
+        ":h / move-exception v0 => nop / :a / invoke-static { } LX;->m()V / :b / return-void / try :a :b / catchall :h",
+        0,
+    ),
+    ("switch-keys", "(I)V 1 1 0", SWITCH.format("0x7fffffff :x :x => packed-switch-payload 0x7ffffffe :x :x"), 0),
+    ("switch-keys", "(I)V 1 1 0", SWITCH.format("2147483645 :x :x :x :x => packed-switch-payload 5"), 0),
+    ("switch-keys", "(I)V 1 1 0", SWITCH.format("0x7ffffffe :x :x :x => packed-switch-payload 0x7fffffff :x"), 0),
     ("falls-off", "()V 1 0 0", "nop => return-void"),
     ("falls-off", "(I)V 1 1 0", ":x / nop / if-eqz v0 :x => goto :x"),
     ("falls-off", "()V 1 0 0", "invoke-static { } LX;->m()V => return-void"),
@@ -325,14 +376,51 @@ ROWS: tuple[Row, ...] = (
     ("return-range", "(C)B 1 1 0", "nop => int-to-byte v0 v0 / return v0", 1),
     ("return-range", "()Z 1 0 0", "const/16 v0 300 => const/16 v0 1 / return v0", 1),
     ("return-range", "(S)C 1 1 0", "nop => int-to-char v0 v0 / return v0", 1),
+    ("return-range", "()Z 1 0 0", "const/4 v0 2 => const/4 v0 1 / return v0", 1),
+    ("return-range", "()Z 1 0 0", "const/4 v0 -1 => const/4 v0 0 / return v0", 1),
+    ("return-range", "(I)Z 2 1 0", "const/4 v0 0 / if-eqz v1 :x / const/4 v0 2 => const/4 v0 1 / :x / return v0", 3),
+    ("return-range", "()B 1 0 0", "const/16 v0 128 => const/16 v0 127 / return v0", 1),
+    ("return-range", "()S 1 0 0", "const v0 32768 => const v0 32767 / return v0", 1),
+    ("return-range", "()C 1 0 0", "const/4 v0 -1 => const v0 65535 / return v0", 1),
+    ("return-range", "(I)C 2 1 0", "const v0 65535 / if-eqz v1 :x / const/4 v0 -8 => const/4 v0 7 / :x / return v0", 3),
     ("throw-type", "(Ljava/lang/Object;)V 1 1 0", "nop => check-cast v0 LX; / throw v0", 1),
     ("throw-type", "(LB;)V 1 1 0", "throw v0 => return-void"),
     ("throw-type", "([I)V 1 1 0", "throw v0 => return-void"),
+    ("catch-type", "()V 1 0 0", CATCH.format("LD; :h => catch LX;"), 2),
+    ("catch-type", "()V 1 0 0", CATCH.format("[I :h => catch Ljava/lang/Error;"), 2),
+    ("catch-type", "()V 1 0 0", CATCH.format("[Ljava/lang/Error; :h => catch Ljava/lang/Exception;"), 2),
+    ("catch-type", "()V 1 0 0", CATCH.format("I :h => catch LE;"), 2),
+    ("catch-type", "()V 1 0 0", CATCH.format("Ljava/lang/Object; :h => catch Ljava/lang/Throwable;"), 2),
+    (
+        "catch-type",
+        "()V 1 0 0",
+        ":a / invoke-static { } LX;->m()V / :b / return-void / :h / move-exception v0 / throw v0 / try :a :b / "
+        "catch Ljava/lang/Error; :h / catch LT; :h => catch LE; :h",
+        2,
+    ),
     ("array-kind", "([JI)V 4 2 0", "aget v0 v2 v3 => aget-wide v0 v2 v3 / return-void"),
     ("array-kind", "([BI)V 2 2 0", "aget-boolean v0 v0 v1 => aget-byte v0 v0 v1 / return-void"),
     ("array-kind", "([LX;I)V 2 2 0", "aget v0 v0 v1 => aget-object v0 v0 v1 / return-void"),
     ("array-kind", "(LX;I)V 2 2 0", "aget v0 v0 v1 => check-cast v0 [I / return-void"),
     ("array-kind", "(Ljava/lang/Object;)V 1 1 0", "array-length v0 v0 => check-cast v0 [I / return-void"),
+    (
+        "array-kind",
+        "([LX;[LY;I)V 3 3 0",
+        "if-eqz v2 :x / move-object v0 v1 / :x / aput v2 v0 v2 => aget-object v0 v0 v2 / return-void",
+        2,
+    ),
+    (
+        "array-kind",
+        "([LX;LX;I)V 3 3 0",
+        "if-eqz v2 :x / move-object v0 v1 => nop / :x / aget-object v0 v0 v2 / return-void",
+        2,
+    ),
+    (
+        "array-kind",
+        "([I[JI)V 3 3 0",
+        "if-eqz v2 :x / move-object v0 v1 => nop / :x / array-length v0 v0 / return-void",
+        2,
+    ),
     ("array-kind", "([SI)V 2 2 0", "aput-char v1 v0 v1 => aput-short v1 v0 v1 / return-void"),
     ("array-data", "([J)V 1 1 0", "fill-array-data v0 :p => nop / return-void / :p / array-payload 4 00000000"),
     ("array-data", "([LX;)V 1 1 0", "fill-array-data v0 :p => nop / return-void / :p / array-payload 4 00000000"),
@@ -343,10 +431,14 @@ ROWS: tuple[Row, ...] = (
     ),
     ("array-type", "(I)V 1 1 0", "new-array v0 v0 I => new-array v0 v0 [I / return-void"),
     ("array-type", "(I)V 1 1 0", "new-array v0 v0 LX; => new-array v0 v0 [LX; / return-void"),
+    ("array-type", "(J)V 2 2 2", "filled-new-array { v0 v1 } [J => nop / return-void"),
+    ("array-type", "(D)V 2 2 2", "filled-new-array/range v0 2 [D => const/4 v0 0 / return-void"),
+    ("array-type", "()V 0 0 0", "filled-new-array { } [J => filled-new-array { } [[J / return-void"),
     ("array-type", "(I)V 1 1 1", "filled-new-array { v0 } I => filled-new-array { v0 } [I / return-void"),
     ("new-type", "()V 1 0 0", "new-instance v0 [I => new-instance v0 LX; / return-void"),
     ("new-type", "()V 1 0 0", "new-instance v0 LI; => new-instance v0 LB; / return-void"),
     ("new-type", "()V 1 0 0", "new-instance v0 LC; => new-instance v0 LD; / return-void"),
+    ("new-type", "()V 1 0 0", "new-instance v0 Ljava/lang/Class; => const-class v0 LX; / return-void"),
     ("new-type", "()V 1 0 0", "new-instance v0 I => new-instance v0 LX; / return-void"),
     ("cast-type", "(LX;)V 1 1 0", "check-cast v0 I => check-cast v0 [I / return-void"),
     ("cast-type", "(LX;)V 1 1 0", "instance-of v0 v0 J => instance-of v0 v0 LX; / return-void"),
@@ -397,6 +489,25 @@ FINE = (
     ("()Z 2 0 0", "const/4 v0 1 / const/4 v1 0 / xor-int/2addr v0 v1 / return v0"),
     ("(II)C 2 2 0", "return v0"),
     ("()LX; 1 0 0", "const/4 v0 0 / aget-object v0 v0 v0 / return-object v0"),
+    ("()F 1 0 0", "const/4 v0 0 / aget v0 v0 v0 / return v0"),
+    ("()Z 1 0 0", "const/4 v0 0 / aget-boolean v0 v0 v0 / return v0"),
+    ("(B)Z 1 1 0", "return v0"),
+    ("(BZ)Z 2 2 0", "if-nez v1 :x / const/4 v0 5 / :x / return v0"),
+    ("([LD;[LE;I)LX; 3 3 0", "if-eqz v2 :x / move-object v0 v1 / :x / aget-object v0 v0 v2 / return-object v0"),
+    (
+        "([LD;[[II)LB; 3 3 2",
+        "if-eqz v2 :x / move-object v0 v1 / :x / aput-object v0 v0 v2 / invoke-static { v0 } LX;->m(LX;)V / "
+        "check-cast v0 LB; / return-object v0",
+    ),
+    ("([JLD;I)V 3 3 1", "if-eqz v2 :x / move-object v0 v1 / :x / invoke-static { v0 } LX;->m(LX;)V / return-void"),
+    ("(I)V 1 1 0", SWITCH.format("0x7ffffffe :x :x")),
+    ("()V 1 0 0", HANDLER.format("Ldo/not/Found;").replace(" => nop", "")),
+    ("()V 1 0 0", HANDLER.format("LU;").replace(" => nop", "")),
+    ("()V 1 0 0", HANDLER.format("Ljava/lang/instrument/X;").replace(" => nop", "")),
+    ("()V 1 0 0", HANDLER.format("Landroid/support/v4/X;").replace(" => nop", "")),
+    ("()V 1 0 0", CATCH.format("[LU;").replace("v0 / return-void", "v0 / return v0")),
+    ("(LT;)V 1 1 0", CATCH.format("LD;").replace("move-exception v0", "nop")),
+    ("()V 0 0 0", "invoke-static { } LI;->s()V / invoke-static { } LI;->absent()V / return-void"),
     ("(LT;[LB;)V 2 2 0", "const/4 v1 0 / aput-object v0 v1 v1 / return-void"),
     ("([LB;LD;)V 3 2 0", "const/4 v0 0 / aput-object v2 v1 v0 / return-void"),
     ("()V 1 0 0", "goto :x / neg-int v0 v0 / :x / return-void"),
@@ -407,9 +518,70 @@ FINE = (
         "LX;-><init>()V / return-object v1",
     ),
 )
+# Codes, and what is said of them, with types and places in backquotes.
+SAID = (
+    (
+        "(I)V 2 1 0",
+        "if-eqz v1 :x / const/4 v0 1 / :x / move v1 v0 / return-void",
+        "v0 is set on one way to here, to a constant (from `1`), and not on another, and move takes an int or a float: set "
+        "it alike on each way",
+    ),
+    (
+        "()V 2 0 0",
+        "move v1 v0 / return-void",
+        "v0 isn't set on any way to here, and move takes an int or a float: set it alike on each way",
+    ),
+    (
+        "(I[ILX;)V 4 3 0",
+        "const/4 v0 0 / if-eqz v1 :x / move-object v0 v2 / if-lez v1 :x / move-object v0 v3 / :x / array-length v0 v0 / "
+        "return-void",
+        "v0 holds a reference (`[I`, from `2`) on one way to here and a reference (`LX;`, from `4`) on another, and "
+        "array-length takes an array",
+    ),
+    (
+        "([LX;[LY;I)V 3 3 0",
+        "if-eqz v2 :x / move-object v0 v1 / :x / aput v2 v0 v2 / return-void",
+        "v0 is an array of references: aput-object is for that",
+    ),
+    ("()V 1 0 0", CATCH.format("LD;"), "the handler is of `LD;`, which is no Throwable: nothing like it is thrown"),
+    (
+        "(I)V 1 1 0",
+        SWITCH.format("2147483646 :x :x :x"),
+        "the keys of its payload go from 2147483646 to 2147483648, which is no int",
+    ),
+    (
+        "(LI;)V 1 1 1",
+        "invoke-interface { v0 } LI;->p()V / return-void",
+        "the method is private, and `LI;` an interface: no instruction of version 035 calls it",
+    ),
+    ("(LI;)V 1 1 1", "invoke-direct { v0 } LI;->s()V / return-void", "the method is static: invoke-static calls it"),
+    (
+        "()V 0 0 0",
+        "invoke-static { } LI;->m()V / return-void",
+        "`LI;` is an interface: invoke-interface calls its methods",
+    ),
+    (
+        "(J)V 2 2 2",
+        "filled-new-array { v0 v1 } [J / return-void",
+        "`[J` has elements of two registers each: new-array makes such an array",
+    ),
+    (
+        "()Z 1 0 0",
+        "const/4 v0 2 / return v0",
+        "v0 holds a constant (from `0`), and the method answers a boolean: write a constant of its range",
+    ),
+)
 WORLD = """class LI; 0x601
 super Ljava/lang/Object;
+direct p ()V 0x102
+direct s ()V 0x109
 virtual m ()V 0x401
+end class
+class LE; 0x1
+super Ljava/lang/Exception;
+end class
+class LU; 0x1
+super Ldo/not/Found;
 end class
 class LB; 0x1
 super Ljava/lang/Object;
@@ -519,6 +691,8 @@ def is_taken(made: kinds.Kinds, mnemonic: str, given: tuple[str, ...], answers: 
     registers = [2 * at for at in range(len(given))]
     to = [] if mnemonic.endswith("/2addr") or not answers else [6]
     insn = of_name(mnemonic, *to, *registers, literal=7 if "/lit" in mnemonic or mnemonic == "rsub-int" else None)
+    if mnemonic.endswith("-switch"):
+        insn.target = Label(PackedSwitch(0, []))
     step_of(mnemonic).run(Nothing(made, told), insn, line, 0)
     at = 6 if to else 0
     want = TYPES.get(answers) or (NARROW.get(answers),)
@@ -714,6 +888,13 @@ class LintCode(HelperTest):
         seen = [(one["class"], one["instruction"], one["why"]) for one in told if one["status"] != "ok"]
         self.check_equal("dexasm-lint --code, codes that a device takes", (status, seen, said), (0, [], ""))
 
+    def test_said(self) -> None:
+        """What is said where a register is set on some ways, and where it is an array on some; of handlers and calls."""
+        rows = [(number, ("", head, text)) for number, (head, text, _) in enumerate(SAID)]
+        os.environ.setdefault("DEXASM_COMMAND", tried.program())
+        told = [one.text for one in lint_code.look(programs.Program.parse(listing(0, rows)))]
+        self.check_equal("dexasm-lint --code, sentences", told, [said for *_, said in SAID])
+
     def test_named(self) -> None:
         """Each such instruction takes the types that its name says, and no other ones, and answers that of its name."""
         made, count = all_kinds()[0], 0
@@ -745,7 +926,10 @@ class LintCode(HelperTest):
             ("int", "reference", "conflict"),
             ("wide low", "long low", "long low"),
             ("long low", "double low", "conflict"),
-            ("unset", "zero", "conflict"),
+            ("unset", "zero", "unset"),
+            ("unset", "conflict", "unset"),
+            ("unset", "new", "unset"),
+            ("unset", "any", "any"),
             ("conflict", "any", "any"),
             ("new", "null", "conflict"),
         ):
@@ -865,6 +1049,58 @@ class LintCode(HelperTest):
         status, out, said = tool("dexasm-lint", "--code", "bad.txt", ESC, at=at)
         is_so = (status, out) == (1, "\\x1b: ok\n") and said == "dexasm-lint: bad.txt: dexasm: refused 100 Word at 3\n"
         self.check("dexasm-lint --code, a file that is refused", is_so, (status, out, said))
+
+    def test_boot(self) -> None:
+        """A class that the boot class path has too is taken as the file has it, and with --skip-boot as if it weren't
+        there.
+        """
+        is_boot = dict.fromkeys(("Ljava/util/Timer;", "Ljavax/net/B;", "Landroid/app/A;", "Ldalvik/a/B;"), True)
+        is_boot |= dict.fromkeys(("Lorg/json/A;", "Lorg/w3c/dom/A;", "Lorg/xml/sax/a/B;", "Lsun/misc/A;"), True)
+        is_boot |= dict.fromkeys(("Landroid/support/a/B;", "Landroidx/a/B;", "Ljavassist/A;", "Lorg/jsonx/A;"), False)
+        is_boot |= dict.fromkeys(("Ljavax/inject/A;", "Landroid/databinding/A;", "Landroid/arch/A;"), False)
+        is_boot |= dict.fromkeys(("La/Ljava/util/A;", "Ljava;", "Lsun;"), False)
+        wrong = code("(F)V", "1 1 0", "neg-int v0 v0\nreturn-void\n")
+        shadows = "".join(of_class(wrong, name).partition("\n")[2].replace("0x1\n", "0x401\n", 1) for name in is_boot)
+        at, text = room("lint boot"), of_class("") + shadows
+        for number, name in enumerate(is_boot):
+            made = code("()V", "1 0 0", f"new-instance v0 {name}\nreturn-void\n")
+            text += of_class(made, f"LM{number};").partition("\n")[2]
+        both = {(name, "register-kind") for name in is_boot} | {(f"LM{at};", "new-type") for at in range(len(is_boot))}
+        kept = {(name, "register-kind") for name, is_so in is_boot.items() if not is_so}
+        kept |= {(f"LM{at};", "new-type") for at, is_so in enumerate(is_boot.values()) if not is_so}
+        for words, want in (((), both), (("--skip-boot",), kept), (("--skip-boot", "--jobs", "2"), kept)):
+            status, told, said = lint(text, *words, at=at)
+            seen = {(one["class"], one["rule"]) for one in told}
+            self.check_equal(f"dexasm-lint --code {words}, the boot class path", (status, seen, said), (1, want, ""))
+
+    def test_shared(self) -> None:
+        """A code that methods share is judged once for each signature, and told of in each method."""
+        os.environ.setdefault("DEXASM_COMMAND", tried.program())
+        same = "code 1 1 1\nneg-int v0 v0\nreturn-void\nend code\n"
+        asks = "code 1 1 1\ninvoke-direct { v0 } LQ;->p()V\nreturn-void\nend code\n"
+        text = HEAD.decode()
+        for name in ("LA;", "LB;", "LC;"):
+            text += f"class {name} 0x1\nsuper Ljava/lang/Object;\n"
+            text += "".join(f"direct {m} {proto} 0x9\n{same}" for m in "mn" for proto in ("(F)V", "(I)V"))
+            text += f"direct o (LQ;)V 0x9\n{asks}"
+            text += "".join(f"virtual {m} ()V 0x1\n{same}" for m in "vw") + "end class\n"
+        program, looked = programs.Program.parse(text), list[str]()
+
+        class Counted(verify.Method):
+            def check(self) -> list[verify.Wrong]:
+                looked.append(f"{'' if self.is_static else self.class_name}{self.parameters}")
+                return super().check()
+
+        vars(lint_code)["Method"] = Counted
+        try:
+            told = [*lint_code.look(program)]
+        finally:
+            vars(lint_code)["Method"] = verify.Method
+        self.check_equal("dexasm-lint --code, codes that are shared", len(looked), 1 + 1 + 3 + 3)
+        seen = [(one.row, program.classes[one.row].methods[one.method].signature, one.rule) for one in told]
+        wrong = [("m(F)V", "register-kind"), ("n(F)V", "register-kind"), ("v()V", "register-kind")]
+        want = [(row, *one) for row in range(3) for one in (*wrong, ("w()V", "register-kind"))]
+        self.check_equal("dexasm-lint --code, methods that share codes", seen, want)
 
     def test_bounds(self) -> None:
         """A method beyond what is looked at isn't called right."""

@@ -1,6 +1,6 @@
 """Says where a program breaks a rule that Android's verifier has and dexasm doesn't ask.
 
-usage: dexasm-lint [--code [--jobs N]] [--json|--sarif] [FILE..]
+usage: dexasm-lint [--code [--skip-boot] [--jobs N] [--seconds N]] [--allow-empty] [--json|--sarif] [FILE..]
 
 `dexasm check` says `ok` of a file that keeps docs/FORMAT.md; Android's verifier of .dex files asks a few things more of
 a program, of flags, lists of members, names, values and outs. For each member that breaks one there is a line: FILE,
@@ -37,7 +37,9 @@ number and its address in units:
   a.txt:9:12: error: v3 holds a reference (java.lang.String, from line 7), and add-int takes an int (register-kind, B1)
   a.dex: LA;->m(I)V: 7 (0x0a): error: v3 holds ..
 
-A class that isn't in the file is taken as right, whatever is asked of it. The rules:
+A class that isn't in the file is taken as right, whatever is asked of it; one that is, is taken as the file has it, also
+where a device has its own of that name (--skip-boot). Code behind a handler of a class that a device may not find isn't
+looked at, as then on the device. The rules:
 
   register-kind  a register holds another kind of value than the instruction takes
   ways-differ  a register is read that holds one kind of value on one way and another one on another
@@ -58,16 +60,18 @@ A class that isn't in the file is taken as right, whatever is asked of it. The r
   result-place  a move-result isn't right behind a call, or something else leads to it
   result-kind  a move-result takes another kind of value than its call answers
   exception-place  a move-exception isn't the first instruction of a handler, or something else leads to it
+  catch-type  a handler is of a class of the file, an array or a primitive type that is no Throwable
   falls-off  the flow runs past the last instruction
   payload-reached  the flow runs into the data of a switch or of an array
+  switch-keys  the keys of a packed-switch run past the greatest int
   return-kind  a return is of another kind than the method's type
   return-type  what is returned can't be of the method's type
   return-range  what is returned lies in a range that the method's type doesn't have
   throw-type  what is thrown is no Throwable
   array-kind  an instruction for arrays is given something else, or an array of other elements
   array-data  data of an array is of another width than its elements, or these are references
-  array-type  new-array or filled-new-array names a type that is no array
-  new-type  new-instance names an array, a primitive type, an interface or an abstract class
+  array-type  new-array or filled-new-array names a type that is no array, or the latter one of long or double
+  new-type  new-instance names an array, a primitive type, an interface, an abstract class or java.lang.Class
   cast-type  check-cast or instance-of names a primitive type
   ins-count  the ins of a code aren't as many as the method's parameters take
   outs-short  the outs of a code aren't enough for a call
@@ -76,9 +80,14 @@ A class that isn't in the file is taken as right, whatever is asked of it. The r
             instruction, address, register, sentence, why; what isn't known is null. The status is broken, ok (of a
             file), refused or failed (it can't be looked at)
   --sarif   one document of SARIF 2.1.0, which has what is broken
+  --skip-boot  takes a class of a package that the boot class path has (java, javax.net, android, dalvik, sun, org.json
+            ..) for one that isn't in the file, as a device does, and doesn't look at its code
   --jobs N  has --code look by N workers, each at some of a file's classes
+  --seconds N  so long --code may take for a file, of the processor (600, or a fraction such as 0.5; ten times as much by
+            the clock); what isn't looked at by then has a line that says so
 
-FILE is a .dex file or a listing, `-` or none at all standard input. One that dexasm refuses has dexasm's own line on
+FILE is a .dex file or a listing, `-` or none at all standard input; or an archive, of which each classes*.dex is looked
+at, or app.apk!classes2.dex. One without a classes*.dex is a line and status 3, unless --allow-empty is given. One that dexasm refuses has dexasm's own line on
 standard error, and the others go on. A method with so many registers and ways that it isn't looked at to its end has a
 line that says so.
 
@@ -88,17 +97,20 @@ looked at to its end; 4 out of memory. Of several files it is the highest.
 from __future__ import annotations
 
 import os
+import signal
 import sys
 
 from dexasm.tools.asking import dex_from, is_listing, listed
 from dexasm.tools.basis import FAILED, MEMORY, REFUSED, Failed
 from dexasm.tools.check.checkers import Verdict
-from dexasm.tools.files import get, name_of
-from dexasm.tools.helper import helper, positive
-from dexasm.tools.helper import say
+from dexasm.tools.escapes import escaped
+from dexasm.tools.files import name_of
+from dexasm.tools.inputs import inputs_of, parted
+from dexasm.tools.helper import helper, positive, say, seconds as in_seconds
 from dexasm.tools.lint.code import broken_by, kind_by, line_of, looked_at, member_of
 from dexasm.tools.lint.rules import RULES
-from dexasm.tools.verdicts import Json, Sarif, Text, harmless, sentence_of, status_of
+from dexasm.tools.workers.loop import CLOCK, SAID
+from dexasm.tools.verdicts import Json, Sarif, Text, sentence_of, status_of
 
 TYPE_CHECKING = False  # (as in typing)
 if TYPE_CHECKING:
@@ -107,6 +119,7 @@ if TYPE_CHECKING:
     from typing import Any
 
     from dexasm.tools.helper import Words
+    from dexasm.tools.inputs import Input
 
 ENDS = {REFUSED: "refused", MEMORY: "memory"}
 
@@ -115,7 +128,8 @@ class Lines(Text):
     """Lines for people: of a rule of files the class or member, of one of code the place."""
 
     def lines(self, verdict: Verdict) -> list[str]:
-        name = harmless(name_of(None if verdict.path == b"-" else verdict.path))
+        name = name_of(None if verdict.path == b"-" else verdict.path)
+        name += f"!{escaped(verdict.entry)}" if verdict.entry else ""
         if verdict.status == "ok":
             return [f"{name}: ok"]
         if verdict.class_ is None:
@@ -141,18 +155,46 @@ FORMS: dict[str, type[Text]] = {"json": LintJson, "sarif": LintSarif}
 
 def of_file(path: str | None, asked: Namespace) -> Iterator[Verdict]:
     """What is known of one file."""
-    given, name = get(path), name_of(path)
-    is_text, file = is_listing(given), os.fsencode(path or "-")
-    program = listed(dex_from(given, name), name)
-    is_ok = True
-    for verdict in broken_by(file, is_text, program):
-        is_ok = False
-        yield verdict
-    for verdict in looked_at(file, given, is_text, program, asked.jobs) if asked.code else ():
-        is_ok = False
-        yield verdict
-    if is_ok:
-        yield Verdict(file, "", kind_by(is_text), "ok")
+    file = os.fsencode(parted(path)[0] or path or "-")
+    for given in inputs_of(path, is_empty_allowed=asked.allow_empty):
+        is_ok = True
+        for verdict in of_input(file, given, asked):
+            is_ok = False
+            yield verdict._replace(entry=given.entry)
+        if is_ok:
+            yield Verdict(file, given.entry, kind_by(is_listing(given.data)), "ok")
+
+
+def of_input(file: bytes, given: Input, asked: Namespace) -> Iterator[Verdict]:
+    """The rules that a file breaks, or an entry of an archive."""
+    data, name = given.data, given.name
+    is_text = is_listing(data)
+    program = listed(dex_from(data, name), name)
+    yield from broken_by(file, is_text, program)
+    if asked.code:
+        yield from within(asked.seconds, looked_at(file, data, is_text, program, asked.jobs, asked.skip_boot), name)
+
+
+def within(seconds: float, found: Iterator[Verdict], name: str) -> Iterator[Verdict]:
+    """The same, unless finding them takes longer, of the processor or by the clock."""
+
+    def stop(*_: object) -> None:
+        raise Failed(f"{name}: {SAID['time']}")
+
+    left = [seconds, CLOCK * seconds]
+    timers = (signal.ITIMER_PROF, signal.SIGPROF), (signal.ITIMER_REAL, signal.SIGALRM)
+    for _, ends in timers:
+        signal.signal(ends, stop)
+    while True:
+        try:
+            for (timer, _), time in zip(timers, left):
+                signal.setitimer(timer, time)
+            one = next(found, None)
+        finally:
+            left = [signal.setitimer(timer, 0)[0] for timer, _ in timers]
+        if one is None:
+            return
+        yield one
 
 
 def words_of(words: Words) -> Namespace:
@@ -160,7 +202,10 @@ def words_of(words: Words) -> Namespace:
     for name in FORMS:
         form.add_argument(f"--{name}", dest="form", action="store_const", const=name)
     words.add_argument("--code", action="store_true")
+    words.add_argument("--skip-boot", action="store_true")
+    words.add_argument("--allow-empty", action="store_true")
     words.add_argument("--jobs", type=positive, default=1)
+    words.add_argument("--seconds", type=in_seconds, default=600)
     words.add_argument("files", nargs="*", metavar="FILE")
     return words.parse_args()
 
@@ -174,20 +219,15 @@ def main(words: Words) -> int:
         try:
             for verdict in of_file(path, asked):
                 status = max(status, status_of(verdict))
-                tell(form.lines(verdict))
+                form.print(form.lines(verdict))
         except Failed as failed:
             sys.stdout.flush()
             say(f"{words.prog}: {failed.line}")
             status = max(status, failed.status)
             end = ENDS.get(failed.status, "failed")
-            tell(form.lines(Verdict(os.fsencode(path or "-"), "", None, end, why=failed.line)))
-    tell(form.end(status))
+            form.print(form.lines(Verdict(os.fsencode(path or "-"), "", None, end, why=failed.line)))
+    form.print(form.end(status))
     return status
-
-
-def tell(lines: list[str]) -> None:
-    if lines:
-        print(*lines, sep="\n")
 
 
 if __name__ == "__main__":

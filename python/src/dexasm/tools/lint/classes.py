@@ -4,6 +4,7 @@ what a field or a method is that code names.
 A class that isn't in the file may be anything: whatever would rest on it is taken as right."""
 from __future__ import annotations
 
+import re
 from collections.abc import Callable
 from typing import TYPE_CHECKING, Any, NamedTuple
 
@@ -16,6 +17,16 @@ if TYPE_CHECKING:
     from dexasm.program import Program
 
 DEEPEST = 64  # superclasses of a class that are followed
+# Packages of which ART 14 has the classes, as far as they have exceptions.
+FOUND = re.compile(
+    r"L(?:java/(?:io|lang(?!/(?:instrument|management|module)/)|net(?!/http/)|nio|security|sql|text|time|util)"
+    r"|javax/(?:crypto|net)|android(?!/(?:arch|databinding|support)/)|org/(?:json|w3c/dom|xml/sax))/"
+)
+# What the boot class path has: a device takes its own class of such a name, and not the file's.
+BOOT = re.compile(
+    r"L(?:java|javax/(?:crypto|net|security|sql|xml)|android(?!/(?:arch|databinding|support)/)|dalvik|libcore|sun"
+    r"|org/(?:json|w3c/dom|xml/sax))/"
+)
 LISTED = 1 << 32  # beside the flags of a method: it stands among the direct ones
 
 
@@ -30,15 +41,22 @@ class Call(NamedTuple):
 
 
 class Classes:
-    def __init__(self, program: Program) -> None:
+    """Those of a program, without those that `is_shadowed` names, which are taken as if the file didn't have them."""
+
+    def __init__(self, program: Program, is_shadowed: Callable[[str], bool] = lambda name: False) -> None:
         self.rows: dict[str, Class] = {}
+        self.found: set[str] = set()
         self.depths: dict[str | None, int] = {}
         self.wrongs: dict[tuple[str, str], bool] = {}
         self.calls: dict[str, Call] = {}
         self.fields: dict[str, tuple[str, str, str]] = {}
         self.members: dict[str, dict[str, Any]] = {}
         for one in program.classes:
+            if is_shadowed(one.name):
+                continue
             self.rows.setdefault(one.name, one)
+            if all(map(self.is_found, filter(None, (one.superclass, *one.interfaces)))):
+                self.found.add(one.name)
             # (a superclass stands before its classes)
             self.depths.setdefault(one.name, self.depths.get(one.superclass, 0) + 1)
 
@@ -48,6 +66,16 @@ class Classes:
         if one is None or one.superclass == OBJECT or self.depths[name] > DEEPEST:
             return None
         return one.superclass
+
+    def is_found(self, type_: str) -> bool:
+        """Whether a device that has the file surely finds a type: its class, and all that are above it."""
+        name = type_.lstrip("[")
+        return name[0] != "L" or name in self.found or name not in self.rows and FOUND.match(name) is not None
+
+    def is_own(self, owner: str, ref: str) -> bool:
+        """Whether a class itself, and no superclass of it, has the field that a name means, where it is given."""
+        named, _, signature = ref.partition("->")
+        return named == owner and signature in self.listed(owner, self.fields_of)
 
     def is_interface(self, name: str) -> bool | None:
         """None where the file doesn't have the class."""
@@ -128,9 +156,7 @@ class Classes:
             one = self.rows.get(owner)
             if one is None:
                 return None
-            if owner + of.__name__ not in self.members:
-                self.members[owner + of.__name__] = of(one)
-            found = self.members[owner + of.__name__].get(signature)
+            found = self.listed(owner, of).get(signature)
             if found is not None:
                 # (what a superclass has for itself isn't what is meant)
                 return None if depth and of == self.methods_of and found & (PRIVATE | LISTED) else found
@@ -138,6 +164,12 @@ class Classes:
                 return None
             owner = one.superclass
         return None
+
+    def listed(self, owner: str, of: Callable[[Class], dict[str, Any]]) -> dict[str, Any]:
+        """What a class of the file has, by signature."""
+        if owner + of.__name__ not in self.members:
+            self.members[owner + of.__name__] = of(self.rows[owner])
+        return self.members[owner + of.__name__]
 
     def fields_of(self, one: Class) -> dict[str, str]:
         """Those of a class, the list of each; a name that is in both isn't told."""

@@ -8,17 +8,18 @@ from __future__ import annotations
 import concurrent.futures
 import re
 from collections.abc import Iterator
+from hashlib import blake2b
 from itertools import accumulate
 from typing import TYPE_CHECKING, Any, NamedTuple
 
 from dexasm.tools.basis import Failed
 from dexasm.tools.check.checkers import Verdict, lead
 from dexasm.tools.escapes import LONGEST
-from dexasm.tools.lint.classes import Classes
-from dexasm.tools.lint.kinds import Kind, Kinds
-from dexasm.tools.lint.rules import PAGE, broken, classes_of, said_of
+from dexasm.tools.lint.classes import BOOT, Classes
+from dexasm.tools.lint.kinds import NO_ARRAY, Kind, Kinds
+from dexasm.tools.lint.rules import PAGE, STATIC, broken, classes_of, said_of
 from dexasm.tools.lint.rules import RULES as FILE_RULES
-from dexasm.tools.lint.verify import MOST_TOLD, TooMuch, Wrong, check
+from dexasm.tools.lint.verify import MOST_TOLD, Method, TooMuch, Wrong
 from dexasm.tools.uses import fresh
 from dexasm.tools.workers.looker import Looker
 
@@ -51,15 +52,17 @@ RULES = {
     "result-place": "B19, B20",
     "result-kind": "B20",
     "exception-place": "B21",
+    "catch-type": "code_item",
     "falls-off": "B17",
     "payload-reached": "B22",
+    "switch-keys": "A7",
     "return-kind": "B11",
     "return-type": "B11",
     "return-range": "B11",
     "throw-type": "B16",
     "array-kind": "B1",
     "array-data": "B1",
-    "array-type": "A21",
+    "array-type": "A21, B1",
     "new-type": "A20",
     "cast-type": "A17, A18",
     "ins-count": "code_item",
@@ -123,9 +126,9 @@ def from_way(way: tuple[int, Kind], kind: Kind | None = None) -> str:
 def held(wrong: Wrong) -> str:
     """What the register of a complaint holds."""
     register, ways = f"v{wrong.register}", sorted(wrong.ways, key=lambda way: way[1].base == "unset")
-    if wrong.kind.base == "unset":
+    if wrong.kind.base == "unset" and len(ways) < 2:
         return f"{register} isn't set on any way to here"
-    if wrong.kind.base != "conflict":
+    if wrong.kind.base not in ("unset", "conflict") and not (wrong.kind is NO_ARRAY and len(ways) == 2):
         return f"{register} holds {from_way(ways[0], wrong.kind) if ways else described(wrong.kind)}"
     if len(ways) < 2:
         return f"{register} holds {described(wrong.kind)}"
@@ -141,6 +144,8 @@ def sentence(wrong: Wrong, mnemonic: str) -> str:
     register, said = wrong.register, held(wrong)
     if wrong.rule == "pair-broken" and not wrong.kind.base.endswith(("low", "high")):
         said = f"v{register - 1} and v{register} are no pair any more: {said}"
+    if wrong.rule == "return-range" and wrong.kind.base == "constant":
+        return f"{said}, and the method answers {wrong.text}: write a constant of its range"
     if wrong.rule == "return-range":
         mend = "and-int/lit8 with 1" if wrong.text == "a boolean" else f"int-to-{wrong.text[2:]}"
         return f"{said}, and the method answers {wrong.text}: {mend} makes it one"
@@ -158,43 +163,69 @@ def sentence(wrong: Wrong, mnemonic: str) -> str:
 # ---- the methods
 
 
-class Looked:
-    """A program, whose methods are looked at by class."""
+Found = tuple[int, str, str, int]  # place, rule, text and register, as Told has them
 
-    def __init__(self, program: Program) -> None:
-        self.classes = Classes(program)
+
+class Looked:
+    """A program, whose methods are looked at by class. A code that several methods have is looked at once for each
+    signature, and once for each class where its own class makes a difference.
+    """
+
+    def __init__(self, program: Program, is_boot_skipped: bool = False) -> None:
+        self.is_boot_skipped = is_boot_skipped
+        self.classes = Classes(program, self.is_skipped)
         self.kinds = Kinds(self.classes.parents)
         self.program = program
+        self.judged: dict[tuple[bytes, str], tuple[Found, ...]] = {}  # by code and signature, and by class or ""
+
+    def is_skipped(self, name: str) -> bool:
+        return self.is_boot_skipped and BOOT.match(name) is not None
 
     def look(self, row: int) -> Iterator[Told]:
         one = self.program.classes[row]
+        if self.is_skipped(one.name):
+            return
         for at, method in enumerate(one.methods):
             if method.code is not None:
-                code = fresh(method.code)
-                yield from self.look_at(row, at, one, method, code)
+                for found in self.judge(one, method, method.code):
+                    yield Told(row, at, *found)
 
-    def look_at(
-        self, row: int, at: int, one: members.Class, method: members.Method, code: Code
-    ) -> Iterator[Told]:
-        try:
-            found = check(self.classes, self.kinds, one, method, code)
-        except TooMuch:
-            yield Told(row, at, -1, UNREAD, TOO_MUCH, -1)
-            return
-        for number, wrong in enumerate(found[:MOST_TOLD], 1):
-            mnemonic = code.insns[wrong.place].mnemonic if wrong.place >= 0 else ""
-            text = sentence(wrong, mnemonic)
-            if number == MOST_TOLD < len(found):
-                text += f"; {len(found) - MOST_TOLD} more in this method"
-            yield Told(row, at, wrong.place, wrong.rule, text, wrong.register)
+    def judge(self, one: members.Class, method: members.Method, code: Code) -> tuple[Found, ...]:
+        """What is wrong in a method that has this code."""
+        kind = "static" if method.flags & STATIC else "init" if method.name == "<init>" else ""
+        text = str(code)
+        said = f"{kind}{method.proto}\n{text}".encode("utf-8", "surrogatepass")
+        key = blake2b(said, digest_size=16).digest()
+        known = self.judged.get((key, ""), self.judged.get((key, one.name)))
+        if known is None:
+            looked = Method(self.classes, self.kinds, one, method, code.of_text(text))
+            known = (*found_by(looked),)
+            self.judged[key, one.name if looked.is_owner_asked else ""] = known
+        return known
 
 
-def look(program: Program, jobs: int = 1) -> Iterator[Told]:
-    """What is wrong in the code of a program, in the order of its classes."""
-    if jobs > 1 and len(program.classes) > 1:
-        yield from look_by_workers(program, jobs)
+def found_by(looked: Method) -> Iterator[Found]:
+    """What is wrong in a method, in words."""
+    try:
+        found = looked.check()
+    except TooMuch:
+        yield -1, UNREAD, TOO_MUCH, -1
         return
-    looked = Looked(program)
+    for number, wrong in enumerate(found[:MOST_TOLD], 1):
+        text = sentence(wrong, looked.insns[wrong.place].mnemonic if wrong.place >= 0 else "")
+        if number == MOST_TOLD < len(found):
+            text += f"; {len(found) - MOST_TOLD} more in this method"
+        yield wrong.place, wrong.rule, text, wrong.register
+
+
+def look(program: Program, jobs: int = 1, is_boot_skipped: bool = False) -> Iterator[Told]:
+    """What is wrong in the code of a program, in the order of its classes, maybe without those whose names the boot
+    class path has.
+    """
+    if jobs > 1 and len(program.classes) > 1:
+        yield from look_by_workers(program, jobs, is_boot_skipped)
+        return
+    looked = Looked(program, is_boot_skipped)
     for row in range(len(program.classes)):
         yield from looked.look(row)
 
@@ -208,14 +239,14 @@ class Part:
     needs = ("dexasm.program",)
     looked: Looked | None = None
 
-    def __init__(self, first: int, end: int) -> None:
-        self.first, self.end = first, end
+    def __init__(self, first: int, end: int, is_boot_skipped: bool) -> None:
+        self.first, self.end, self.is_boot_skipped = first, end, is_boot_skipped
 
     def look(self, tell: Callable[..., None], listing: str) -> None:
         import dexasm
 
         if Part.looked is None:
-            Part.looked = Looked(dexasm.Program.of_listing(listing))
+            Part.looked = Looked(dexasm.Program.of_listing(listing), self.is_boot_skipped)
         for row in range(self.first, self.end):
             for told in Part.looked.look(row):
                 tell("told", *told)
@@ -224,10 +255,10 @@ class Part:
 class Worker(Looker):
     kind = "dexasm.tools.lint.code:Part"
 
-    def part(self, first: int, end: int) -> list[Told]:
+    def part(self, first: int, end: int, is_boot_skipped: bool) -> list[Told]:
         if self.worker is None:
             self.start()
-        self.send((first, end))
+        self.send((first, end, is_boot_skipped))
         found: list[Told] = []
         while (said := self.said()) is not None:
             if said[0] == "end":
@@ -238,7 +269,7 @@ class Worker(Looker):
         raise Failed(f"a worker ended with status {self.ended()}")
 
 
-def look_by_workers(program: Program, jobs: int) -> Iterator[Told]:
+def look_by_workers(program: Program, jobs: int, is_boot_skipped: bool) -> Iterator[Told]:
     """The same, by several workers."""
     lead()
     listing = str(program)
@@ -248,7 +279,7 @@ def look_by_workers(program: Program, jobs: int) -> Iterator[Told]:
     def work(part: tuple[int, int]) -> list[Told]:
         worker = idle.pop()
         try:
-            return worker.part(*part)
+            return worker.part(*part, is_boot_skipped)
         finally:
             idle.append(worker)
 
@@ -290,6 +321,7 @@ class Places:
         self.row = -1  # of the class that was looked at last, its methods, and their codes as the listing has them
         self.methods: tuple[Any, ...] = ()
         self.codes: dict[tuple[str, str, str], listed.Code] = {}
+        self.text, self.units = "", list[int]()  # of the code whose addresses were asked for last
 
     def open(self, row: int) -> None:
         from dexasm.listed import said
@@ -316,7 +348,7 @@ class Places:
             at = lines.insns[told.place] if told.place >= 0 else lines.head
             line, column = at.number, self.column(at, told.register)
         elif told.place >= 0:
-            address = sum(map(units, fresh(method.code).insns[: told.place]))
+            address = self.addresses(method.code)[told.place]
         return Verdict(
             self.path,
             "",
@@ -333,6 +365,13 @@ class Places:
             register=told.register if told.register >= 0 else None,
             address=address,
         )
+
+    def addresses(self, code: Code) -> list[int]:
+        """Those of a code's instructions. The last code's are kept: methods that share one are told of alike."""
+        text = str(code)
+        if text != self.text:
+            self.text, self.units = text, [*accumulate(map(units, fresh(code).insns), initial=0)]
+        return self.units
 
     def named(self, found: re.Match[str], lines: listed.Code | None) -> str:
         """A type or a place in words."""
@@ -372,10 +411,12 @@ def member_of(verdict: Verdict) -> list[str]:
     return [word for word in (verdict.class_, verdict.member) if word]
 
 
-def looked_at(path: bytes, given: bytes, is_text: bool, program: Program, jobs: int) -> Iterator[Verdict]:
+def looked_at(
+    path: bytes, given: bytes, is_text: bool, program: Program, jobs: int, is_boot_skipped: bool = False
+) -> Iterator[Verdict]:
     """What is wrong in the code of a file."""
     places = Places(path, kind_by(is_text), program, given if is_text else None)
-    for told in look(program, jobs):
+    for told in look(program, jobs, is_boot_skipped):
         yield places.verdict(told)
 
 

@@ -1,14 +1,15 @@
 """The kinds of what a register can hold, and how two of them join where ways meet: for dexasm-lint --code.
 
 They are a lattice: of two kinds the join is the least one that is above both. At its bottom are constants that an
-instruction can still take in several ways; near the top is CONFLICT, of which nothing may be read; above that is ANY,
-which nothing is said of: what an array of unknown elements gives, and a register that was complained about already."""
+instruction can still take in several ways; near the top is CONFLICT, of which nothing may be read; above that is UNSET,
+which may not even be moved; above that is ANY, which nothing is said of: what an array of unknown elements gives, and a
+register that was complained about already."""
 from __future__ import annotations
 
 import itertools
 from collections.abc import Callable, Iterator
 
-OBJECT, THROWABLE = "Ljava/lang/Object;", "Ljava/lang/Throwable;"
+OBJECT, THROWABLE, CLASS = "Ljava/lang/Object;", "Ljava/lang/Throwable;", "Ljava/lang/Class;"
 PRIMITIVES = {"V": "void", "Z": "boolean", "B": "byte", "S": "short", "C": "char", "I": "int", "J": "long"}
 PRIMITIVES |= {"F": "float", "D": "double"}
 # The ranges that are told apart, each in those that have it; of two the join is the first that has both.
@@ -27,9 +28,10 @@ SIDES = ("low", "high")
 class Kind:
     """What a register can hold. Each kind is there once, so that two are equal where they are one object.
 
-    `range` is that of an int or a constant, `type` the descriptor of a reference, None where it isn't known, `place`
-    that of the new-instance, and `other`, of the first half of a pair, the second. The others say as what it may be
-    read: an object is a reference, or new and without its constructor; a single one is an int or a float.
+    `range` is that of an int or a constant (of a reference, what is known of it besides its type), `type` the
+    descriptor of a reference, None where it isn't known, `place` that of the new-instance, and `other`, of the first
+    half of a pair, the second. The others say as what it may be read: an object is a reference, or new and without its
+    constructor; a single one is an int or a float.
     """
 
     __slots__ = (
@@ -55,6 +57,8 @@ class Kind:
 
 ANY, CONFLICT, UNSET = Kind("any"), Kind("conflict"), Kind("unset")
 ZERO, NULL, FLOAT, REFERENCE = Kind("zero"), Kind("null"), Kind("float"), Kind("reference")
+# What references without a common class join to: it is no array, unless all of them are arrays of references.
+NO_ARRAY, REFERENCES = Kind("reference", "no array"), Kind("reference", "array of references")
 CONSTANTS = {name: Kind("constant", name) for name in RANGES}
 INTS = {name: Kind("int", name) for name in RANGES}
 HALVES = {(base, side): Kind(f"{base} {side}") for base in ("long", "double", "wide") for side in SIDES}
@@ -62,7 +66,8 @@ LONG, DOUBLE, WIDE = (tuple(HALVES[base, side] for side in SIDES) for base in ("
 for first, second in (LONG, DOUBLE, WIDE):
     first.other = second
 ANY.other = ANY
-BASE = (ANY, CONFLICT, UNSET, ZERO, NULL, FLOAT, REFERENCE, *CONSTANTS.values(), *INTS.values(), *HALVES.values())
+BASE: tuple[Kind, ...] = (ANY, CONFLICT, UNSET, ZERO, NULL, FLOAT, REFERENCES, NO_ARRAY, REFERENCE)
+BASE += (*CONSTANTS.values(), *INTS.values(), *HALVES.values())
 INT, BOOLEAN, BYTE, SHORT, CHAR = (INTS[name] for name in ("int", "boolean", "byte", "short", "char"))
 NUMBERS = {"Z": BOOLEAN, "B": BYTE, "S": SHORT, "C": CHAR, "I": INT, "F": FLOAT}
 PAIRS = {"J": LONG, "D": DOUBLE}
@@ -82,12 +87,15 @@ def constant(number: int) -> Kind:
     return next(CONSTANTS[name] for name, (least, most) in RANGES.items() if least <= number <= most)
 
 
+UPWARDS = {NULL: REFERENCES, REFERENCES: NO_ARRAY, NO_ARRAY: REFERENCE}
+
+
 def above(one: Kind) -> Iterator[Kind]:
-    """The kinds just above one of those that each file has; ANY and CONFLICT are above all."""
+    """The kinds just above one of those that each file has; CONFLICT, UNSET and ANY are above all."""
     if one is ZERO:
         yield from (NULL, FLOAT, CONSTANTS["boolean"])
-    elif one is NULL:
-        yield REFERENCE
+    elif one in UPWARDS:
+        yield UPWARDS[one]
     elif one.base == "constant":
         yield from (FLOAT, INTS[one.range])
         yield from (CONSTANTS[name] for name in RANGES if name != one.range and both(name, one.range) == name)
@@ -98,7 +106,7 @@ def above(one: Kind) -> Iterator[Kind]:
 
 
 def all_above(one: Kind) -> list[Kind]:
-    """The kind, and all above it but CONFLICT and ANY."""
+    """The kind, and all above it but CONFLICT, UNSET and ANY."""
     found = [one]
     for kind in found:
         found += [up for up in above(kind) if up not in found]
@@ -107,20 +115,28 @@ def all_above(one: Kind) -> list[Kind]:
 
 def table() -> dict[tuple[Kind, Kind], Kind]:
     """The join of each two of the kinds that each file has."""
-    ups = {kind: all_above(kind) for kind in BASE if kind not in (ANY, CONFLICT)}
+    ups = {kind: all_above(kind) for kind in BASE if kind not in (ANY, UNSET, CONFLICT)}
     return {(one, other): joined(ups, one, other) for one, other in itertools.product(BASE, BASE)}
 
 
 def joined(ups: dict[Kind, list[Kind]], one: Kind, other: Kind) -> Kind:
     if one is other:
         return one
-    if ANY in (one, other):
-        return ANY
+    for top in (ANY, UNSET):
+        if top in (one, other):
+            return top
     shared = [kind for kind in ups.get(one, ()) if kind in ups.get(other, ())]
     return next((kind for kind in shared if set(shared) <= set(ups[kind])), CONFLICT)
 
 
 JOINS = table()
+
+
+def shape(one: Kind) -> Kind:
+    """What is known of a reference besides its class."""
+    if one.type is None:
+        return one
+    return REFERENCES if one.type[0] == "[" and one.type[1] in "L[" else NO_ARRAY
 
 
 class Kinds:
@@ -157,19 +173,21 @@ class Kinds:
 
     def join_anew(self, one: Kind, other: Kind) -> Kind:
         """The join of two, of which one has a type."""
-        if ANY in (one, other):
-            return ANY
+        for top in (ANY, UNSET):
+            if top in (one, other):
+                return top
         for kind, with_ in ((one, other), (other, one)):
             if kind in (ZERO, NULL) and with_.base == "reference":
                 return with_
         if one.base != "reference" or other.base != "reference":
             return CONFLICT
-        return self.ancestor(one.type, other.type) if one.type and other.type else REFERENCE
-
-    def ancestor(self, one: str, other: str) -> Kind:
-        """The nearest class that both are of, as far as it isn't Object."""
-        ups, others = [*self.line(one)], {*self.line(other)}
-        return next((self.ref(name) for name in ups if name in others), REFERENCE)
+        if one.type and other.type:
+            # the nearest class that both are of, as far as it isn't Object
+            ups, others = [*self.line(one.type)], {*self.line(other.type)}
+            found = next((name for name in ups if name in others), None)
+            if found is not None:
+                return self.ref(found)
+        return JOINS[shape(one), shape(other)]
 
     def line(self, name: str | None) -> Iterator[str]:
         while name is not None:

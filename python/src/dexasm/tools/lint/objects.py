@@ -5,8 +5,8 @@ from __future__ import annotations
 from dexasm.tools.lint import kinds
 from dexasm.tools.lint.asks import ASK, Line, ask_int, ask_reference, ask_type, ask_wide, put, put_some
 from dexasm.tools.lint.classes import LISTED
-from dexasm.tools.lint.kinds import ANY, INT, OBJECT, WIDE
-from dexasm.tools.lint.rules import STATIC
+from dexasm.tools.lint.kinds import ANY, CLASS, CONSTANTS, INT, NO_ARRAY, NUMBERS, OBJECT, REFERENCES, WIDE
+from dexasm.tools.lint.rules import PRIVATE, STATIC
 
 TYPE_CHECKING = False  # (as in typing)
 if TYPE_CHECKING:
@@ -22,6 +22,10 @@ if TYPE_CHECKING:
 # The elements, or the fields, that an instruction of this ending takes.
 ELEMENTS = {"": "IF", "-wide": "JD", "-object": "L[", "-boolean": "Z", "-byte": "B", "-char": "C", "-short": "S"}
 FIELDS = ELEMENTS
+# What an instruction of this ending gives of an array that is null: its elements can be ints or floats, but no objects.
+EMPTY: dict[str, Sequence[kinds.Kind]] = {"": (CONSTANTS["boolean"],), "-wide": WIDE, "-object": (kinds.NULL,)}
+EMPTY |= {ending: (NUMBERS[types],) for ending, types in ELEMENTS.items() if types in NUMBERS}
+SOME = "L"  # in place of an element's type: it is a reference
 WIDTHS = {"Z": 1, "B": 1, "S": 2, "C": 2, "I": 4, "F": 4, "J": 8, "D": 8}
 
 
@@ -49,6 +53,8 @@ def new_instance(method: Method, insn: Insn, line: Line, place: int) -> None:
     why = ""
     if type_[0] != "L":
         why = "is no class: new-array makes arrays" if type_[0] == "[" else "is no class"
+    elif type_ == CLASS:
+        why = "has no objects that code makes: const-class names one"
     elif method.classes.is_abstract(type_):
         why = "is an interface" if method.classes.is_interface(type_) else "is abstract"
     if why:
@@ -77,21 +83,32 @@ def is_array(method: Method, insn: Named, place: int) -> bool:
 
 
 def filled_new_array(method: Method, insn: Named, line: Line, place: int) -> None:
-    if is_array(method, insn, place) and insn.name[1] not in "JD":
-        for register in given(insn):
-            ask_type(method, line, register, place, str(insn.name[1:]), "stored-type")
+    if not is_array(method, insn, place):
+        return
+    if insn.name[1] in "JD":
+        said = f"`{insn.name}` has elements of two registers each: new-array makes such an array"
+        method.tell(place, "array-type", said)
+        return
+    for register in given(insn):
+        ask_type(method, line, register, place, str(insn.name[1:]), "stored-type")
 
 
 def array_of(method: Method, insn: Insn, line: Line, register: int, place: int) -> str:
-    """The type of the elements of an array, "" where it isn't known."""
+    """The type of the elements of an array, SOME of references without a common class, "" where it isn't known."""
     kind = line[register]
     if not kind.is_ref:
         method.wrong(line, register, place, "an array")
-    elif kind.type is not None:
-        if kind.type[0] == "[":
-            return kind.type[1:]
+    elif kind is REFERENCES:
+        return SOME
+    elif kind.type is not None and kind.type[0] == "[":
+        return kind.type[1:]
+    elif kind.type is not None or kind is NO_ARRAY:
         method.wrong_type(line, register, place, "[", "array-kind")
     return ""
+
+
+def array_with(element: str) -> str:
+    return "an array of references" if element == SOME else f"an array `[{element}`"
 
 
 def fill_array(method: Method, insn: Named, line: Line, place: int) -> None:
@@ -100,7 +117,7 @@ def fill_array(method: Method, insn: Named, line: Line, place: int) -> None:
     if element and (element not in WIDTHS or WIDTHS[element] != insn.target.insn.width):
         width = WIDTHS.get(element)
         right = f"its elements have {width} bytes" if width else "its elements are references"
-        said = f"v{register} is an array `[{element}`: {right}, and the payload's have {insn.target.insn.width}"
+        said = f"v{register} is {array_with(element)}: {right}, and the payload's have {insn.target.insn.width}"
         method.tell(place, "array-data", said)
 
 
@@ -108,11 +125,12 @@ def aget(method: Method, insn: Insn, line: Line, place: int) -> None:
     to, array, index = insn.registers
     element = element_of(method, insn, line, array, place, insn.mnemonic[4:])
     ask_int(method, line, index, place)
-    if element:
+    if element == SOME:
+        line[to] = kinds.REFERENCE
+    elif element:
         put(method, line, to, place, element)
     elif line[array].base in ("zero", "null"):
-        empty = {"-wide": WIDE, "-object": (kinds.NULL,)}.get(insn.mnemonic[4:], (kinds.ZERO,))
-        put_some(method, line, to, place, empty)
+        put_some(method, line, to, place, EMPTY[insn.mnemonic[4:]])
     elif insn.mnemonic == "aget-object":
         line[to] = kinds.REFERENCE if line[array] is not ANY else ANY
     else:
@@ -124,7 +142,7 @@ def element_of(method: Method, insn: Insn, line: Line, array: int, place: int, e
     element = array_of(method, insn, line, array, place)
     if element and element[0] not in ELEMENTS[ending]:
         right = next(right for right, types in ELEMENTS.items() if element[0] in types)
-        said = f"v{array} is an array `[{element}`: {insn.mnemonic[:4]}{right} is for that"
+        said = f"v{array} is {array_with(element)}: {insn.mnemonic[:4]}{right} is for that"
         method.tell(place, "array-kind", said)
         line[array] = ANY
         return ""
@@ -165,12 +183,12 @@ def field_of(method: Method, insn: Named, place: int, is_static: bool) -> tuple[
     return owner, type_
 
 
-def object_of(method: Method, insn: Insn, line: Line, place: int, owner: str) -> None:
+def object_of(method: Method, insn: Named, line: Line, place: int, owner: str) -> None:
     """Asks for the object that has the field."""
     register = insn.registers[1]
     kind = line[register]
-    if kind.base == "this" and insn.mnemonic[1] == "p" and owner == method.owner:
-        return  # (a constructor may set its own fields before it calls another one)
+    if kind.base == "this" and insn.mnemonic[1] == "p" and method.classes.is_own(method.owner, insn.name):
+        return  # (a constructor may set what its class itself has before it calls another one)
     ask_type(method, line, register, place, owner, "receiver-type")
 
 
@@ -282,14 +300,26 @@ def is_named(method: Method, kind: str, call: Call, place: int) -> bool:
     return False
 
 
+def wrong_by_owner(owner: str, is_interface: bool | None, flags: int | None, kind: str) -> str:
+    """What is wrong with a call since it names the method of an interface, or of a class that is none."""
+    if is_interface is False and kind == "interface":
+        return f"`{owner}` is no interface: invoke-virtual calls its methods"
+    if not is_interface or flags is not None and flags & STATIC:
+        return ""
+    if flags is not None and flags & PRIVATE:
+        return f"the method is private, and `{owner}` an interface: no instruction of version 035 calls it"
+    if kind in ("interface", "super") or kind == "static" and flags is None:
+        return ""  # (what the file doesn't show may be static; invoke-super is taken by ART)
+    return f"`{owner}` is an interface: invoke-interface calls its methods"
+
+
 def is_kind_right(method: Method, insn: Named, kind: str, call: Call, place: int) -> None:
     """Asks for the kind of call that the method is of, as far as the file has its class."""
-    is_interface = method.classes.is_interface(call.owner)
-    if is_interface is not None and is_interface != (kind == "interface"):
-        said = "an interface: invoke-interface" if is_interface else "no interface: invoke-virtual"
-        method.tell(place, "call-kind", f"`{call.owner}` is {said} calls its methods")
-        return
     flags = method.classes.method(insn.name)
+    said = wrong_by_owner(call.owner, method.classes.is_interface(call.owner), flags, kind)
+    if said:
+        method.tell(place, "call-kind", said)
+        return
     if flags is None:
         if kind == "direct" and call.name != "<init>" and method.classes.is_wrong(method.owner, call.owner):
             said = f"invoke-direct calls methods of the class itself and its superclasses, and `{call.owner}` is none"

@@ -8,15 +8,16 @@ from __future__ import annotations
 import functools
 import re
 from collections.abc import Callable
-from typing import NamedTuple
+from typing import TYPE_CHECKING, NamedTuple
 
 from dexasm.tools.lint import kinds
 from dexasm.tools.lint import objects
 from dexasm.tools.lint.asks import ASK, Line, ask_int, ask_type, ask_wide, put, put_pair
 from dexasm.tools.lint.kinds import ANY, CONFLICT, INT, NUMBERS, PAIRS, THROWABLE, WIDE
 
-TYPE_CHECKING = False  # (as in typing)
 if TYPE_CHECKING:
+    from typing import Any
+
     from dexasm.code import Insn
     from dexasm.tools.lint.verify import Method
 
@@ -28,7 +29,7 @@ ROWS = (
     (r"const-string(?:/jumbo)?", "0=Ljava/lang/String;"),
     (r"const-class", "0=Ljava/lang/Class;"),
     (r"monitor-(?:enter|exit)", "0O"),
-    (r"(?:packed|sparse)-switch", "0I"),
+    (r"sparse-switch", "0I"),
     (r"cmp[lg]-float", "0=I 1F 2F"),
     (r"cmp[lg]-double", "0=I 1D 2D"),
     (r"cmp-long", "0=I 1J 2J"),
@@ -170,6 +171,12 @@ def move_exception(method: Method, insn: Insn, line: Line, place: int) -> None:
     kind = method.caught.get(place)
     if kind is None:
         method.tell(place, "exception-place", "move-exception isn't the first instruction of a handler")
+    elif place == 0:
+        said = "this handler is also the beginning of the method: move-exception takes what was thrown"
+        method.tell(place, "exception-place", said)
+    elif place in method.never:
+        said = f"the handler is of `{method.never[place]}`, which is no Throwable: nothing like it is thrown"
+        method.tell(place, "catch-type", said)
     line[insn.registers[0]] = kind or ANY
 
 
@@ -226,7 +233,9 @@ def return_single(method: Method, insn: Insn, line: Line, place: int) -> None:
     kind = line[register]
     if type_ in "ZBSC" and kind.range and not (kind.base == "int" and kind.range == "int"):
         wanted = NUMBERS[type_].range
-        if kinds.both(kind.range, wanted) != wanted and not (type_ == "Z" and kinds.both(kind.range, "byte") == "byte"):
+        # (compilers write methods that answer a byte as a boolean; a constant has to be one)
+        is_byte = type_ == "Z" and kind.base == "int" and kinds.both(kind.range, "byte") == "byte"
+        if kinds.both(kind.range, wanted) != wanted and not is_byte:
             method.wrong_range(line, register, place, wanted)
 
 
@@ -245,6 +254,15 @@ def throw(method: Method, insn: Insn, line: Line, place: int) -> None:
 
 
 # ---- branches
+
+
+def packed_switch(method: Method, insn: Insn, line: Line, place: int) -> None:
+    ask_int(method, line, insn.registers[0], place)
+    keys: Any = insn.target.insn  # type: ignore[union-attr]  # (a switch leads to its payload)
+    last = keys.first + len(keys.targets) - 1
+    if last > kinds.RANGES["int"][1]:
+        said = f"the keys of its payload go from {keys.first} to {last}, which is no int"
+        method.tell(place, "switch-keys", said)
 
 
 def if_equal(method: Method, insn: Insn, line: Line, place: int) -> None:
@@ -288,6 +306,7 @@ SPECIAL = (
     (r"return-wide", return_wide),
     (r"return-object", return_object),
     (r"throw", throw),
+    (r"packed-switch", packed_switch),
     (r"if-(?:eq|ne)", if_equal),
     (r"if-(?:eq|ne)z", if_zero),
     (r"check-cast", objects.check_cast),

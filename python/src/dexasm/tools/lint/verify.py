@@ -7,17 +7,20 @@ that the register has no kind any more."""
 from __future__ import annotations
 
 import heapq
+import itertools
 from bisect import bisect_right
 from typing import TYPE_CHECKING, NamedTuple
 
 from dexasm.tools.lint.asks import put_pair
 from dexasm.tools.lint.classes import Classes
-from dexasm.tools.lint.kinds import ANY, CONFLICT, OBJECT, REFERENCE, THROWABLE, UNSET, Kind, Kinds
+from dexasm.tools.lint.kinds import ANY, CONFLICT, NO_ARRAY, OBJECT, REFERENCE, THROWABLE, UNSET, Kind, Kinds
 from dexasm.tools.lint.kinds import PAIRS as WIDE_TYPES
 from dexasm.tools.lint.rules import STATIC
 from dexasm.tools.lint.steps import step_of
 
 if TYPE_CHECKING:
+    from collections.abc import Iterator
+
     from dexasm import members
     from dexasm.code import Code, Try
 
@@ -54,10 +57,11 @@ class Method:
         self, classes: Classes, kinds: Kinds, one: members.Class, method: members.Method, code: Code
     ) -> None:
         self.classes, self.kinds, self.code, self.registers = classes, kinds, code, code.registers
-        self.owner, self.above = str(one.name), one.superclass
+        self.class_name, self.above = str(one.name), one.superclass
+        self.is_owner_asked = False
         self.returns, self.name = str(method.proto.returns), method.name
         self.is_static = bool(method.flags & STATIC)
-        self.is_init = method.name == "<init>" and not self.is_static and self.owner != OBJECT
+        self.is_init = method.name == "<init>" and not self.is_static and self.class_name != OBJECT
         self.parameters = method.proto.parameters
         self.insns = code.insns
         self.steps = [step_of(insn.mnemonic) for insn in self.insns]
@@ -72,6 +76,12 @@ class Method:
         self.reached: dict[tuple[int, int], list[tuple[int, int]]] = {}
 
     # ---- what steps ask and tell
+
+    @property
+    def owner(self) -> str:
+        """The class of the method. What is told without asking for it holds in each class."""
+        self.is_owner_asked = True
+        return self.class_name
 
     def new(self, place: int, type_: str) -> Kind:
         kind = self.news.get(place)
@@ -181,14 +191,23 @@ class Method:
         return places[id(one.start.insn)], places[id(one.end.insn)], handlers
 
     def read_caught(self, places: dict[int, int]) -> dict[int, Kind]:
-        """What each handler catches."""
+        """What each handler catches. `never` has those of what is no Throwable; `cut` the blocks of those that name no
+        class which a device surely finds: where it doesn't, what is behind the move-exception counts as unreachable.
+        """
         found: dict[int, Kind] = {}
+        self.never: dict[int, str] = {}
         pairs = [(catch.target, str(catch.type)) for one in self.code.tries for catch in one.catches]
         pairs += [(one.catch_all, THROWABLE) for one in self.code.tries if one.catch_all is not None]
+        known = set()
         for label, type_ in pairs:
             place = places[id(label.insn)]
             kind = self.kinds.ref(type_)
             found[place] = self.kinds.join(found[place], kind) if place in found else kind
+            if self.classes.is_found(type_):
+                known.add(place)
+                if self.classes.is_wrong(type_, THROWABLE):
+                    self.never.setdefault(place, type_)
+        self.cut = {self.blocks[at] for at in found.keys() - known if self.insns[at].mnemonic == "move-exception"}
         return found
 
     # ---- the ways
@@ -247,7 +266,7 @@ class Method:
         insns, steps = self.insns, self.steps
         handlers = () if is_last else self.handlers[block]
         before: list[Kind] | None = None
-        first, end = self.starts[block], self.starts[block + 1]
+        first, end = self.starts[block], self.end_of(block)
         unknown = {one for one in range(self.registers if is_last else 0) if line[one] is ANY}
         self.spend(STEP * (end - first) + len(line) // 4)
         for place in range(first, end):
@@ -261,7 +280,12 @@ class Method:
             step.run(self, insns[place], line, place)
             for wrong in lost:
                 self.tell(place, wrong.rule, wrong.text, wrong.register, wrong.kind or UNSET)
-        self.leave(block, end - 1, line, is_last)
+        if block not in self.cut:
+            self.leave(block, end - 1, line, is_last)
+
+    def end_of(self, block: int) -> int:
+        """The place behind what is gone through of a block."""
+        return self.starts[block] + 1 if block in self.cut else self.starts[block + 1]
 
     def lost(self, place: int, line: list[Kind], unknown: set[int]) -> list[Wrong]:
         """What was told of an instruction on the first way to it, where a loop has led back a register since that was
@@ -347,22 +371,29 @@ class Method:
         found = sorted(self.told.values(), key=lambda wrong: wrong.place)
         return [self.with_ways(wrong) for wrong in found[:MOST_TOLD]] + found[MOST_TOLD:]
 
+    def lines(self) -> Iterator[tuple[int, list[Kind]]]:
+        """The kinds of the registers before each instruction that a way leads to."""
+        self.read_blocks()
+        self.follow()
+        for block, before in enumerate(self.before):
+            line = [*(before or ())]
+            for place in range(self.starts[block], self.end_of(block) if line else 0):
+                yield place, line[: self.registers]
+                self.steps[place].run(self, self.insns[place], line, place)
+
     # ---- where a register has its kind from
 
     def with_ways(self, wrong: Wrong) -> Wrong:
         if wrong.register < 0:
             return wrong
-        ways = tuple(self.ways(wrong.place, wrong.register))
-        is_unset = wrong.rule == "ways-differ" and any(kind is UNSET for _, kind in ways)
-        return wrong._replace(ways=ways, rule="register-unset" if is_unset else wrong.rule)
+        return wrong._replace(ways=tuple(self.ways(wrong.place, wrong.register, wrong.kind)))
 
-    def ways(self, place: int, register: int) -> list[tuple[int, Kind]]:
-        """The places that this register can have its kind from: of two kinds that don't join one each."""
+    def ways(self, place: int, register: int, joined: Kind) -> list[tuple[int, Kind]]:
+        """The places that this register can have its kind from: one each of two kinds that differ as it says."""
         found = sorted(self.origins(place, register).items())
-        for at, kind in found[1:]:
-            if self.kinds.join(found[0][1], kind) is CONFLICT:
-                return [found[0], (at, kind)]
-        return found[:1]
+        pairs = itertools.combinations(found if joined in (CONFLICT, UNSET, NO_ARRAY) else (), 2)
+        apart = (pair for pair in pairs if self.kinds.join(pair[0][1], pair[1][1]) is joined)
+        return [*next(apart, found[:1])]
 
     def origins(self, place: int, register: int) -> dict[int, Kind]:
         """What was written into this register, by the places that lead here, -1 for the method's beginning."""
@@ -422,12 +453,14 @@ class Method:
         self.told = told
 
     def write_down_block(self, block: int, line: list[Kind]) -> None:
-        for place in range(self.starts[block], self.starts[block + 1]):
+        for place in range(self.starts[block], self.end_of(block)):
             step, insn = self.steps[place], self.insns[place]
             step.run(self, insn, line, place)
             if step.writes:
                 first = insn.registers[0]
                 self.wrote[place] = {register: line[register] for register in range(first, first + 1 + step.is_wide)}
+        if block in self.cut:
+            return
         last = self.starts[block + 1] - 1
         to = self.leads.get(last, []) + ([] if self.steps[last].ends else [last + 1])
         for one in to:
@@ -442,8 +475,3 @@ RULES = {
     "new": "uninitialized-use",
     "this": "uninitialized-use",
 }
-
-
-def check(classes: Classes, kinds: Kinds, one: members.Class, method: members.Method, code: Code) -> list[Wrong]:
-    """What is wrong in a method that has this code."""
-    return Method(classes, kinds, one, method, code).check()
