@@ -5,7 +5,6 @@ import html
 import json
 import os
 import re
-import shutil
 
 from tests import sought
 from .browsed import CODE, PARTS, BrowseTest, hostile
@@ -58,6 +57,27 @@ class Graph(BrowseTest):
             found = json.loads(tool("dexasm-graph", *words, at=at)[1])["nodes"]
             self.check(f"dexasm-graph --calls --depth {depth}", len(found) == count, found)
 
+    def test_callers(self) -> None:
+        """Who leads to a method, up to so many calls; the method may be one that the file doesn't have."""
+        at = room("graph callers")
+        put(at, "a.dex", assembled(CODE))
+        get, ask, stay, outside = "->get(Z)I", "->ask(I)V", "Lp/Base;->stay()V", "Lp/q/Hello;->hashCode()I"
+        both = {(get, ask, 1), (ask, get, 2)}
+        for words, want in (
+            (("--to", "Lp/Base;->stay()V"), {*both, (ask, stay, 1)}),
+            (("--to", "Lp/Base;->stay", "--depth", "1"), {(ask, stay, 1)}),
+            (("--to", outside), {*both, (ask, outside, 1)}),
+            (("--to", outside, "--depth", "0"), set()),
+        ):
+            made = json.loads(tool("dexasm-graph", "--calls", *words, "--format", "json", "a.dex", at=at)[1])
+            names = [node["name"].removeprefix("Lp/q/Hello;") for node in made["nodes"]]
+            names = [outside if name == "->hashCode()I" else name for name in names]
+            edges = {(names[edge["from"]], names[edge["to"]], edge["times"]) for edge in made["edges"]}
+            self.check(f"dexasm-graph --calls {' '.join(words)}", edges == want, (edges, want))
+        seen = tool("dexasm-graph", "--calls", "--to", f"Lx;->{ESC}[31my()V", "a.dex", at=at)
+        is_so = seen[:2] == (2, "") and is_one_line(seen[2], "dexasm-graph: Lx;->\\x1b[31my()V names no method of the file")
+        self.check("dexasm-graph --calls --to a method that nobody calls", is_so, seen)
+
     def test_words(self) -> None:
         at, method = room("graph words"), "Lp/q/Hello;->get(Z)I"
         put(at, "a.dex", assembled(CODE))
@@ -66,6 +86,8 @@ class Graph(BrowseTest):
             ("--calls", "a.dex", method),
             ("--from", method, "a.dex"),
             ("--calls", "--depth", "2", "a.dex"),
+            ("--to", method, "a.dex"),
+            ("--calls", "--from", method, "--to", method, "a.dex"),
             ("--calls", "--from", method, "--depth", "-1", "a.dex"),
             ("--format", "png", "a.dex", method),
         ):
@@ -89,8 +111,7 @@ class Graph(BrowseTest):
         methods = [f"L{part};->{part}" for part in PARTS if len(part) < 256]
         dots = [tool("dexasm-graph", "--", "a.dex", method, at=at) for method in methods[2:6]]
         self.check("dexasm-graph, hostile names", all(seen[0] == 0 and seen[1].isascii() for seen in dots), dots[0])
-        if not shutil.which("dot"):
-            return
+        self.need("dot", "no picture is drawn")
         for method, (_, dot, _) in zip(methods[2:6], dots):
             svg = run(["dot", "-Tsvg"], given=dot.encode("ascii"), at=at)[1]
             texts = [html.unescape(text) for text in re.findall(r"<text[^>]*>(.*?)</text>", svg)]

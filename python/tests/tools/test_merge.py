@@ -95,6 +95,23 @@ runpy.run_path(program, run_name="__main__")
 """
 
 
+# An `if` and a goto to the end of 32,768 nops, and a goto/16 back.
+FAR = b"""class Lfar; 0x1
+direct m (I)V 0x9
+code 1 1 0
+:B
+if-eqz v0 :E
+goto :E
+%s:E
+if-eqz v0 :R
+goto/16 :B
+:R
+return-void
+end code
+end class
+""" % (b"nop\n" * 32768)
+
+
 class Merge(HelperTest):
     def refused(self, what: str, says: str, *texts: bytes, at: str, same: bool = False) -> None:
         """These listings are refused in this line, and nothing is written."""
@@ -250,6 +267,32 @@ class Merge(HelperTest):
         says += "`const-string/jumbo` reaches each string\n"
         self.check_equal("dexasm-merge, a string out of reach that isn't looked for", seen, (1, "", says))
 
+    def test_fit(self) -> None:
+        """Strings and branches out of reach: what longer instructions help is made so, and nothing else."""
+        at = room("merge fit")
+        strings = b" ".join(b'string "a%05d"' % n for n in range(65500))
+        put(at, "a.txt", listing(b"class La; 0x1\nstatic s [Ljava/lang/String; 0x9 = array { %s }\nend class\n" % strings))
+        code = b"".join(b'const-string v0 "%c%03d"\n' % (b"Zb"[n % 2], n) for n in range(100))
+        put(at, "b.txt", listing(b"class Lb; 0x1\ndirect m ()V 0x9\ncode 1 0 0\n%sreturn-void\nend code\nend class\n" % code))
+        seen = tool("dexasm-merge", "--fit", "a.txt", "b.txt", "--output", "ab.dex", at=at)
+        says = "dexasm-merge: made to fit: const-string by const-string/jumbo (50)"
+        text = dexasm("list", given=get(at, "ab.dex")).decode()
+        short = text.count('const-string v0 "Z'), text.count('const-string/jumbo v0 "b'), text.count("const-string")
+        self.check("dexasm-merge --fit, far strings", seen[:2] == (0, "") and is_one_line(seen[2], says), seen)
+        self.check_equal("dexasm-merge --fit, those that are near stay", short, (50, 50, 100))
+        put(at, "far.txt", listing(FAR))
+        seen = tool("dexasm-merge", "--fit", "far.txt", "--output", "far.dex", at=at)
+        says = "dexasm-merge: made to fit: goto by goto/16 (1), goto/16 by goto/32 (2), if by if around goto/32 (1)"
+        text = dexasm("list", given=get(at, "far.dex")).decode()
+        self.check("dexasm-merge --fit, far targets", seen[:2] == (0, "") and is_one_line(seen[2], says), seen)
+        want = ["if-nez v0 :L2", "goto/32 :L32771", ":L2", "goto/32 :L32771", "nop"]
+        self.check_equal("dexasm-merge --fit, an if around a goto", text.split("\n")[5:10], want)
+        seen = tool("dexasm-merge", "far.txt", "--output", "no.dex", at=at)
+        self.check("dexasm-merge without --fit", seen[0] == 1 and "85 " in seen[2] and not os.path.exists(os.path.join(at, "no.dex")), seen)
+        seen = tool("dexasm-merge", "--fit", "b.txt", "--output", "b.dex", at=at)
+        is_so = seen == (0, "", "") and get(at, "b.dex") == assembled(get(at, "b.txt"))
+        self.check("dexasm-merge --fit, what fits stays as it is", is_so, seen)
+
     def test_ends(self) -> None:
         """What is no .dex file, isn't there or can't be written: one line, and all stays as it is."""
         at = room("merge ends")
@@ -259,6 +302,7 @@ class Merge(HelperTest):
         put(at, "empty", b"")
         put(at, "a.apk", b"PK\3\4" + bytes(300))
         put(at, "text", b"class LA; 0x1\nend class\n")
+        put(at, "other", b"a text\n")
         put(at, "cut.txt", classes("LC;")[:-4])
         put(at, "out", b"old")
         put(at, "fake", b"#!/bin/sh\nkill -11 $$\n")
@@ -268,9 +312,10 @@ class Merge(HelperTest):
         for words, status, says in (
             (("a.dex", "bad.dex"), 1, "bad.dex: dexasm: refused 4 FileSize at 32"),
             (("empty", "a.dex"), 1, "empty: dexasm: refused 1 TooShort at 0"),
-            (("a.dex", "text"), 1, "text: dexasm: refused 1 TooShort"),
+            (("a.dex", "text"), 1, "text: dexasm: refused 103 Order at 1"),
+            (("a.dex", "other"), 1, "other: dexasm: refused 1 TooShort"),
             (("a.dex", "cut.txt"), 1, "cut.txt: dexasm: refused 10"),
-            (("a.dex", "a.apk"), 3, "a.apk: a zip archive: dexasm-apk"),
+            (("a.dex", "a.apk"), 3, "a.apk: no zip archive can be read"),
             (("a.dex", f"{ESC}none"), 3, "\\x1bnone: No such file"),
             (("a.dex", "."), 3, ".: Is a directory"),
         ):

@@ -3,8 +3,9 @@ import json
 import os
 import re
 import shutil
+from typing import Any
 
-from dexasm.tools.uses import CLASS_FLAGS, FIELD_FLAGS, METHOD_FLAGS
+from dexasm.flags import CLASS_FLAGS, FIELD_FLAGS, METHOD_FLAGS
 from .rooms import ESC, HEAD, LISTING, TOP, HelperTest, assembled, dexasm, get, is_one_line, put, room, run, shell, tool
 
 NAMED = rb"""class L\u00e9/\ud83d\ude00; 0x1
@@ -20,6 +21,61 @@ end class
 """
 
 
+KINDS = b"""class LHello; 0x1
+super Ljava/lang/Object;
+direct <init> ()V 0x10001
+code 2 1 1
+invoke-direct { v1 } Ljava/lang/Object;-><init>()V
+new-instance v0 LHello;
+return-void
+end code
+direct get (ZJ)I 0x9
+code 5 3 0
+const/16 v0 41
+if-eqz v2 :L6
+const-wide v0 5
+add-long/2addr v0 v3
+const/4 v0 0
+const-string v1 "x"
+:L6
+return v0
+nop
+end code
+end class
+"""
+MENTIONS = b"""class LA; 0x1
+static n I 0x9
+static s Ljava/lang/String; 0x9 = string "a b"
+direct get (Z)I 0x9
+code 2 1 0
+const/16 v0 41
+return v0
+end code
+end class
+class LB; 0x1
+super LA;
+implements LI;
+direct m ([LA;)V 0x9
+code 2 1 1
+const/4 v0 1
+:F
+invoke-static { v0 } LA;->get(Z)I
+invoke-static { v0 } LA;->get(Z)I
+:T
+invoke-static { v0 } LB;->get(Z)I
+sput v0 LA;->n:I
+const-string v0 "a b"
+invoke-virtual { v0 } LB;->hashCode()I
+invoke-static { } LX;->toURL(LI;)V
+return-void
+:H
+move-exception v0
+throw v0
+try :F :T
+catch LEx; :H
+end code
+end class
+"""
 ADDRESSED = rb"""dex 035 listing 2
 class LB; 0x11
 super Ljava/lang/Object;
@@ -136,7 +192,7 @@ class Query(HelperTest):
         for what, status, begins in (
             ("damaged.dex", 1, "dexasm-query: damaged.dex: dexasm: refused 4 FileSize at 32"),
             ("none", 3, "dexasm-query: none: No such file"),
-            ("a.apk", 3, "dexasm-query: a.apk: a zip archive"),
+            ("a.apk", 3, "dexasm-query: a.apk: no zip archive can be read"),
             ("folder", 3, "dexasm-query: folder: Is a directory"),
             ("", 3, "dexasm-query: : No such file"),
             (f"{ESC}[31m\n", 3, "dexasm-query: \\x1b[31m\\x0a: No such"),
@@ -220,12 +276,12 @@ class Query(HelperTest):
         told = tool("dexasm-info", "--hex", "b.dex", at=at)[1]
         hexed = re.findall(r"^([0-9a-f]{8})  [0-9a-f ]{23}  ([0-9a-f]{4}): ", told, re.M)
         self.check_equal("dexasm-info --hex has these addresses", hexed, ours)
-        if shutil.which("dexdump"):
-            told = run(["dexdump", "-d", "b.dex"], at=at)[1]
-            theirs = re.findall(r"^([0-9a-f]{6}): [0-9a-f. ]+\|([0-9a-f]{4}): ", told, re.M)
-            self.check(
-                "dexasm-query show --addresses, as dexdump", [(f"00{one}", unit) for one, unit in theirs] == ours, told
-            )
+        self.need("dexdump", "addresses are looked at by hand alone")
+        told = run(["dexdump", "-d", "b.dex"], at=at)[1]
+        theirs = re.findall(r"^([0-9a-f]{6}): [0-9a-f. ]+\|([0-9a-f]{4}): ", told, re.M)
+        self.check(
+            "dexasm-query show --addresses, as dexdump", [(f"00{one}", unit) for one, unit in theirs] == ours, told
+        )
 
     def test_show(self) -> None:
         """Each class, each member and all that a name can say is a listing that assembles, of just these."""
@@ -259,6 +315,127 @@ class Query(HelperTest):
                       ("calls", "--addresses", "b.dex"), ("calls", "--lines", "b.dex")):  # fmt: skip
             seen = tool("dexasm-query", *words, at=at)
             self.check(f"dexasm-query {words}, wrong words", seen[:2] == (2, "") and "usage: " in seen[2], seen)
+
+    def test_show_by_words(self) -> None:
+        """A dotted name, a bare name of a member, a pattern: what they find is what whole names find, in its order."""
+        at = room("query show by words")
+        text = HEAD + b"class Lcom/x/Y; 0x1\nstatic n I 0x9\ndirect get (I)V 0x109\nvirtual get ()V 0x101\nend class\n"
+        text += b"class Lcom/x/Z; 0x1\nvirtual get ()V 0x101\nvirtual set ()V 0x101\nend class\nclass LY; 0x1\nend class\n"
+        put(at, "a.dex", assembled(text))
+        every, y, z = "Lcom/x/Y; Lcom/x/Z; LY;".split(), "Lcom/x/Y;->{}", "Lcom/x/Z;->{}"
+        for words, whole in (
+            (["com.x.Y"], [every[0]]),
+            (["Y"], ["LY;"]),
+            (["com/x/Y"], [every[0]]),
+            (["get"], [y.format("get"), z.format("get()V")]),
+            (["get(I)V"], [y.format("get(I)V")]),
+            (["com.x.Y->get"], [y.format("get")]),
+            (["com.x.*"], every[:2]),
+            (["*"], every),
+            (["L*/x/?;"], every[:2]),
+            (["com.x.?->?et()V"], [y.format("get()V"), z.format("get()V"), z.format("set")]),
+            (["*t()V", "n"], [y.format("get()V"), y.format("n:I"), z.format("get"), z.format("set")]),
+            (["n", "com.x.Y"], [every[0]]),
+        ):
+            seen = tool("dexasm-query", "show", "a.dex", *words, at=at)
+            want = tool("dexasm-query", "show", "a.dex", *whole, at=at)
+            self.check(f"dexasm-query show {words}", seen == want and seen[0] == 0, (seen, want))
+        for word, near in (
+            ("com.x.y", "near it: Lcom/x/Y;, LY;"),
+            ("com.z.Z", "near it: Lcom/x/Z;"),
+            ("Lcom/x/ZY;", "near it: Lcom/x/"),
+            ("[", "a whole name is as"),
+            ("*" * 40 + "!", "a whole name is as"),
+            ("[a-z]*", "a whole name is as"),
+            ("x" * 5000, "a whole name is as"),
+            (f"{ESC}[31m*", "a whole name is as"),
+        ):
+            seen = tool("dexasm-query", "show", "a.dex", word, at=at)
+            is_so = seen[:2] == (2, "") and is_one_line(seen[2], "dexasm-query: ") and near in seen[2]
+            self.check(f"dexasm-query show {word[:60]}", is_so, seen)
+
+    def found(self, at: str, *words: str) -> Any:
+        status, out, said = tool("dexasm-query", *words, at=at)
+        self.check(f"dexasm-query {' '.join(words)[:60]!a}", (status, said) == (0, ""), (status, said))
+        return json.loads(out) if status == 0 else {}
+
+    def test_kinds(self) -> None:
+        """What registers have stands above instructions, by hand, and the listing is still one."""
+        at = room("query kinds")
+        put(at, "a.txt", HEAD + KINDS)
+        seen = tool("dexasm-query", "show", "--kinds", "a.txt", "LHello;", at=at)
+        told = [(note[2:], line) for note, line in zip(seen[1].split("\n"), seen[1].split("\n")[1:]) if note.startswith("#")]
+        want = [
+            ("v1 this LHello;", "invoke-direct { v1 } Ljava/lang/Object;-><init>()V"), ("v1 LHello;", "new-instance v0 LHello;"),
+            ("v0 new LHello;", "return-void"), ("v2 boolean, v3 long, v4 ..", "const/16 v0 41"), ("v0 constant 0 to 127", "if-eqz v2 :L6"),
+            ("v0 64 bits, v1 ..", "add-long/2addr v0 v3"), ("v0 long, v1 ..", "const/4 v0 0"), ("v0 0", 'const-string v1 "x"'),
+            ("v0 constant 0 to 127, v1 nothing", "return v0"),
+        ]  # fmt: skip
+        self.check_equal("dexasm-query show --kinds", told, want)
+        put(at, "b.txt", seen[1].encode())
+        self.check_equal("dexasm-query show --kinds, assembled", assembled(get(at, "b.txt")), assembled(HEAD + KINDS))
+        both = tool("dexasm-query", "show", "--kinds", "--addresses", "a.txt", "LHello;", at=at)[1].splitlines()
+        plain = tool("dexasm-query", "show", "--addresses", "a.txt", "LHello;", at=at)[1].splitlines()
+        self.check_equal("dexasm-query show --kinds --addresses", [one for one in both if one.strip()[:1] != "#"], plain)
+        seen = tool("dexasm-query", "calls", "--kinds", "a.txt", at=at)
+        self.check("dexasm-query calls --kinds", seen[:2] == (2, "") and "--kinds is of show alone" in seen[2], seen)
+
+    def test_uses(self) -> None:
+        """Who has a name or a text, how and how often, by the names of heirs too."""
+        at = room("query uses")
+        put(at, "a.txt", HEAD + MENTIONS)
+        get = [("LA;->get(Z)I", "LB;->m([LA;)V", "invoke-static", 2), ("LB;->get(Z)I", "LB;->m([LA;)V", "invoke-static", 1)]
+        n = [("LA;->n:I", "LB;->m([LA;)V", "sput", 1)]
+        named = [("LA;", "LB;", "superclass", 1), ("([LA;)V", "LB;->m([LA;)V", "prototype", 1), get[0], *n]
+        for asked, want in (
+            ("LA;->get", get), ("LA;->get(Z)I", get), ("A->g*", get), ("LB;->get(Z)I", get[1:]), ("LA;->n:I", n), ("A", named),
+            ("LE?;", [("LEx;", "LB;->m([LA;)V", "catch", 1)]), ("LI;", [("LI;", "LB;", "interface", 1), ("LX;->toURL(LI;)V", "LB;->m([LA;)V", "invoke-static", 1)]),
+        ):  # fmt: skip
+            rows = self.found(at, "uses", "a.txt", asked).get(asked, [])
+            told = [(row["name"], row["by"], row["how"], row["times"]) for row in rows]
+            self.check_equal(f"dexasm-query uses {asked}", told, want)
+        text = [("a b", "LA;->s:Ljava/lang/String;", "value", 1), ("a b", "LB;->m([LA;)V", "const-string", 1)]
+        for asked in ("a b", "a?b"):
+            rows = self.found(at, "uses", "--strings", "a.txt", asked)[asked]
+            self.check_equal(f"dexasm-query uses --strings {asked}", [tuple(row.values()) for row in rows], text)
+        for asked in (f"L{ESC}[31m;", "LA;->none", "a b"):
+            seen = tool("dexasm-query", "uses", "a.txt", asked, at=at)
+            is_so = seen[:2] == (2, "") and is_one_line(seen[2], "dexasm-query: ") and ESC not in seen[2]
+            self.check(f"dexasm-query uses {asked!a}", is_so, seen)
+
+    def test_outside(self) -> None:
+        """What a file names and hasn't, by class and member, with who names it."""
+        at = room("query outside")
+        put(at, "a.txt", HEAD + MENTIONS)
+        m = "LB;->m([LA;)V"
+        want = {
+            "LEx;": {"by": [m], "members": {}},
+            "LI;": {"by": ["LB;", m], "members": {}},
+            "LX;": {"by": [m], "members": {"toURL(LI;)V": [m]}},
+            "Ljava/lang/String;": {"by": ["LA;->s:Ljava/lang/String;"], "members": {}},
+            "LB;": {"by": [], "members": {"hashCode()I": [m]}},
+        }
+        seen = self.found(at, "outside", "a.txt")
+        self.check_equal("dexasm-query outside", seen, {name: want[name] for name in sorted(want)})
+        self.check_equal("dexasm-query outside, in order", [*seen], sorted(want))
+
+    def test_find(self) -> None:
+        """Names and texts in which a text stands, or that a pattern is all of; no other letter of it means anything."""
+        at = room("query find")
+        put(at, "a.txt", HEAD + MENTIONS)
+        put(at, "n.txt", HEAD + NAMED)
+        for asked, want in (
+            (("get",), {"methods": ["LA;->get(Z)I", "LB;->get(Z)I"]}),
+            (("*:I",), {"fields": ["LA;->n:I"]}),
+            (("LE?;", "a b"), {"classes": ["LEx;"], "strings": ["a b"]}),
+            (("[LA;",), {"methods": ["LB;->m([LA;)V"]}),
+            (("LE.;", "none", "[A-Z]x"), {}),
+        ):
+            found = {kind: names for kind, names in self.found(at, "find", "a.txt", *asked).items() if names}
+            self.check_equal(f"dexasm-query find {asked}", found, want)
+        none = self.found(at, "find", "n.txt", "\U0001f600*")["classes"]
+        turned = self.found(at, "find", "n.txt", "*\u202e")["strings"]
+        self.check_equal("dexasm-query find, other letters", (none, turned), ([], ["\xe9\U0001f600\ud800\0\u202e"]))
 
     def test_tables(self) -> None:
         at, file = room("query tables"), dexasm("assemble", "--align", given=ADDRESSED)

@@ -37,6 +37,24 @@ from .rooms import (
 )
 
 Row = dict[str, Any]  # as JSON has it
+COUNTED = b"""class Lp/A; 0x1
+super Ljava/lang/Object;
+direct a ()V 0x9
+code 0 0 0
+invoke-static { } Lp/B;->b()V
+invoke-static { } Lp/B;->c()V
+return-void
+end code
+end class
+class Lp/B; 0x1
+super Ljava/lang/Object;
+static f I 0x9
+direct b ()V 0x9
+code 0 0 0
+return-void
+end code
+end class
+"""
 COLUMNS = ["total", "code", "strings", "tables", "values", "debug", "unused", "strip"]
 
 
@@ -260,6 +278,16 @@ class Size(HelperTest):
         seen = tool("dexasm-size", "--html", "deep.html", "deep.dex", at=at)
         self.check("dexasm-size --html, packages in packages", seen[0] == 0 and seen[2] == "", seen[2])
 
+    def test_page_alone(self) -> None:
+        """With --html no table is printed, but the rows where a form of them is asked for."""
+        at = room("size page alone")
+        put(at, "a.dex", assembled(LISTING))
+        for words in (("a.dex",), ("a.dex", "a.dex")):
+            seen = tool("dexasm-size", "--html", "out.html", *words, at=at)
+            self.check_equal(f"dexasm-size --html {words}, no table beside", seen, (0, "", ""))
+            seen = tool("dexasm-size", "--json", "--html", "out.html", *words, at=at)
+            self.check(f"dexasm-size --json --html {words}", seen[0] == 0 and seen[1].startswith("{"), seen)
+
     def test_many(self) -> None:
         """A table of more rows than a page can have: those that are left out are one."""
         at, file = room("size many"), assembled(classes(*(f"Lc{n}/D;" for n in range(2100))))
@@ -368,6 +396,29 @@ class Size(HelperTest):
             is_so = is_so and [row[0] for row in rows][: len(told["rows"])] == [row["change"] for row in told["rows"]]
             self.check(f"dexasm-size A B --by {by}, {what}", is_so and said == "", (status, out[-900:], said))
 
+    def test_counts(self) -> None:
+        """Rows of tables by package and class add up to the tables, of one file and of what two differ by."""
+        at = room("size counts")
+        put(at, "a.dex", assembled(HEAD + COUNTED))
+        put(at, "b.dex", assembled(HEAD + COUNTED.replace(b"Lp/B;", b"Lq/B;")))
+        heads = "methods", "defined", "fields", "types", "strings"
+        want = {"p": [3, 2, 1, 2], "java/lang": [0, 0, 0, 1], "(no class)": [0, 0, 0, 2]}
+        status, out, said = tool("dexasm-size", "--count", "--json", "a.dex", at=at)
+        rows = {row.pop("name"): row for row in json.loads(out)["rows"]}
+        seen = {name: [*row.values()][:-1] for name, row in rows.items()}
+        self.check("dexasm-size --count, by hand", {name: seen.get(name) for name in want} == want, (seen, said))
+        data = get(at, "a.dex")
+        tables = [int.from_bytes(data[place : place + 4], "little") for place in (88, 80, 64, 56)]
+        sums = [sum(row[head] for row in rows.values()) for head in heads if head != "defined"]
+        self.check_equal("dexasm-size --count, the tables", sums, tables)
+        out = tool("dexasm-size", "--count", "--by", "class", "--csv", "a.dex", "b.dex", at=at)[1]
+        want_lines = ["2,1,1,1,2,0,2,Lq/B;", "-2,-1,-1,-1,-2,2,0,Lp/B;"]
+        lines = out.splitlines()[1:]
+        self.check("dexasm-size --count of two", {*want_lines} <= {*lines}, lines)
+        for words in ("--count --by method", "--count --html o", "--count --sort code", "--sort fields"):
+            status, out, said = tool("dexasm-size", *words.split(), "a.dex", at=at)
+            self.check(f"dexasm-size {words}", (status, out) == (2, "") and said.startswith("usage: "), said)
+
     def test_changes(self) -> None:
         """The sum of the rows is the difference of the sizes, of each pair and both ways."""
         at, file = room("size changes"), assembled(LISTING)
@@ -458,7 +509,8 @@ class Size(HelperTest):
         for number, name in enumerate((*NAMES, "<script>alert(1)<!--", "=1.dex")):
             put(at, name, assembled(HEAD + text))
             by = ("package", "string")[number % 2]
-            seen = tool("dexasm-size", "--by", by, "--html", "out.html", "--", "a.dex", name, at=at)
+            tool("dexasm-size", "--html", "out.html", "--", "a.dex", name, at=at)
+            seen = tool("dexasm-size", "--by", by, "--", "a.dex", name, at=at)
             lines = seen[1].encode("latin1").decode("utf8").splitlines()
             is_so = (seen[0], seen[2]) == (0, "") and all(line.isprintable() and len(line) < 400 for line in lines)
             self.check(f"dexasm-size A B --by {by}, the file {name!r}", is_so and len(lines) > 9, seen)
@@ -521,8 +573,8 @@ class Size(HelperTest):
             (("a.dex", "bad"), 1, "bad: dexasm: refused 4 FileSize"),
             (("bad", "a.dex"), 1, "bad: dexasm: refused 4 FileSize"),
             (("a.dex", f"{ESC}none"), 3, "\\x1bnone: No such file"),
-            (("a.apk", "a.dex"), 3, "a.apk: a zip archive: `dexasm-apk strip"),
-            (("a.dex", "a.apk"), 3, "a.apk: a zip archive: `dexasm-apk strip"),
+            (("a.apk", "a.dex"), 3, "a.apk: no zip archive can be read"),
+            (("a.dex", "a.apk"), 3, "a.apk: no zip archive can be read"),
             (("a.dex", "."), 3, ".: Is a directory"),
             (("--html", "none/out", "a.dex", "a.dex"), 3, "none/out: No such file"),
         ):

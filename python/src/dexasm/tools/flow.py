@@ -11,7 +11,7 @@ from bisect import bisect_left
 
 from dexasm.names import spelled
 from dexasm.tools.basis import Failed
-from dexasm.tools.uses import Uses, fresh
+from dexasm.tools.uses import Uses, fresh, method_of
 
 TYPE_CHECKING = False  # (as in typing)
 if TYPE_CHECKING:
@@ -19,6 +19,8 @@ if TYPE_CHECKING:
     from typing import Any
 
     from dexasm.code import Code, Insn, Label
+
+    Callee = int | str
 
 MOST_EDGES = 1_000_000
 MOST_DRAWN = 2000  # edges of a picture on a page
@@ -44,9 +46,9 @@ class Graph:
         self.nodes: list[dict[str, Any]] = []
         self.edges: dict[tuple[int, int, str, str], int] = {}
 
-    def lead(self, a: int, b: int, kind: str, label: str = "") -> None:
+    def lead(self, a: int, b: int, kind: str, label: str = "", times: int = 1) -> None:
         key = a, b, kind, label
-        self.edges[key] = self.edges.get(key, 0) + 1
+        self.edges[key] = self.edges.get(key, 0) + times
         if len(self.edges) > MOST_EDGES:
             raise Failed(f"the graph has more than {MOST_EDGES:,} edges")
 
@@ -144,34 +146,67 @@ def flow(uses: Uses, number: int) -> Graph:
     return Flow(uses.full_name(number), method.code).graph
 
 
+class Calls:
+    """Makes a graph of methods: each is its number, or its name where the file doesn't have it."""
+
+    def __init__(self, uses: Uses) -> None:
+        self.uses, self.graph = uses, Graph("calls")
+        self.places: dict[Callee, int] = {}
+
+    def node(self, to: Callee) -> int:
+        if to not in self.places:
+            self.places[to] = len(self.graph.nodes)
+            name = to if isinstance(to, str) else self.uses.full_name(to)
+            self.graph.nodes.append({"name": name, "outside": isinstance(to, str), "lines": [spelled(name)]})
+        return self.places[to]
+
+    def called(self, number: int) -> Iterator[Callee]:
+        """What a method calls, in the order of its code."""
+        code = getattr(self.uses.member(number), "code", None)
+        for insn in fresh(code).insns if code is not None else ():
+            if insn.mnemonic.startswith("invoke-"):
+                owner, _, signature = str(insn.name).partition("->")
+                to = self.uses.resolve(owner, signature)
+                yield str(insn.name) if to is None else to
+
+
 def calls(uses: Uses, start: int | None = None, depth: int | None = None) -> Graph:
     """Who calls whom, from a method on so many calls deep, or all."""
-    graph, places = Graph("calls"), {}
-
-    def node(to: int | str) -> int:
-        """The node of a method: its number, or its name where the file doesn't have it."""
-        if to not in places:
-            places[to] = len(graph.nodes)
-            name = to if isinstance(to, str) else uses.full_name(to)
-            graph.nodes.append({"name": name, "outside": isinstance(to, str), "lines": [spelled(name)]})
-        return places[to]
-
+    made = Calls(uses)
     due = [start] if start is not None else [number for number, _ in uses.methods()]
     depths = dict.fromkeys(due, 0)
     for number in due:
-        here, code = node(number), getattr(uses.member(number), "code", None)
-        if code is None or depth is not None and depths[number] >= depth:
+        here = made.node(number)
+        if depth is not None and depths[number] >= depth:
             continue
-        for insn in fresh(code).insns:
-            if not insn.mnemonic.startswith("invoke-"):
-                continue
-            owner, _, signature = str(insn.name).partition("->")
-            to = uses.resolve(owner, signature)
-            graph.lead(here, node(str(insn.name) if to is None else to), "call")
-            if to is not None and to not in depths:
+        for to in made.called(number):
+            made.graph.lead(here, made.node(to), "call")
+            if isinstance(to, int) and to not in depths:
                 depths[to] = depths[number] + 1
                 due.append(to)
-    return graph
+    return made.graph
+
+
+def callers(uses: Uses, asked: str, depth: int | None = None) -> Graph:
+    """Who calls a method, and who calls these, so many calls up."""
+    made = Calls(uses)
+    by: dict[Callee, dict[int, int]] = {}  # of each method who calls it, how often
+    for number, _ in uses.methods():
+        for to in made.called(number):
+            some = by.setdefault(to, {})
+            some[number] = some.get(number, 0) + 1
+    goal: Callee = asked if asked in by else method_of(uses, asked)
+    due, depths = [goal], {goal: 0}
+    for to in due:
+        here = made.node(to)
+        if depth is not None and depths[to] >= depth:
+            continue
+        for number, times in by.get(to, {}).items():
+            made.graph.lead(made.node(number), here, "call", times=times)
+            if number not in depths:
+                depths[number] = depths[to] + 1
+                due.append(number)
+    return made.graph
 
 
 # ---- what is written

@@ -7,6 +7,7 @@ from __future__ import annotations
 import re
 from bisect import bisect_right
 
+from dexasm.flags import FIELD_FLAGS, METHOD_FLAGS
 from dexasm.tools.basis import USAGE, Failed
 from dexasm.tools.escapes import escaped
 
@@ -21,22 +22,13 @@ if TYPE_CHECKING:
 
 ABOVE = 64  # superclasses and interfaces of a class that are looked through for a member
 CLASS_IN = re.compile(r"(L[^;]*;)")  # in a type or a prototype
-# Flags as Java's words ("Dalvik executable format", access_flags).
-BOTH = {0x1: "public", 0x2: "private", 0x4: "protected", 0x8: "static", 0x10: "final"}
-CLASS_FLAGS = {**BOTH, 0x200: "interface", 0x400: "abstract", 0x1000: "synthetic", 0x2000: "annotation", 0x4000: "enum"}
-FIELD_FLAGS = {**BOTH, 0x40: "volatile", 0x80: "transient", 0x1000: "synthetic", 0x4000: "enum"}
-METHOD_FLAGS = {
-    **BOTH,
-    0x20: "synchronized",
-    0x40: "bridge",
-    0x80: "varargs",
-    0x100: "native",
-    0x400: "abstract",
-    0x800: "strictfp",
-    0x1000: "synthetic",
-    0x10000: "constructor",
-    0x20000: "declared-synchronized",
-}
+TYPES_BEHIND = re.compile(r"[(:]")  # a member's own name, in which an L says nothing
+
+
+def classes_in(name: str) -> list[str]:
+    """The classes that a name has: a type, a prototype or a member."""
+    owner, is_member, signature = name.partition("->")
+    return CLASS_IN.findall(owner + TYPES_BEHIND.split(signature, maxsplit=1)[1] if is_member else name)
 
 
 def flag_words(flags: int, table: dict[int, str]) -> str:

@@ -1,8 +1,9 @@
 """Makes one .dex file of several: it has the classes of all of them.
 
-usage: dexasm-merge [--same] FILE.. --output OUT
+usage: dexasm-merge [--same] [--fit] FILE.. --output OUT
 
-Each FILE is a .dex file or a listing; `-` is standard input, and as OUT standard output. The classes stand in the order
+Each FILE is a .dex file or a listing, an archive, whose classes*.dex are meant, or app.apk!classes2.dex; `-` is standard
+input, and as OUT standard output. The classes stand in the order
 in which they are given, except that the superclass and the interfaces of a class are put before it, as the format asks.
 OUT is the file of the merged program as `dexasm assemble` writes it: like `dexasm strip`, this leaves out debug
 information and annotations.
@@ -12,6 +13,11 @@ them is taken once. Classes that are superclasses or interfaces of one another, 
 are refused by name. What doesn't fit into one file is refused with the number of the limit, the class and its file, and
 what goes beyond: 80 and 81 are too many types and prototypes, 82 to 84 strings, fields and methods that an instruction
 doesn't reach.
+
+With --fit longer instructions stand where 82 or 85 would be refused, that of one file too: const-string/jumbo for
+strings beyond the 65,536th, goto/16 and goto/32 for a goto that doesn't reach, and an `if` around a goto/32 for an `if`
+that doesn't; payloads are aligned anew. (A listing that is refused for these has to be as `list` prints it.) A line says what was changed, and how often. Nothing else is, and what fits
+stays as it is.
 
 OUT is written by the command's own rules, once the whole answer is there. A refusal changes nothing, and OUT may be one
 of the files.
@@ -23,35 +29,68 @@ from __future__ import annotations
 
 import sys
 
-from dexasm.tools.asking import program_of
+from dexasm.tools.asking import ask, dex_from, is_listing, listed
 from dexasm.tools.basis import FAILED
-from dexasm.tools.files import deliver, name_of
-from dexasm.tools.helper import helper
-from dexasm.tools.merge.merged import Merged
+from dexasm.tools.files import deliver
+from dexasm.tools.helper import helper, say
+from dexasm.tools.inputs import inputs_of
+from dexasm.tools.merge.merged import FAR_BRANCH, FAR_STRING, Merged
 
 TYPE_CHECKING = False  # (as in typing)
 if TYPE_CHECKING:
+    from collections import Counter
+
+    from dexasm.program import Program
     from dexasm.tools.helper import Words
+    from dexasm.tools.inputs import Input
 
 
-def merged(paths: list[str | None], takes_same: bool) -> bytes:
+def merged(paths: list[str | None], takes_same: bool, is_fitted: bool, prog: str) -> bytes:
     """The file of the classes of all files."""
     whole = Merged(takes_same)
     for path in paths:
-        whole.take(name_of(path), program_of(path))
-    return whole.file()
+        for given in inputs_of(path):
+            whole.take(given.name, far_listing(given) if is_fitted and is_listing(given.data) else program_of(given))
+    file = whole.file(is_fitted)
+    if whole.done:
+        say(f"{prog}: made to fit: {', '.join(told(whole.done))}")
+    return file
+
+
+def program_of(given: Input) -> Program:
+    return listed(dex_from(given.data, given.name), given.name)
+
+
+def far_listing(given: Input) -> Program:
+    """The program of a listing, also of one that is refused for a string or a target out of reach, if it is spelled as
+    `list` prints it."""
+    refusal = ask("assemble", given=given.data).refusal()
+    if refusal and refusal[0] in (FAR_STRING, FAR_BRANCH):
+        from dexasm.program import Program
+
+        try:
+            return Program.of_listing(given.data.decode("ascii"))
+        except ValueError:
+            pass  # (what is refused is told as of any listing)
+    return program_of(given)
+
+
+def told(done: Counter[str]) -> list[str]:
+    """What was done, in words."""
+    return [f"{what} ({count:,})" for what, count in sorted(done.items())]
 
 
 @helper(unread=FAILED)
 def main(words: Words) -> int:
     words.add_argument("--same", action="store_true")
+    words.add_argument("--fit", action="store_true")
     words.add_argument("--output", "-o", metavar="OUT", required=True)
     words.add_argument("files", metavar="FILE", nargs="+")
     asked = words.parse_args()
     paths = [None if path == "-" else path for path in asked.files]
     if paths.count(None) > 1:
         words.error("standard input can only be read once")
-    answer = merged(paths, asked.same)
+    answer = merged(paths, asked.same, asked.fit, words.prog)
     if asked.output == "-":
         sys.stdout.buffer.write(answer)
         sys.stdout.buffer.flush()

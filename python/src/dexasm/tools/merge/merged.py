@@ -1,13 +1,15 @@
 """The classes of several programs as one program: for dexasm-merge."""
 from __future__ import annotations
 
+from collections import Counter
 from typing import Any, NamedTuple
 
-from dexasm.tools.asking import Ended, ask
+from dexasm.tools.asking import Ended, ask, program_in
 from dexasm.tools.basis import REFUSED, Failed
 from dexasm.tools.escapes import shortened
 from dexasm.tools.faults import MENDS, OF_COUNTS
 
+FAR_STRING, FAR_BRANCH = 82, 85  # the faults that longer instructions help
 MOST = 4  # classes of a cycle that are named
 LOOKED_AT = 8 << 20  # bytes of a listing in which the word is looked for that is one too many: that takes 20 s
 
@@ -27,6 +29,7 @@ class Merged:
     def __init__(self, takes_same: bool) -> None:
         self.takes_same = takes_same
         self.classes: dict[str, One] = {}
+        self.done: Counter[str] = Counter()  # what was made to fit
 
     def take(self, file: str, program: Any) -> None:
         """The classes of a file of that name."""
@@ -43,16 +46,33 @@ class Merged:
             differs = ", and differently" if self.takes_same else ""
             raise Failed(f"{there.file} and {again.file} both define {said(name)}{differs}", REFUSED)
 
-    def file(self) -> bytes:
-        """The bytes of the .dex file of all of them."""
+    def file(self, is_fitted: bool = False) -> bytes:
+        """The bytes of the .dex file of all of them; with is_fitted of a program that has longer instructions where
+        these are what it lacks."""
         from dexasm.program import HEAD
 
         order = Order(self.classes).whole()
         listing = "".join([HEAD, *(self.classes[name].text for name in order)]).encode("ascii")
         ended = ask("assemble", given=listing)
+        refusal = ended.refusal()
+        if is_fitted and refusal and refusal[0] in (FAR_STRING, FAR_BRANCH):
+            listing = self.fitted(listing)
+            ended = ask("assemble", "--align", given=listing)
         if ended.status:
             raise Failed(self.why(ended, listing, order), ended.status)
         return ended.answer
+
+    def fitted(self, listing: bytes) -> bytes:
+        """The listing of the program with as few longer instructions as it needs. Which strings are far is asked of a
+        file in which none is loaded by a short one: it has the same strings."""
+        from dexasm.tools.merge.fitting import far_texts, fit
+
+        first = program_in(listing.decode("ascii"), "all")
+        fit(first, None)
+        ended = ask("assemble", "--align", given=str(first).encode("ascii"))
+        made = program_in(listing.decode("ascii"), "all")
+        self.done = fit(made, far_texts(ended.answer) if not ended.status else None)
+        return str(made).encode("ascii")
 
     def why(self, ended: Ended, listing: bytes, order: list[str]) -> str:
         """A line that says what doesn't fit, and which class of which file has it."""

@@ -2,7 +2,10 @@
 
 usage: dexasm-query classes|strings|calls|fields [FILE]
        dexasm-query tables [--lines] FILE [TABLE ..]
-       dexasm-query show [--addresses] FILE NAME ..
+       dexasm-query show [--addresses] [--kinds] FILE NAME ..
+       dexasm-query uses [--strings] FILE NAME ..
+       dexasm-query outside [FILE]
+       dexasm-query find FILE PATTERN ..
 
   classes  each class with its flags, superclass, interfaces and members
   strings  each string that code or a value has, and where: "LA;->m()V" or "LA;"
@@ -10,14 +13,24 @@ usage: dexasm-query classes|strings|calls|fields [FILE]
   fields   each field of the file, and each other one that code names, with the methods that read and write it
   tables   the rows of the file's tables, in its order: of strings, types, protos, fields, methods or classes, all of
            them where none is asked for; with --lines a line for each, its table, its index and what it says
-  show     the listing of these classes (LA;) or members (LA;->m()V, LA;->f:I, or LA;->m for all of that name) alone,
-           which can be assembled
+  show     the listing of these classes (LA; or com.x.A) or members (LA;->m()V, LA;->f:I, or LA;->m for all of that
+           name; m alone for those of all classes) alone, which can be assembled. In a NAME a * stands for any
+           characters and a ? for one: com.x.*, LA;->get*
+  uses     of each NAME who has it, how and how often: who calls a method, reads or writes a field, names a class or has
+           it in another name. NAME is as for `show`, but that a member has its class, and it needn't be of the file; a
+           member is also what the file's classes inherit from there. With --strings each NAME is a text: who has it
+  outside  each class that the file names and hasn't, with who names it, and its members with who names these; and of
+           the file's own classes the members that they inherit from such a class
+  find     the classes, fields, methods and strings of the file, and those that it names, in which PATTERN stands; with
+           a * or a ? it is a pattern for all of the name or text
 
 With --addresses each line of `show` stands behind blanks, and an instruction behind its offset in the file and its
-address in units of 16 bits, both in hexadecimal, as dexdump has them.
+address in units of 16 bits, both in hexadecimal, as dexdump has them. With --kinds a comment above an instruction says
+which registers have another kind there than above, as `dexasm-lint --code` follows them.
 
 All but `tables` walk the objects of the module for Python (dexasm.Program), so each query is a few lines. FILE may be
-a listing too; `tables` and addresses are then those of the file that dexasm makes of it. Names and strings are decoded
+a listing too; `tables` and addresses are then those of the file that dexasm makes of it. Of an archive all classes*.dex
+are one program; `tables` and addresses want one of them, app.apk!classes2.dex, where there are several. Names and strings are decoded
 alike: what a listing writes as an escape is the character here, and JSON writes it as its own escape. `access` has the
 words for flags.
 
@@ -28,13 +41,15 @@ from __future__ import annotations
 
 import json
 
-from dexasm.tools.asking import answer, dex_of, listed, program_of
-from dexasm.tools.files import name_of
+from dexasm.flags import CLASS_FLAGS
+from dexasm.tools.asking import answer, dex_from, listed, program_of
 from dexasm.tools.helper import helper
 from dexasm.tools.info.tables import line_of, row_of
+from dexasm.tools.inputs import one_input
 from dexasm.tools.layout import Tables
+from dexasm.tools.query import mentions
 from dexasm.tools.query.show import show
-from dexasm.tools.uses import CLASS_FLAGS, flag_words
+from dexasm.tools.uses import flag_words
 
 TYPE_CHECKING = False  # (as in typing)
 if TYPE_CHECKING:
@@ -110,8 +125,9 @@ def fields(program: Program) -> dict[str, dict[str, list[str]]]:
 
 
 def tables(path: str | None, names: list[str]) -> dict[str, list[str | dict[str, Any]]]:
-    data = dex_of(path)
-    answer("check", given=data, name=name_of(path))
+    given = one_input(path)
+    data = dex_from(given.data, given.name)
+    answer("check", given=data, name=given.name)
     read = Tables(data)
     rows = {name: range(read.count[TABLES[name]]) for name in names or TABLES}
     return {name: [row_of(read, TABLES[name], row) for row in rows[name]] for name in rows}
@@ -123,37 +139,57 @@ def table_lines(found: dict[str, Any]) -> Iterator[str]:
             yield f"{name} {at} {line_of(TABLES[name], row)}"
 
 
+QUERIES: dict[str, Query] = {
+    "classes": classes, "strings": strings, "calls": calls, "fields": fields, "outside": mentions.outside,
+}  # fmt: skip
+# What takes names behind FILE, and what these are.
+NAMED = {"show": "names of classes or members", "uses": "names, or texts with --strings", "find": "patterns"}
+OPTIONS = {"addresses": "show", "kinds": "show", "lines": "tables", "strings": "uses"}  # and what each is of
+
+
 @helper()
 def main(words: Words) -> int:
-    queries: dict[str, Query] = {"classes": classes, "strings": strings, "calls": calls, "fields": fields}
-    for option in ("--addresses", "--lines"):
-        words.add_argument(option, action="store_true")
-    words.add_argument("query", choices=[*queries, "tables", "show"])
+    for option in OPTIONS:
+        words.add_argument(f"--{option}", action="store_true")
+    words.add_argument("query", choices=[*QUERIES, "tables", *NAMED])
     words.add_argument("rest", nargs="*")
     asked = words.parse_intermixed_args()  # (an option may stand behind the query)
     file, names = asked.rest[0] if asked.rest else None, asked.rest[1:]
-    if asked.addresses and asked.query != "show":
-        words.error("--addresses is of show alone")
-    if asked.lines and asked.query != "tables":
-        words.error("--lines is of tables alone")
-    if asked.query in queries and names:
+    for option, query in OPTIONS.items():
+        if getattr(asked, option) and asked.query != query:
+            words.error(f"--{option} is of {query} alone")
+    if asked.query in QUERIES and names:
         words.error(f"{asked.query} takes one FILE")
     if asked.query == "tables" and not set(names) <= set(TABLES):
         words.error(f"a table is one of: {', '.join(TABLES)}")
-    if asked.query == "show" and not names:
-        words.error("show takes a FILE, and names of classes or members")
-    for line in answered(asked, file, names, queries):
+    if asked.query in NAMED and not names:
+        words.error(f"{asked.query} takes a FILE, and {NAMED[asked.query]}")
+    for line in answered(asked, file, names):
         print(line)
     return 0
 
 
-def answered(asked: Namespace, file: str | None, names: list[str], queries: dict[str, Query]) -> Iterable[str]:
+def answered(asked: Namespace, file: str | None, names: list[str]) -> Iterable[str]:
     """The lines of the answer."""
+    if asked.query == "show" and asked.addresses:
+        given = one_input(file)
+        data = dex_from(given.data, given.name)
+        return [*show(listed(data, given.name), names, data, asked.kinds)]
     if asked.query == "show":
-        data = dex_of(file)
-        return [*show(listed(data, name_of(file)), names, data if asked.addresses else None)]
-    found = tables(file, names) if asked.query == "tables" else queries[asked.query](program_of(file))
+        return [*show(program_of(file), names, None, asked.kinds)]
+    found = found_by(asked, file, names)
     return table_lines(found) if asked.lines else [json.dumps(found, indent=1)]
+
+
+def found_by(asked: Namespace, file: str | None, names: list[str]) -> dict[str, Any]:
+    """What JSON says."""
+    if asked.query == "tables":
+        return tables(file, names)
+    if asked.query == "uses":
+        return mentions.uses(program_of(file), names, asked.strings)
+    if asked.query == "find":
+        return mentions.find(program_of(file), names)
+    return QUERIES[asked.query](program_of(file))
 
 
 if __name__ == "__main__":

@@ -1,7 +1,10 @@
 """Some classes or members of a program as a listing of their own, for dexasm-query show."""
 from __future__ import annotations
 
-from collections.abc import Iterator
+import fnmatch
+import functools
+import re
+from collections.abc import Callable, Iterable, Iterator
 
 from dexasm.tools.basis import USAGE, Failed
 from dexasm.tools.escapes import escaped
@@ -9,46 +12,109 @@ from dexasm.tools.layout import Tables, addresses
 
 TYPE_CHECKING = False  # (as in typing)
 if TYPE_CHECKING:
-    from dexasm.members import Field, Method
+    from dexasm.members import Class, Field, Method
     from dexasm.program import Program
 
+    Notes = Callable[[Class, Method], Iterable[str]]
+
+PATTERN = re.compile(r"[*?]")  # (which no name has)
 HEAD = "dex 035 listing 2"
 BLANK = " " * len("00000000 0000 ")
+# First words of lines that are no instruction; what else stands in a class has none of these.
+OTHERS = {
+    "class", "super", "implements", "source", "static", "instance", "direct", "virtual", "code", "try", "catch", "catchall", "end",
+}  # fmt: skip
 
 
 def chosen(program: Program, names: list[str]) -> dict[int, set[str] | None]:
     """Of each class that the names name, by its place: the members' signatures, or None for all of it."""
-    from dexasm.names import unspelled
-
     found: dict[int, set[str] | None] = {}
     for asked in names:
-        try:
-            name = unspelled(asked)
-        except ValueError:
-            name = asked
-        owner, is_member, wanted = name.partition("->")
-        place = program.classes.place(owner)
-        if place is None:
-            raise Failed(f"{escaped(asked)} names nothing of the file; a whole name is as LHello;->get(Z)I", USAGE)
-        if not is_member:
-            found[place] = None
-            continue
-        one = program.classes[place]
-        both: tuple[Field | Method, ...] = (*one.fields, *one.methods)
-        members = {each.signature for each in both if wanted in (each.signature, each.name)}
-        if not members:
-            raise Failed(f"{escaped(asked)} names nothing of the file; a whole name is as LHello;->get(Z)I", USAGE)
-        already = found.setdefault(place, set())
-        if already is not None:
-            already |= members
+        named = dict(meant(program, asked))
+        if not named:
+            raise Failed(nothing(program, asked), USAGE)
+        for place, members in named.items():
+            already = found.setdefault(place, set())
+            found[place] = None if members is None or already is None else already | members
     return found
 
 
-def show(program: Program, names: list[str], data: bytes | None = None) -> Iterator[str]:
+def meant(program: Program, asked: str) -> Iterator[tuple[int, set[str] | None]]:
+    """What a name names: a class (LA; or com.x.A), members of one (LA;->m()V, com.x.A->m), or else members of whatever
+    class (m, m()V); in each a * and a ? stand for other characters.
+    """
+    owner, is_member, wanted = unescaped(asked).partition("->")
+    places = [*places_of(program, owner)]
+    if is_member:
+        for place in places:
+            members = members_of(program, place, wanted)
+            if members:
+                yield place, members
+    elif places:
+        yield from ((place, None) for place in places)
+    else:
+        for place in range(len(program.classes)):
+            members = members_of(program, place, owner)
+            if members:
+                yield place, members
+
+
+def unescaped(asked: str) -> str:
+    """A name of the command line, which may have the escapes of a listing."""
+    from dexasm.names import unspelled
+
+    try:
+        return unspelled(asked)
+    except ValueError:
+        return asked
+
+
+def places_of(program: Program, owner: str) -> Iterator[int]:
+    """The places of the classes of a name."""
+    spelled = owner if owner.endswith(";") else f"L{owner.replace('.', '/')};"
+    if not PATTERN.search(owner):
+        place = program.classes.place(spelled)
+        if place is not None:
+            yield place
+        return
+    form = pattern(spelled)
+    yield from (place for place, name in enumerate(program.classes.names()) if form.fullmatch(name))
+
+
+def members_of(program: Program, place: int, wanted: str) -> set[str]:
+    """The signatures of a class's members of a name, or a signature."""
+    one = program.classes[place]
+    both: tuple[Field | Method, ...] = (*one.fields, *one.methods)
+    if not PATTERN.search(wanted):
+        return {each.signature for each in both if wanted in (each.signature, each.name)}
+    form = pattern(wanted)
+    return {each.signature for each in both if form.fullmatch(each.signature) or form.fullmatch(each.name)}
+
+
+@functools.lru_cache(maxsize=256)
+def pattern(text: str) -> re.Pattern[str]:
+    """A pattern, in which no other character means anything (an array's name has a bracket)."""
+    return re.compile(fnmatch.translate(text.replace("[", "[[]")))
+
+
+def nothing(program: Program, asked: str) -> str:
+    from dexasm.program import near_names
+
+    near = near_names(asked.partition("->")[0], [str(name) for name in program.classes.names()])
+    hint = f"near it: {', '.join(map(escaped, near))}" if near else "a whole name is as LHello;->get(Z)I"
+    return f"{escaped(asked)} names nothing of the file; {hint}"
+
+
+def show(program: Program, names: list[str], data: bytes | None = None, has_kinds: bool = False) -> Iterator[str]:
     """Their listing, in the order of the file. With the file's bytes each line stands behind blanks, and an instruction
-    behind its offset in the file and its address in units."""
+    behind its offset in the file and its address in units; with has_kinds what registers have stands above it."""
     tables = Tables(data) if data is not None else None
     blank = BLANK if tables else ""
+    notes: Notes = lambda one, method: []
+    if has_kinds:
+        from dexasm.tools.query.registers import Registers
+
+        notes = Registers(program).notes
     yield blank + HEAD
     for place, members in sorted(chosen(program, names).items()):
         one = program.classes[place]
@@ -57,22 +123,20 @@ def show(program: Program, names: list[str], data: bytes | None = None) -> Itera
         for member, text in one.parts():
             if member is None or members is None or member.signature in members:
                 at = places.get(id(member))
-                yield from text.splitlines() if data is None else behind(text, data, at)
+                above = notes(one, member) if getattr(member, "code", None) is not None else []  # type: ignore[arg-type]
+                yield from told(text, [] if data is None or at is None else addresses(data, at), above, blank)
         yield f"{blank}end class"
 
 
-def behind(text: str, data: bytes, code: int | None) -> Iterator[str]:
-    """The lines of a member, an instruction behind where it is."""
-    lines = iter(text.splitlines())
-    if code is None:
-        yield from (BLANK + line for line in lines)
-        return
-    yield BLANK + next(lines)
-    yield BLANK + next(lines)  # (registers)
-    for offset, address in addresses(data, code):
-        line = next(lines)
-        while line.startswith(":"):
-            yield BLANK + line
-            line = next(lines)
-        yield f"{offset:08x} {address:04x} {line}"
-    yield from (BLANK + line for line in lines)
+def told(text: str, places: Iterable[tuple[int, int]], notes: Iterable[str], blank: str) -> Iterator[str]:
+    """The lines of a member; of an instruction first what is said of its registers, and where it is."""
+    lines, at, note = iter(text.splitlines()), iter(places), iter(notes)
+    for line in lines:
+        word = line.partition(" ")[0]
+        if word in OTHERS or line.startswith(":"):
+            yield blank + line
+            continue
+        if said := next(note, ""):
+            yield blank + said
+        offset, address = next(at, (None, None))
+        yield blank + line if offset is None else f"{offset:08x} {address:04x} {line}"

@@ -1,0 +1,171 @@
+"""What a program names, and where: for dexasm-query uses, outside and find."""
+from __future__ import annotations
+
+import functools
+import re
+from collections import Counter
+from collections.abc import Callable, Iterator
+from typing import NamedTuple
+
+from dexasm.tools.basis import USAGE, Failed
+from dexasm.tools.escapes import escaped
+from dexasm.tools.query.show import PATTERN, pattern, unescaped
+from dexasm.tools.uses import Uses, classes_in
+
+TYPE_CHECKING = False  # (as in typing)
+if TYPE_CHECKING:
+    from typing import Any
+
+    from dexasm.members import Class, Method, Value
+    from dexasm.program import Program
+
+    Rows = list[dict[str, Any]]
+
+VALUES = ("type", "field", "enum", "method")  # kinds of values that name something
+
+
+class Mention(NamedTuple):
+    """What is named, or a text, by which class or member, and how: by an instruction, its mnemonic."""
+
+    name: str
+    is_text: bool
+    by: str
+    how: str
+
+
+def mentions(program: Program) -> Iterator[Mention]:
+    """Each, in the order of the listing."""
+    for one in program.classes:
+        owner = str(one.name)
+        yield from (Mention(str(name), False, owner, "superclass") for name in (one.superclass,) if name is not None)
+        yield from (Mention(str(name), False, owner, "interface") for name in one.interfaces)
+        for field in one.fields:
+            by = str(one.ref(field))
+            yield Mention(str(field.type), False, by, "type")
+            yield from of_value(by, field.value)
+        for method in one.methods:
+            yield from of_method(one, method)
+
+
+def of_value(by: str, value: Value | None) -> Iterator[Mention]:
+    for one in value.all() if value else ():
+        if one.kind == "string" or one.kind in VALUES:
+            yield Mention(str(one.value), one.kind == "string", by, "value")
+
+
+def of_method(one: Class, method: Method) -> Iterator[Mention]:
+    by = str(one.ref(method))
+    yield Mention(str(method.proto), False, by, "prototype")
+    for insn in method.insns:
+        if insn.name is not None:
+            yield Mention(str(insn.name), False, by, insn.mnemonic)
+        elif insn.text is not None:
+            yield Mention(insn.text, True, by, insn.mnemonic)
+    for each in method.code.tries if method.code else ():
+        yield from (Mention(str(catch.type), False, by, "catch") for catch in each.catches)
+
+
+# ---- uses
+
+
+def uses(program: Program, asked: list[str], is_text: bool) -> dict[str, Rows]:
+    """Of each name or text that was asked for, who has it and how, in the order of the listing, with how often."""
+    wanted = {one: matcher(program, one, is_text) for one in asked}
+    found: dict[str, Counter[Mention]] = {one: Counter() for one in asked}
+    for mention in mentions(program):
+        for one, is_meant in wanted.items():
+            if mention.is_text == is_text and is_meant(mention.name):
+                found[one][mention] += 1
+    missing = next((one for one in asked if not found[one]), None)
+    if missing is not None:
+        raise Failed(f"{escaped(missing)}: nothing of the file {'has that text' if is_text else 'names that'}", USAGE)
+    return {one: [row_of(mention, times) for mention, times in rows.items()] for one, rows in found.items()}
+
+
+def row_of(mention: Mention, times: int) -> dict[str, Any]:
+    return {"name": mention.name, "by": mention.by, "how": mention.how, "times": times}
+
+
+def matcher(program: Program, asked: str, is_text: bool) -> Callable[[str], bool]:
+    """Whether a name, or a text, is one that was asked for."""
+    if is_text:
+        return functools.partial(named, asked)
+    owner, is_member, wanted = unescaped(asked).partition("->")
+    owner = owner if owner.endswith(";") else f"L{owner.replace('.', '/')};"
+    if is_member:
+        return functools.lru_cache(None)(functools.partial(is_member_of, Uses(program), owner, wanted))
+    return functools.lru_cache(None)(lambda name: any(named(owner, each) for each in classes_in(name)))
+
+
+def is_member_of(known: Uses, owner: str, wanted: str, name: str) -> bool:
+    """Whether a name is that of a member, of a class or of one that inherits it from there in this program."""
+    of, is_member, signature = name.partition("->")
+    if not is_member or not (named(wanted, signature) or named(wanted, re.split("[(:]", signature)[0])):
+        return False
+    number = known.resolve(of, signature)
+    return named(owner, of) or number is not None and named(owner, str(known.classes[known.row_of(number)].name))
+
+
+def named(asked: str, name: str) -> bool:
+    """Whether a name, or a text, is this one, or of this pattern."""
+    return asked == name or PATTERN.search(asked) is not None and pattern(asked).fullmatch(name) is not None
+
+
+# ---- outside
+
+
+def outside(program: Program) -> dict[str, dict[str, Any]]:
+    """Each class that is named and isn't there, with who names it, and its members; and of a class that is there the
+    members that neither it nor what it inherits from here has."""
+    known = Uses(program)
+    found: dict[str, dict[str, Any]] = {}
+    for mention in mentions(program):
+        if mention.is_text:
+            continue
+        owner, is_member, signature = mention.name.partition("->")
+        for name in dict.fromkeys(classes_in(mention.name)):
+            if name not in known.rows:
+                add(found.setdefault(name, {"by": {}, "members": {}})["by"], mention.by)
+        if is_member and owner.startswith("L") and known.resolve(owner, signature) is None:
+            row = found.setdefault(owner, {"by": {}, "members": {}})
+            add(row["members"].setdefault(signature, {}), mention.by)
+    return {name: listed(found[name]) for name in sorted(found)}
+
+
+def add(to: dict[str, None], by: str) -> None:
+    to[by] = None
+
+
+def listed(row: dict[str, Any]) -> dict[str, Any]:
+    members = row["members"]
+    return {"by": [*row["by"]], "members": {signature: [*members[signature]] for signature in sorted(members)}}
+
+
+# ---- find
+
+
+def find(program: Program, asked: list[str]) -> dict[str, list[str]]:
+    """The names and the texts of a program in which a text stands, or that a pattern with * and ? is all of."""
+    forms = [pattern(one if PATTERN.search(one) else f"*{one}*") for one in asked]
+    found: dict[str, dict[str, None]] = {"classes": {}, "fields": {}, "methods": {}, "strings": {}}
+
+    def look(kind: str, text: str) -> None:
+        if any(form.fullmatch(text) for form in forms):
+            found[kind][text] = None
+
+    for one in program.classes:
+        look("classes", str(one.name))
+        for field in one.fields:
+            look("fields", str(one.ref(field)))
+        for method in one.methods:
+            look("methods", str(one.ref(method)))
+    for mention in dict.fromkeys(mention[:2] for mention in mentions(program)):
+        name, is_text = mention
+        if is_text:
+            look("strings", name)
+        elif "->" in name:
+            look("methods" if "(" in name else "fields", name)
+        else:
+            for each in classes_in(name):
+                look("classes", each)
+    return {kind: sorted(names) for kind, names in found.items()}

@@ -1,0 +1,1 @@
+"""dexasm-rename: classes, packages and members under other names."""
