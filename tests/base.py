@@ -16,29 +16,47 @@ Ended = tuple[int | str, bytes, str]  # status, or "late"; standard output; stan
 
 
 class TestCase(unittest.TestCase):
-    """A test shows many things, each a sub-test with a name: one that fails doesn't keep the others from being
-    tried."""
+    """A test shows many things, each with a name: one that isn't so is a sub-test that fails, which doesn't keep the
+    others from being tried."""
 
-    more = 0  # what was tried beside the sub-tests: cases of a loop that is too long for one each
+    more = 0  # what was shown without a sub-test of its own
 
     def check(self, what: object, is_so: object, seen: object = "") -> None:
-        """A sub-test: that it is so; else what was seen is shown."""
+        """That it is so; else what was seen is shown."""
+        if is_so:
+            self.more += 1
+            return
         with self.subTest(what):
-            if not is_so:
-                self.fail(str(seen)[:LONGEST])
+            self.fail(str(seen)[:LONGEST])
 
     def check_equal(self, what: object, got: object, want: object) -> None:
-        """A sub-test: that this was got; else both are shown."""
+        """That this was got; else both are shown."""
+        if is_equal(got, want):
+            self.more += 1
+            return
         with self.subTest(what):
             if got != want and len(repr((got, want))) > COMPARED:
                 self.fail(f"{repr(got)[:LONGEST]} != {repr(want)[:LONGEST]}")
             self.assertEqual(got, want)
+
+    def need(self, program: str, without: str) -> None:
+        """Ends the test, as one that isn't tried to its end, where a program isn't there."""
+        if not shutil.which(program):
+            self.skipTest(f"no {program} here: {without}")
 
     def new_folder(self) -> str:
         """A folder that goes when the test ends."""
         made = tempfile.mkdtemp(prefix="dexasm-test-")
         self.addCleanup(shutil.rmtree, made, ignore_errors=True)
         return made
+
+
+def is_equal(got: object, want: object) -> bool:
+    """Whether they are; not, where comparing them fails, which the sub-test then tells."""
+    try:
+        return bool(got == want)
+    except Exception:
+        return False
 
 
 def ended(words: Any, limit: float = LIMIT, **options: Any) -> Ended:

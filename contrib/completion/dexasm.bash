@@ -18,19 +18,20 @@ _dexasm() {
 _dexasm_helper() {
   local name=${COMP_WORDS[0]##*/} word=${COMP_WORDS[COMP_CWORD]} first='' options='' words=''
   case $name in
-    dexasm-apk) first='check list strip' options='--help --version --close' ;;
+    dexasm-apk) first='check list strip extract replace' options='--help --version --close --allow-empty --output' ;;
     dexasm-browse) first='' options='--help --version --output --graphs' ;;
-    dexasm-check) first='' options='--help --version --lint --quiet --color --jobs --seconds --memory --json --program --sarif --github --junit' ;;
+    dexasm-check) first='' options='--help --version --lint --quiet --allow-empty --color --jobs --seconds --memory --json --program --sarif --github --junit' ;;
     dexasm-close) first='' options='--help --version --output --check' ;;
-    dexasm-corpus) first='add refused same classes callers strings libraries merge sum' options='--help --version --processes --seconds --memory --again --strict --scheduler --trust --send --json --csv --csv-raw --pattern --classes --known --verify' ;;
+    dexasm-corpus) first='add refused same classes callers strings libraries merge sum' options='--help --version --processes --seconds --memory --again --strict --allow-empty --scheduler --trust --send --json --csv --csv-raw --pattern --classes --known --verify' ;;
     dexasm-diff) first='' options='--help --version --names --color --textconv' ;;
     dexasm-explain) first='' options='--help --version --json' ;;
-    dexasm-graph) first='' options='--help --version --format --calls --from --depth' ;;
+    dexasm-graph) first='' options='--help --version --format --calls --from --to --depth' ;;
     dexasm-info) first='' options='--help --version --json --hex' ;;
-    dexasm-lint) first='' options='--help --version --code --jobs --json --sarif' ;;
-    dexasm-merge) first='' options='--help --version --same --output' ;;
-    dexasm-query) first='classes strings calls fields tables show' options='--help --version --lines --addresses' ;;
-    dexasm-size) first='' options='--help --version --by --sort --json --csv --csv-raw --html' ;;
+    dexasm-lint) first='' options='--help --version --code --skip-boot --jobs --seconds --allow-empty --json --sarif' ;;
+    dexasm-merge) first='' options='--help --version --same --fit --output' ;;
+    dexasm-query) first='classes strings calls fields tables show uses outside find' options='--help --version --lines --addresses --kinds --strings' ;;
+    dexasm-rename) first='' options='--help --version --output --mapping --forward' ;;
+    dexasm-size) first='' options='--help --version --by --sort --json --csv --csv-raw --html --count' ;;
     dexasm-split) first='' options='--help --version --join' ;;
   esac
   case $name/${COMP_WORDS[COMP_CWORD - 1]} in
@@ -49,4 +50,4 @@ _dexasm_helper() {
   fi
 }
 complete -o filenames -F _dexasm dexasm
-complete -o filenames -F _dexasm_helper dexasm-apk dexasm-browse dexasm-check dexasm-close dexasm-corpus dexasm-diff dexasm-explain dexasm-graph dexasm-info dexasm-lint dexasm-merge dexasm-query dexasm-size dexasm-split
+complete -o filenames -F _dexasm_helper dexasm-apk dexasm-browse dexasm-check dexasm-close dexasm-corpus dexasm-diff dexasm-explain dexasm-graph dexasm-info dexasm-lint dexasm-merge dexasm-query dexasm-rename dexasm-size dexasm-split

@@ -1,7 +1,7 @@
 # Completion of dexasm and its helpers for fish, written by tools/generate: put it into ~/.config/fish/completions.
 complete -c dexasm -n __fish_use_subcommand -f -a check -d 'Checks whether a .dex file keeps every rule of its format'
-complete -c dexasm -n __fish_use_subcommand -f -a list -d 'Prints the program of a .dex file as a listing'
-complete -c dexasm -n __fish_use_subcommand -f -a assemble -d 'Turns a listing into a .dex file'
+complete -c dexasm -n __fish_use_subcommand -f -a list -d 'Disassembles: prints the program of a .dex file as a listing'
+complete -c dexasm -n __fish_use_subcommand -f -a assemble -d 'Assembles: turns a listing into a .dex file'
 complete -c dexasm -n __fish_use_subcommand -f -a strip -d 'Rewrites a .dex file without what its program doesn\'t need'
 complete -c dexasm -n __fish_use_subcommand -f -s V -l version -d 'Print version'
 complete -c dexasm -s h -l help -d 'Print help'
@@ -10,10 +10,12 @@ complete -c dexasm -n '__fish_seen_subcommand_from list' -r -F -s o -l output -d
 complete -c dexasm -n '__fish_seen_subcommand_from assemble' -r -F -s o -l output -d 'Write to OUT instead of standard output; it isn\'t touched until the answer is complete'
 complete -c dexasm -n '__fish_seen_subcommand_from assemble' -f -l align -d 'Put a nop before each payload at an odd address'
 complete -c dexasm -n '__fish_seen_subcommand_from strip' -r -F -s o -l output -d 'Write to OUT instead of standard output; it isn\'t touched until the answer is complete'
-complete -c dexasm-apk -n __fish_use_subcommand -a 'check list strip'
+complete -c dexasm-apk -n __fish_use_subcommand -a 'check list strip extract replace'
 complete -c dexasm-apk -l help
 complete -c dexasm-apk -l version
 complete -c dexasm-apk -l close
+complete -c dexasm-apk -l allow-empty
+complete -c dexasm-apk -l output -r -F
 complete -c dexasm-browse -l help
 complete -c dexasm-browse -l version
 complete -c dexasm-browse -l output -r -F
@@ -22,6 +24,7 @@ complete -c dexasm-check -l help
 complete -c dexasm-check -l version
 complete -c dexasm-check -l lint
 complete -c dexasm-check -l quiet
+complete -c dexasm-check -l allow-empty
 complete -c dexasm-check -l color -x -a 'auto always never'
 complete -c dexasm-check -l jobs
 complete -c dexasm-check -l seconds
@@ -43,6 +46,7 @@ complete -c dexasm-corpus -l seconds
 complete -c dexasm-corpus -l memory
 complete -c dexasm-corpus -l again
 complete -c dexasm-corpus -l strict
+complete -c dexasm-corpus -l allow-empty
 complete -c dexasm-corpus -l scheduler
 complete -c dexasm-corpus -l trust
 complete -c dexasm-corpus -l send
@@ -66,6 +70,7 @@ complete -c dexasm-graph -l version
 complete -c dexasm-graph -l format -x -a 'dot svg json'
 complete -c dexasm-graph -l calls
 complete -c dexasm-graph -l from
+complete -c dexasm-graph -l to
 complete -c dexasm-graph -l depth
 complete -c dexasm-info -l help
 complete -c dexasm-info -l version
@@ -74,18 +79,29 @@ complete -c dexasm-info -l hex
 complete -c dexasm-lint -l help
 complete -c dexasm-lint -l version
 complete -c dexasm-lint -l code
+complete -c dexasm-lint -l skip-boot
 complete -c dexasm-lint -l jobs
+complete -c dexasm-lint -l seconds
+complete -c dexasm-lint -l allow-empty
 complete -c dexasm-lint -l json
 complete -c dexasm-lint -l sarif
 complete -c dexasm-merge -l help
 complete -c dexasm-merge -l version
 complete -c dexasm-merge -l same
+complete -c dexasm-merge -l fit
 complete -c dexasm-merge -l output -r -F
-complete -c dexasm-query -n __fish_use_subcommand -a 'classes strings calls fields tables show'
+complete -c dexasm-query -n __fish_use_subcommand -a 'classes strings calls fields tables show uses outside find'
 complete -c dexasm-query -l help
 complete -c dexasm-query -l version
 complete -c dexasm-query -l lines
 complete -c dexasm-query -l addresses
+complete -c dexasm-query -l kinds
+complete -c dexasm-query -l strings
+complete -c dexasm-rename -l help
+complete -c dexasm-rename -l version
+complete -c dexasm-rename -l output -r -F
+complete -c dexasm-rename -l mapping
+complete -c dexasm-rename -l forward
 complete -c dexasm-size -l help
 complete -c dexasm-size -l version
 complete -c dexasm-size -l by -x -a 'package class method string'
@@ -94,6 +110,7 @@ complete -c dexasm-size -l json
 complete -c dexasm-size -l csv
 complete -c dexasm-size -l csv-raw
 complete -c dexasm-size -l html -r -F
+complete -c dexasm-size -l count
 complete -c dexasm-split -l help
 complete -c dexasm-split -l version
 complete -c dexasm-split -l join -r -F

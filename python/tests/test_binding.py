@@ -40,6 +40,15 @@ def pages() -> int:
         return int(file.read().split()[0])
 
 
+def raised(call: Callable[[bytes], object], given: bytes) -> str:
+    try:
+        return f"answered {call(given)!r:.30}"
+    except dexasm.Refused as refused:
+        return str(refused.args[0])
+    except MemoryError:
+        return "out of memory"
+
+
 class Binding(LibraryTest):
     by_library: Any
 
@@ -97,6 +106,8 @@ class Binding(LibraryTest):
             names,
             ["TooShort", "Checksum", "Register", "Misaligned", "Register", "Memory", "Unknown"],
         )
+        wide = [dexasm.fault_name(code) for code in (-1, 1 << 16, (1 << 16) + 1, 1 << 64)]
+        self.check_equal("names of numbers that no fault has", wide, ["Unknown"] * 4)
         number = dexasm.version().encode()
         for capacity in (0, len(number) - 1, len(number), len(number) + 1):
             out = ctypes.create_string_buffer(len(number) + 3)
@@ -216,6 +227,19 @@ class Binding(LibraryTest):
             self.check_equal("the next call has memory again", dexasm.list(file), LISTINGS["one class"])
         finally:
             resource.setrlimit(resource.RLIMIT_AS, (soft, hard))
+
+    def test_refused_in_little_memory(self) -> None:
+        """What is refused is refused where there isn't room for an answer that could be that long."""
+        for first in (b"", b"dex\n035\0"):
+            given = first + bytes(60 * MEGABYTE)
+            soft, hard = resource.getrlimit(resource.RLIMIT_AS)
+            resource.setrlimit(resource.RLIMIT_AS, (pages() * resource.getpagesize() + 100 * MEGABYTE, hard))
+            try:
+                for job in ("list", "strip", "assemble", "check"):
+                    seen = raised(getattr(dexasm, job), given)
+                    self.check(f"{job} of 60 MB, refused", seen.startswith("refused "), seen)
+            finally:
+                resource.setrlimit(resource.RLIMIT_AS, (soft, hard))
 
     def test_threads(self) -> None:
         """Calls of several threads at once don't disturb one another."""

@@ -6,10 +6,11 @@ import concurrent.futures
 import os
 import re
 import subprocess
+import sys
 from collections.abc import Iterator
 
 from .settings import BEGINS, SETTINGS, Room, order_wrong
-from .tools.rooms import HelperTest, can_trace, scratch
+from .tools.rooms import TOP, HelperTest, can_trace, get, put, room, run, scratch
 
 # What each call is failed and ended by; of some more, since what follows hangs on the error.
 ENDS = ("error=ENOSPC", "signal=SIGKILL", "signal=SIGTERM")
@@ -47,7 +48,29 @@ def faults_of(log: list[str]) -> Iterator[str]:
         begun = begun or BEGINS in line
 
 
+DELIVERS = "import sys; sys.path.insert(0, sys.argv[1]); from dexasm.deliver import deliver; deliver('OUT', b'new')"
+
+
 class DeliverCalls(HelperTest):
+    def test_close(self) -> None:
+        """The old file fails to be closed that was replaced, as on a disk of the network: OUT has the answer, and that is
+        no failure. One that was written itself is one."""
+        if not can_trace():
+            self.skipTest("no strace here, or it may not trace: no calls are failed")
+        words = [sys.executable, "-B", "-c", DELIVERS, os.path.join(TOP, "python", "src")]
+        for names, status in ((1, 0), (2, 1)):
+            at = room(f"deliver close {names}")
+            out = put(at, "OUT", b"old")
+            for number in range(1, names):
+                os.link(out, f"{out}{number}")
+            log = os.path.join(at, "log")
+            run(["strace", "-qq", "-o", log, "-e", "trace=close", *words], at=at)
+            put(at, "OUT", b"old")
+            count = get(log).count(b"close(")  # (the last one is OUT's)
+            seen = run(["strace", "-qq", "-o", "/dev/null", "-e", f"inject=close:error=EIO:when={count}", *words], at=at)
+            self.check_equal(f"deliver, close of a file with {names} names fails", (seen[0], get(out)), (status, b"new"))
+
+
     def test_calls(self) -> None:
         if not can_trace():
             self.skipTest("no strace here, or it may not trace: no calls are failed")

@@ -5,15 +5,18 @@ are wanted are read off these marks, not off what is answered. Programs at rando
 """
 import itertools
 import random
+import time
 
 import dexasm
 from dexasm import faultline, formats
 from tests.oracle.model import LITERAL_BITS, MNEMONICS, REGISTER_BITS, WITH_NAME, WITH_TARGET, form_of, kind_of_name
 from tests.oracle.texts import random_texts
 from tests import tried
-from .marked import BODIES, CLASS, CODE, HEAD, LINES, SAYS, filled, in_code, large, marked, refused, surrounded
+from .marked import BODIES, CLASS, CODE, HEAD, INSNS, LINES, OF_CLASSES, SAYS, TEXTS, filled, in_code, large, marked
+from .marked import refused, surrounded
 from .module import ModuleTest
 
+HEADED = b"dex 035\nclass LA; 1\ndirect m ()V 9\ncode 1 0 0\n%b\nend code\nend class\n"
 RULES = (110, *range(112, 119))
 
 
@@ -33,6 +36,62 @@ class FaultLines(ModuleTest):
                     # (what is said names lines of the first text)
                     self.check_marked(f"{at} in {way}", number, lines, SAYS.get((number, line), "") if way == 0 else "")
 
+    def test_order(self) -> None:
+        """Lines in the wrong place before any class, and what is missing at the end."""
+        for lines, says in (
+            (["«class» LA; 0", "end class"], "class: the first line has to be `dex 035 listing 2`"),
+            (["# a comment", "", "«class» LA; 0", "end class"], "class: the first line has to be `dex 035 listing 2`"),
+            ([HEAD, "«super» LA;"], "super: `class TYPE FLAGS` has to begin a class before it"),
+            ([HEAD, "«end» class"], "end: `class TYPE FLAGS` has to begin a class before it"),
+            ([HEAD, CLASS, "end class", "«static» a I 0"], "static: `class TYPE FLAGS` has to begin a class before it"),
+        ):
+            self.check_marked(f"{lines}", 103, lines, says)
+        for lines, says in (
+            ([HEAD, "«»" + CLASS], "`end class` is missing behind it: line 2 begins a class"),
+            ([HEAD, CLASS, *CODE, "nop", "«»end code"], "`end class` is missing behind it: line 2 begins a class"),
+            ([HEAD, CLASS, CODE[0], "«»" + CODE[1]], "`end code` is missing behind it: line 4 begins a code"),
+            ([HEAD, CLASS, *CODE, "«»nop"], "`end code` is missing behind it: line 4 begins a code"),
+        ):
+            self.check_marked(f"{lines}", 106, lines, says)
+
+    def test_forms(self) -> None:
+        """What is said of a line that isn't of the form: its word, and what stands there."""
+        texts = [([HEAD, CLASS, *in_code(line), "end class"], says) for line, says in INSNS]
+        texts += [([HEAD, CLASS, line, "end class"], says) for line, says in OF_CLASSES]
+        for lines, says in (*texts, *TEXTS):
+            text, want = marked(lines)
+            seen = refused(text)
+            place = seen and (seen.number, seen.line, seen.column, seen.word)
+            is_so = place == (100, *want) and seen is not None and seen.why is not None and says in seen.why
+            is_so = is_so and str(seen).isascii() and str(seen).isprintable()
+            self.check(f"what is said of {lines[-3:]}", is_so, (place, want, seen and seen.why))
+        for mnemonic in formats.MNEMONICS:
+            seen = refused("\n".join([HEAD, CLASS, *in_code(f"{mnemonic} v0 v0 v0 v0 v0 v0 v0"), "end class"]))
+            is_so = seen is not None and seen.number == 100 and f"{mnemonic} " in str(seen.why)
+            self.check(f"what {mnemonic} takes", is_so, str(seen))
+
+    def test_form_hostile(self) -> None:
+        """Long lines, and whatever bytes: a word and a reason, soon."""
+        many = b" ".join([b"v0"] * 500000)
+        for row in (many, b"nop " + many, b"nop" * 100000, b"{" * 100000, b'"' * 99999, b'\\"' * 50000, b"=" * 9999):
+            begun = time.process_time()
+            seen = refused(b"dex 035 listing 2\n" + CLASS.encode() + b"\n" + row + b"\nend class\n")
+            is_so = seen is not None and seen.number == 100 and seen.word is not None and bool(seen.why)
+            self.check(f"a row as {row[:9]!r}", is_so and len(str(seen)) < 1000, str(seen)[:200])
+            self.check(f"a row as {row[:9]!r}, its time", time.process_time() - begun < 5, time.process_time() - begun)
+        random_ = random.Random(tried.seed())
+        words = [b"nop", b"static", b"=", b"{", b"}", b"int", b'"a"', b'"', b"\\", b"\t", b"\xff", b"#", b"//", b",", b":a"]
+        words += [b"v0", b"LA;->a:I", b"LA;->m()V", b"invoke-static", b"array", b"end", b"class", b".line", b"5", b"I", b"->"]
+        for number in range(3000):
+            row = b" ".join(random_.choice(words) for _ in range(random_.randint(1, 9)))
+            row = row.replace(b" ", b"", random_.randint(0, 3)) if number % 3 == 0 else row
+            for around in (b"dex 035 listing 2\nclass LA; 1\n%b\nend class\n", b"%b\n", HEADED):
+                seen = refused(around.replace(b"%b", row))
+                if seen is not None and seen.number == 100:
+                    is_so = None not in (seen.line, seen.column, seen.word, seen.why) and bool(seen.word and seen.why)
+                    is_so = is_so and str(seen).isascii() and str(seen).isprintable()
+                    self.check(f"the row {row!r}", is_so, str(seen))
+
     def test_twice(self) -> None:
         """A class that was defined, and what --align moves."""
         seen: set[str] | dexasm.Refused | None
@@ -51,7 +110,7 @@ class FaultLines(ModuleTest):
 
     def test_first_form(self) -> None:
         faults = (115, "1: goto «@1»"), (118, "0x1: move v0 «v7»"), (105, "1: goto «@0x7»"), (102, "1: goto «a»")
-        for number, line in faults:
+        for number, line in (*faults, (103, "«7:» return-void")):
             self.check_marked(
                 line, number, ["dex 035", CLASS, *CODE, "0: nop", line, "2: return-void", "end code", "end class"]
             )
@@ -76,6 +135,8 @@ class FaultLines(ModuleTest):
                 )
             elif seen.number in (101, 102, 104, 105):
                 is_so = is_so and seen.word is not None
+            elif seen.number in (100, 103):
+                is_so = is_so and None not in (seen.column, seen.word, seen.why) and bool(seen.word and seen.why)
             self.check(f"the place of text {at} of seed {seed}", is_so and said.isascii() and said.isprintable(), said)
             other = at % 120, at % 7
             self.check("another refusal", isinstance(faultline.of(text, *other), faultline.Place | None), other)

@@ -20,7 +20,7 @@ from typing import Any
 
 import dexasm
 from dexasm import ArrayData, Catch, Class, Code, Field, FieldRef, Insn, Label, Method, MethodRef, PackedSwitch, Program
-from dexasm import Proto, Refused, SparseSwitch, Try, Type, Value
+from dexasm import Proto, Refused, SparseSwitch, Try, Type, Value, formats
 from tests import TOP, sought, tried
 from . import edits
 from .edits import is_accepted, made_files
@@ -331,6 +331,19 @@ def list_of(path: str) -> str:
         return dexasm.list(file.read())
 
 
+def renamed(insn: Insn, mnemonic: Any) -> Insn:
+    insn.mnemonic = mnemonic
+    return insn
+
+
+def raised(program: Program, asked: Any) -> str:
+    """What is told of a class that isn't there."""
+    try:
+        return str(program[asked])
+    except KeyError as error:
+        return str(error)
+
+
 class ObjectsTest(ModuleTest):
     def is_refused(self, what: str, change: Change) -> None:
         """That nothing is written after a change: a ValueError, of which Refused is one kind, tells why in one line."""
@@ -408,8 +421,10 @@ class Words(ObjectsTest):
 
     def test_insns(self) -> None:
         for evil in (*MNEMONICS, *WRONG, "no-such", "packed-switch-payload", "sparse-switch-payload"):
-            self.is_refused(f"a mnemonic {ascii(evil)}", at_first(Insn(evil)))
-            self.is_refused(f"a mnemonic {ascii(evil)} with a name", at_first(Insn(evil, name="LX;")))
+            self.is_refused(f"a mnemonic {ascii(evil)}", lambda *_: Insn(evil))
+            self.is_refused(f"a mnemonic {ascii(evil)} that is set", at_first(renamed(Insn("nop"), evil)))
+            named = Insn("const-class", 0, name="LX;")
+            self.is_refused(f"a mnemonic {ascii(evil)} with a name", at_first(renamed(named, evil)))
         for evil in (5, None, "nop", [], Label(), Class(Type("LA;"))):
             self.is_refused(f"an instruction {ascii(evil)}", at_first(evil))
             self.is_refused(f"a try {ascii(evil)}", lambda _, hello: hello.method("get").code.tries.append(evil))
@@ -424,6 +439,37 @@ class Words(ObjectsTest):
         )
         self.is_refused("keys without targets", at_first(SparseSwitch([1], [])))
         self.is_refused("data that is no bytes", at_first(ArrayData(1, "00\nnop")))  # type: ignore[arg-type]  # (which is tried)
+
+    def test_operands(self) -> None:
+        """What an instruction doesn't take is refused when it is made, with what it takes; what is missing may come."""
+        made: tuple[Callable[[], Insn], ...] = (
+            lambda: Insn("const-strng", 0),
+            lambda: Insn("return-void", 0),
+            lambda: Insn("add-int", 0, 1),
+            lambda: Insn("move", 0, 1, literal=3),
+            lambda: Insn("sget", 0, text="x"),
+            lambda: Insn("invoke-static", *range(6)),
+            lambda: Insn("goto", target=Label(), count=1),
+        )
+        wants = (
+            "no mnemonic: 'const-strng'; near it: const-string, ",
+            "return-void takes no operand: 1 register here",
+            "add-int takes vA vB vC: 2 registers here",
+            "move takes vA vB, and no literal: 3",
+            "sget takes vA FIELD, and no text: 'x'",
+            "invoke-static takes { registers } METHOD: 6 registers here",
+            "goto takes :LABEL, and no count: 1",
+        )
+        for make, want in zip(made, wants):
+            try:
+                self.check(want, False, make())
+            except ValueError as error:
+                self.check(want, str(error).startswith(want), error)
+        for mnemonic in formats.MNEMONICS:
+            form = formats.format_of(mnemonic)
+            assert form is not None
+            insn = Insn(mnemonic, *range(len(form.registers)))
+            self.check(f"{mnemonic}, what is missing may come", insn.mnemonic == mnemonic)
 
     def test_texts(self) -> None:
         """Any text is one text."""
@@ -595,6 +641,26 @@ class Changes(ObjectsTest):
         )
         known: dict[str, int] = {method: 1}
         self.check("names hash", known["[LA;-><init>(I)V"] == 1 and pickle.loads(pickle.dumps(method)) == method)
+
+    def test_near(self) -> None:
+        """What is told of a class that isn't there, and the text of a member."""
+        program = Program.parse(HELLO)
+        hello = program["LHello;"]
+        for asked, want in (
+            ("Hello", "no class 'Hello'; near it: 'LHello;'"),
+            ("LHelo;", "no class 'LHelo;'; near it: 'LHello;'"),
+            ("a.b.hello", "no class 'a.b.hello'; near it: 'LHello;'"),
+            ("LZ;\x1b[31m", "no class 'LZ;\\x1b[31m'"),
+            (5, "no class 5"),
+            ("x" * 10000, "no class " + "'" + "x" * 20),
+        ):
+            self.check(f"a class that is near {asked!r:.30}", raised(program, asked).startswith(want), raised(program, asked))
+        get = hello.method("get(Z)I")
+        listed = f"direct get (Z)I 0x9\n{get.code}"
+        self.check("a method's text is its listing", str(get) == listed and listed in str(program), str(get))
+        self.check("a field's text is its listing", str(hello.fields[0]) in str(program), str(hello.fields[0]))
+        plain = str(Method("m", Proto("()V"), 0x101)), str(Method("<init>", Proto("()V"), 0x100))
+        self.check_equal("the lists of methods", plain, ("virtual m ()V 0x101\n", "direct <init> ()V 0x100\n"))
 
     def test_finding(self) -> None:
         """How classes and members are found."""

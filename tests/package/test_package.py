@@ -1,5 +1,6 @@
 """The packages, each unpacked elsewhere and tried there. What needs a tool that isn't here isn't tried."""
 import glob
+import hashlib
 import os
 import re
 import shutil
@@ -39,8 +40,8 @@ HELPED = (
         "  8: the Adler-32 differs: the file was damaged or changed.\n",
     ),
     (
-        "dexasm assemble hello.txt --output good.dex && dexasm-size good.dex --html size.html | tail -n 1 | grep -o all$",
-        "all\n",
+        "dexasm assemble hello.txt --output good.dex && dexasm-size good.dex --html size.html && head -c 15 size.html",
+        "<!DOCTYPE html>",
     ),
     (
         "dexasm-info --hex 0..4 good.dex | tail -n 1",
@@ -60,8 +61,11 @@ INSTALLED = (
         "  8: the Adler-32 differs: the file was damaged or changed.\n",
     ),
     ("dexasm-lint --code hello.dex", "hello.dex: ok\n"),
-    ("dexasm-corpus add a.db hello.dex | cut -d, -f1,2 && rm a.db", "1 files, 1 new\n"),
+    ("dexasm-corpus add a.db hello.dex | cut -d, -f1,2 && rm a.db", "1 paths, 0 not read; 1 new files\n"),
 )
+
+# By what a package is tried too, where it is.
+BY = ("pkg-config", "cc", "cargo")
 
 # The module's answer of a file with one class.
 PROGRAM = """
@@ -152,6 +156,11 @@ class PackageTest(TestCase):
             is_typed = command.startswith("cat >")
             given, want = (rest.encode(), "") if is_typed else (b"", rest)
             self.runs(f"{what}: {command}", *drop, "bash", "-c", command, want=want, cwd=home, env=env, input=given)
+
+    def need_each(self, *programs: str) -> None:
+        """Tells at a test's end what wasn't here."""
+        for program in programs:
+            self.need(program, "no package is tried with it")
 
     def check_c(self, what: str, folder: str, room: str) -> None:
         """A caller in C, as pkg-config says that it is compiled."""
@@ -334,10 +343,12 @@ class PackageTest(TestCase):
         number = sought(r'^version = "(.*)"$', get(f"{TOP}/python/pyproject.toml").decode(), re.M)[1].replace(
             ".dev0", "-dev"
         )
+        # (nothing of a wheel says whether its library was proved)
+        sha = hashlib.sha256(get(f"{self.library}/libdexasm.so")).hexdigest()
+        answering = {"dexasm-check": f"answered by the unknown build with the SHA-256 {sha}\n"}
         for name in HELPERS:
-            self.runs(
-                f"{what}: {name}", f"{place}/bin/{name}", "--version", want=f"{name} {number}\n", env=env, cwd=room
-            )
+            want = f"{name} {number}\n{answering.get(name, '')}"
+            self.runs(f"{what}: {name}", f"{place}/bin/{name}", "--version", want=want, env=env, cwd=room)
         alone = {**env, "PATH": f"{place}/bin:/usr/bin:/bin"}
         for command, want in INSTALLED:
             self.runs(f"{what}: {command}", "bash", "-c", command, want=want, cwd=room, env=alone)
@@ -347,10 +358,12 @@ class Packages(PackageTest):
     def test_archive(self) -> None:
         for path in self.packages(".tar.gz"):
             self.check_package(path)
+        self.need_each(*BY)
 
     def test_deb(self) -> None:
         for path in self.packages(".deb"):
             self.check_package(path)
+        self.need_each(*BY, "lintian")
 
     def test_wheel(self) -> None:
         for path in self.packages(".whl"):

@@ -62,7 +62,8 @@ pub fn check(bytes: &[u8]) -> Result<(), Error> {
 ///
 /// `Refused` with a rule that is broken, or `Memory`.
 pub fn list(bytes: &[u8]) -> Result<String, Error> {
-    let made = answer(4 * bytes.len() + 64, |out| ffi::list(bytes, out))?;
+    // (a listing of a real file is up to 5 times as long)
+    let made = answer(5 * bytes.len() + 64, |out| ffi::list(bytes, out))?;
     Ok(String::from_utf8(made).expect("a listing is ASCII"))
 }
 

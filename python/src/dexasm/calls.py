@@ -17,6 +17,7 @@ if TYPE_CHECKING:
     from typing import Any
 
 ANSWERED, REFUSED, MEMORY = 0, 1, 4
+LARGE = 1 << 20  # bytes of an answer
 INSIDE = "DEXASM_RUN_BY_PYTHON"  # set for a command that this module runs: that of a wheel is this module again
 HERE = os.path.dirname(os.path.abspath(__file__))
 TOP = os.path.join(HERE, *[".."] * 3)  # of this repository, where this is in it
@@ -25,6 +26,19 @@ BUILT = os.path.join(TOP, "crates", "dexasm_c", "out", "built")
 
 class Fault(ctypes.Structure):
     _fields_ = [("code", ctypes.c_uint16), ("place", ctypes.c_uint64)]
+
+
+def room(capacity: int) -> Any:
+    """Room for an answer. Of much of it none is taken from the machine before it is written to."""
+    if capacity < LARGE:
+        return ctypes.create_string_buffer(capacity)
+    import mmap
+
+    try:
+        held = mmap.mmap(-1, capacity, mmap.MAP_PRIVATE | mmap.MAP_ANONYMOUS)
+    except OSError:
+        raise MemoryError("dexasm: out of memory") from None
+    return (ctypes.c_char * capacity).from_buffer(held)
 
 
 class Library:
@@ -43,7 +57,19 @@ class Library:
         }.items():
             call = getattr(library, f"dexasm_{name}")
             call.argtypes, call.restype = words, ctypes.c_uint32
-        self.calls = library
+        self.calls, self.named = library, library._name
+
+    @property
+    def path(self) -> str:
+        """Its file: as it was named, or where the system found it."""
+        if os.path.exists(self.named):
+            return os.path.abspath(self.named)
+        with open("/proc/self/maps", encoding="utf8", errors="surrogateescape") as maps:
+            paths = (row.rstrip("\n").split(maxsplit=5)[-1] for row in maps)
+            found = next((path for path in paths if os.path.basename(path).startswith("libdexasm.so")), None)
+        if found is None:
+            raise OSError(f"{self.named}: the system doesn't say where it is")
+        return found
 
     def text(self, call: Any, *words: int) -> str:
         """A short text that the library tells."""
@@ -58,14 +84,20 @@ class Library:
             raise MemoryError("dexasm: out of memory")
 
     def answer(self, call: Any, given: bytes, capacity: int, *words: bool) -> bytes:
-        """The answer to a job; if it is longer than was guessed, the job is done again."""
+        """The answer to a job. If it is longer than was guessed the job is done again, and where there isn't even room
+        for the guess: what is refused is refused then too.
+        """
+        try:
+            out = room(capacity)
+        except MemoryError:
+            out = room(1)
         while True:
-            out, needed, fault = ctypes.create_string_buffer(capacity), ctypes.c_size_t(), Fault()
-            status = call(given, len(given), *words, out, capacity, ctypes.byref(needed), ctypes.byref(fault))
+            needed, fault = ctypes.c_size_t(), Fault()
+            status = call(given, len(given), *words, out, len(out), ctypes.byref(needed), ctypes.byref(fault))
             self.ended(status, fault)
             if status == ANSWERED:
                 return ctypes.string_at(out, needed.value)
-            capacity = needed.value
+            out = room(needed.value)
 
     def check(self, given: bytes) -> None:
         fault = Fault()
@@ -81,7 +113,8 @@ class Library:
         return self.answer(self.calls.dexasm_strip, given, len(given) + 64)
 
     def fault_name(self, number: int) -> str:
-        return self.text(self.calls.dexasm_fault_name, number)
+        # (ctypes would cut one that is longer, to the number of another fault)
+        return self.text(self.calls.dexasm_fault_name, number if 0 <= number < 1 << 16 else 0)
 
     def version(self) -> str:
         return self.text(self.calls.dexasm_version)
@@ -161,7 +194,7 @@ def find_command() -> str:
             return os.path.abspath(found)
     raise ImportError(
         "neither libdexasm nor the command dexasm is found: DEXASM_LIBRARY or DEXASM_COMMAND may name its file; "
-        "`tools/build library` makes the library, `tools/quick library` makes it in minutes and without its proof"
+        "`tools/build library` makes the library, `tools/quick library` makes it in 3 to 20 minutes and without its proof"
     )
 
 

@@ -6,6 +6,8 @@ import re
 from collections.abc import Iterable, Iterator
 from dataclasses import dataclass, field
 
+from dexasm.answers import of_listing
+from dexasm.formats import MNEMONICS, Format, format_of
 from dexasm.names import (
     FieldRef,
     MethodRef,
@@ -65,6 +67,20 @@ class Insn:
         self.mnemonic, self.registers, self.literal, self.target = mnemonic, registers, literal, target
         self.name = name if name is None or isinstance(name, (Type, FieldRef, MethodRef)) else operand(name)
         self.text, self.count = text, count
+        self._look()
+
+    def _look(self) -> None:
+        """Refuses at once a mnemonic that is none, and operands that it doesn't take. (What is missing may come yet.)"""
+        form = _form(self.mnemonic)
+        registers = len(self.registers)
+        given = {name: getattr(self, name) for name in ("literal", "target", "name", "text", "count")}
+        taken = {"literal": form.literal, "target": form.target, "count": form.is_range}
+        taken |= {"name": form.name not in ("", "text"), "text": form.name == "text"}
+        wrong = next((name for name, value in given.items() if value is not None and not taken[name]), None)
+        if wrong is not None:
+            raise ValueError(f"{takes(self.mnemonic)}, and no {wrong}: {shown(given[wrong])}")
+        if registers > 5 if form.is_list else registers != len(form.registers):
+            raise ValueError(f"{takes(self.mnemonic)}: {registers} register{'s' * (registers != 1)} here")
 
     def __repr__(self) -> str:
         given = [ascii(self.mnemonic), *map(ascii, self.registers)]
@@ -78,11 +94,47 @@ class Insn:
         return (self.target,) if self.target is not None else ()
 
 
+def _fill(
+    insn: Insn,
+    mnemonic: str,
+    registers: tuple[int, ...],
+    literal: int | None = None,
+    target: Label | None = None,
+    name: Type | FieldRef | MethodRef | None = None,
+    text: str | None = None,
+    count: int | None = None,
+) -> Insn:
+    """Fills an instruction with what a listing says, which nobody looks at again."""
+    insn.mnemonic, insn.registers, insn.literal, insn.target = mnemonic, registers, literal, target
+    insn.name, insn.text, insn.count = name, text, count
+    return insn
+
+
+def _form(mnemonic: object) -> Format:
+    form = format_of(mnemonic) if isinstance(mnemonic, str) else None
+    if form is None:
+        from dexasm.faultform import near
+
+        hint = near(mnemonic, MNEMONICS) if isinstance(mnemonic, str) else ""
+        raise ValueError(f"no mnemonic: {shown(mnemonic)}{hint}")
+    return form
+
+
+def takes(mnemonic: str) -> str:
+    """What an instruction takes, as a listing has it."""
+    from dexasm import faultform
+
+    return faultform.takes(mnemonic, faultform.operands_of(mnemonic, _form(mnemonic)))
+
+
 class _Payload(Insn):
     """What stands among instructions and is none; it has no operands of one."""
 
     __slots__ = ()
     word = ""
+
+    def __init__(self) -> None:
+        _fill(self, self.word, ())
 
 
 @dataclass(slots=True, init=False)
@@ -94,7 +146,7 @@ class PackedSwitch(_Payload):
     targets: list[Label]
 
     def __init__(self, first: int, targets: Iterable[Label]) -> None:
-        Insn.__init__(self, self.word)
+        _Payload.__init__(self)
         self.first, self.targets = first, [*targets]
 
     def labels(self) -> Iterable[Label]:
@@ -110,7 +162,7 @@ class SparseSwitch(_Payload):
     targets: list[Label]
 
     def __init__(self, keys: Iterable[int], targets: Iterable[Label]) -> None:
-        Insn.__init__(self, self.word)
+        _Payload.__init__(self)
         self.keys, self.targets = [*keys], [*targets]
 
     def labels(self) -> Iterable[Label]:
@@ -126,7 +178,7 @@ class ArrayData(_Payload):
     data: bytes
 
     def __init__(self, width: int, data: bytes) -> None:
-        Insn.__init__(self, self.word)
+        _Payload.__init__(self)
         self.width, self.data = width, data
 
 
@@ -241,6 +293,7 @@ class Code:
 # ---- reading
 
 
+@of_listing
 def _read_lines(text: str) -> tuple[list[Insn], list[Try]]:
     insns: list[Insn] = []
     tries: list[Try] = []
@@ -300,9 +353,10 @@ def _read_insn(line: str, labels: dict[str, Label]) -> Insn:
             numeral = int(word)
         elif first not in "{}":
             name = operand_of(word)
+    insn, named = Insn.__new__(Insn), tuple(registers)
     if numeral is not None and name is not None:
-        return Insn(mnemonic, *registers, name=name, count=numeral)
-    return Insn(mnemonic, *registers, literal=numeral, target=target, name=name, text=text)
+        return _fill(insn, mnemonic, named, name=name, count=numeral)
+    return _fill(insn, mnemonic, named, numeral, target, name, text)
 
 
 def _read_payload(words: list[str], labels: dict[str, Label]) -> Insn:

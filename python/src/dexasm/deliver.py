@@ -73,14 +73,17 @@ def deliver(path: Path, answer: bytes, *, through: bool = True) -> None:
         with held():
             bring(place, None, answer)
         return
+    is_replaced = False
     try:
         if stat.S_ISREG(os.fstat(file).st_mode):
             with held():
-                bring(place, file, answer)
+                is_replaced = bring(place, file, answer)
         else:
             put_all(file, answer)
     finally:
-        os.close(file)
+        # (where the old file fails to be closed that another one has replaced, nothing is lost of the answer)
+        with contextlib.suppress(*[OSError] * is_replaced):
+            os.close(file)
 
 
 @contextlib.contextmanager
@@ -183,19 +186,20 @@ def place_of(out: bytes, is_link: bool, there: os.stat_result) -> bytes:
         return b""
 
 
-def bring(place: bytes, file: int | None, answer: bytes) -> None:
-    """To that place, where this file stands or nothing does."""
+def bring(place: bytes, file: int | None, answer: bytes) -> bool:
+    """To that place, where this file stands or nothing does. Answers whether another file stands there now."""
     is_shared = file is not None and os.fstat(file).st_nlink > 1
     made = new_part(place) if place else None
     if made is None:
         write_alone(place, file, answer)
-        return
+        return False
     part, new = made
     with removed_on_failure(part):
         fill(new, folder_of(place), file, answer, is_kept=file is not None)
         if not is_shared and has_moved(part, place):
-            return
+            return True
     copy_over(part, place, file, answer)
+    return False
 
 
 def folder_of(path: bytes) -> bytes:

@@ -10,6 +10,7 @@ from collections.abc import Callable, Iterator
 from typing import NamedTuple
 
 from dexasm import listed
+from dexasm.faultform import malformed
 from dexasm.faultlimits import LIMITS, Names
 from dexasm.faultwords import in_line, target_missing
 from dexasm.formats import format_of
@@ -75,7 +76,11 @@ def _of_line(read: Listing, number: int, place: int) -> Place | None:
         return None
     line = read.line(place)
     index = sum(head <= place for head in read.heads) - 1
-    spot = in_line(read, number, line, read.one(index, place - 1)) if number != 105 else None
+    if number == 100:
+        return _placed(read, index, malformed(read, place), place)
+    # (a line that begins a class in the wrong place stands in the one before it, and 106 is of what stands up to it)
+    before = read.one(index - (number == 103 and line.key == "class"), place - (number != 106))
+    spot = in_line(read, number, line, before) if number != 105 else None
     if number == 105:
         one = read.one(index)
         spot = target_missing(one, line) if one else None

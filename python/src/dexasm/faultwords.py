@@ -3,12 +3,13 @@ from __future__ import annotations
 
 import re
 
+from dexasm.faultform import FIRST_LINE, flag_words
 from dexasm.formats import format_of
-from dexasm.listed import Class, Line, Listing, Slot, Spot, number_of, said, slots
+from dexasm.listed import KEYS, Class, Code, Line, Listing, Slot, Spot, number_of, said, slots
 from dexasm.names import FieldRef, MethodRef, Name, Proto, Type
 from dexasm.names import member as member_name
 
-_NAME, _NUMBER, _TWICE = 101, 102, 104
+_NAME, _NUMBER, _ORDER, _TWICE, _NOT_ENDED = 101, 102, 103, 104, 106
 _NAMES: dict[str, type[Name]] = {"type": Type, "proto": Proto, "field": FieldRef, "method": MethodRef}
 _WHAT = {
     "name": "a name of a member, as a or <init>",
@@ -20,6 +21,7 @@ _WHAT = {
 }
 _SAID = re.compile(r"(?:[^\\]|\\u[0-9A-Fa-f]{4})*")
 _DIGITS = re.compile(r"-?(?:[0-9]+|0x[0-9A-Fa-f]+)")
+_DOTTED = re.compile(r"[A-Za-z_$][\w$]{0,99}(?:\.[A-Za-z_$][\w$]{0,99}){1,20}", re.ASCII)  # a class as Java writes it
 _LABEL = re.compile(":[A-Za-z0-9_]{1,32}")
 # Which instruction takes a greater register or literal than this one.
 _WIDER = (
@@ -37,9 +39,13 @@ _WIDER = (
 
 
 def in_line(read: Listing, number: int, line: Line, before: Class | None) -> Spot | None:
-    """The word at fault of a line that has a fault of words, or that says something twice."""
+    """The word at fault of a line that has a fault of words, that says something twice or stands where it may not."""
     if number == _TWICE:
         return _twice(line, before)
+    if number == _ORDER:
+        return _misplaced(read, line, before)
+    if number == _NOT_ENDED:
+        return _not_ended(line, before)
     if number not in (_NAME, _NUMBER):
         return None
     for slot in slots(line):
@@ -49,6 +55,53 @@ def in_line(read: Listing, number: int, line: Line, before: Class | None) -> Spo
             is_name = kind in _WHAT
             return Spot(line, slot.word, _why(line, slot)) if is_name == (number == _NAME) else None
     return None
+
+
+def _misplaced(read: Listing, line: Line, before: Class | None) -> Spot:
+    """Why a line may not stand there, by what is begun before it and isn't ended."""
+    if line.key == "dex":
+        return Spot(line, line.words[0], "the first line stands once")
+    if not any(read.line(number).words for number in range(1, line.number)):
+        return Spot(line, line.words[0], FIRST_LINE)
+    if before is None or before.end:
+        return Spot(line, line.words[0], "`class TYPE FLAGS` has to begin a class before it")
+    code = before.members[-1].code if before.members else None
+    if code is None or code.end:
+        return Spot(line, line.words[0], _misplaced_in_class(line.key, before))
+    if line.key not in KEYS and not code.tries and read.is_first_form:
+        why = f"the number before it has to be {len(code.insns)}: instructions are numbered from 0"
+        return Spot(line, read.word(line.number), why)
+    return Spot(line, line.words[0], _misplaced_in_code(line.key, code))
+
+
+def _misplaced_in_class(key: str, before: Class) -> str:
+    if key == "class":
+        return f"`end class` is missing before it: line {before.head.number} begins a class"
+    if key == "end":
+        return "no code is begun that it could end"
+    if key == "code":
+        return "it stands right behind the line of its method"
+    if key in ("super", "implements", "source"):
+        return "it stands before the members of its class"
+    return "it stands in a code: `code REGISTERS INS OUTS` begins one, right behind the line of its method"
+
+
+def _misplaced_in_code(key: str, code: Code) -> str:
+    if key in ("catch", "catchall"):
+        return "behind a `catchall` stands a `try` or `end code`" if code.tries else "a `try` has to stand before it"
+    if key in KEYS:
+        return f"`end code` is missing before it: line {code.head.number} begins a code"
+    return "the instructions of a code stand before its first `try`"
+
+
+def _not_ended(line: Line, before: Class | None) -> Spot | None:
+    """What the text lacks at its end; no word is at fault."""
+    if before is None or before.end:
+        return None
+    code = before.members[-1].code if before.members else None
+    if code is not None and not code.end:
+        return Spot(line, None, f"`end code` is missing behind it: line {code.head.number} begins a code")
+    return Spot(line, None, f"`end class` is missing behind it: line {before.head.number} begins a class")
 
 
 def target_missing(one: Class, line: Line) -> Spot | None:
@@ -110,9 +163,17 @@ def _is_name(slot: Slot) -> bool:
 
 def _why(line: Line, slot: Slot) -> str:
     """What the slot takes, and which instruction takes more."""
+    text = slot.word.text
+    if "," in text and text[0] != '"':
+        return "it has a comma: words stand between spaces, as in `add-int v0 v1 v2`"
+    if slot.kind == "type" and _DOTTED.fullmatch(text):
+        return f"it isn't a type: L{text.replace('.', '/')}; is"
     if slot.kind in _WHAT:
         return f"it isn't {_WHAT[str(slot.kind)]}"
     if isinstance(slot.kind, int):
+        flags = next(flag_words(" ".join(word.text for word in line.words)), None)
+        if flags is not None:
+            return flags[1]
         low, high = _range(slot.kind)
         return f"a number from {low} to {high} stands here{_wider(line.key) if slot.kind < 0 else ''}"
     word, _, bits = slot.kind.partition(" of ")

@@ -53,6 +53,9 @@ _FORMATS = {
 _ROWS = {row.partition(" ")[0]: row.split() for row in ROWS if row}
 
 
+MNEMONICS = tuple(_ROWS)
+
+
 @functools.cache
 def _format(form: str, table: str = "") -> Format:
     return _FORMATS[form]._replace(name="text" if table == "string" else table)

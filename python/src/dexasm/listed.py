@@ -30,9 +30,10 @@ _LINES: dict[str, tuple[str | int, ...]] = {
     "catch": ("type", "target"),
     "catchall": ("target",),
 }
-_VALUES: dict[str, str | int] = {"byte": -8, "short": -16, "char": 16, "int": -32, "long": -64, "float": "bits of 8"}
-_VALUES |= {"double": "bits of 16", "string": "text", "type": "type", "field": "field", "enum": "field"}
-_VALUES |= {"method": "method"}
+KEYS = (*_LINES, "end")  # of what is no instruction
+VALUES: dict[str, str | int] = {"byte": -8, "short": -16, "char": 16, "int": -32, "long": -64, "float": "bits of 8"}
+VALUES |= {"double": "bits of 16", "string": "text", "type": "type", "field": "field", "enum": "field"}
+VALUES |= {"method": "method"}
 
 
 class Word(NamedTuple):
@@ -150,6 +151,11 @@ class Listing:
         has_number = self.is_first_form and len(words) > 1 and words[0].text[-1] == ":"
         return Line(number, tuple(words[1:] if has_number else words))
 
+    def word(self, number: int) -> Word | None:
+        """The first word of a row, of an instruction of the first form its number."""
+        found = _WORD.search(self.rows[number - 1].decode("latin1"))
+        return None if found is None else Word(found[0], found.start() + 1)
+
     def one(self, index: int, last: int | None = None) -> Class | None:
         """The class of this number from 0, up to its end or to a line."""
         return self._class(self.heads[index], last) if 0 <= index < len(self.heads) else None
@@ -231,10 +237,10 @@ def _insn_slots(words: tuple[Word, ...], key: str) -> list[Slot]:
 def _value_slots(words: tuple[Word, ...]) -> Iterator[Slot]:
     rest = iter(words)
     for word in rest:
-        if word.text in _VALUES:
+        if word.text in VALUES:
             operand = next(rest, None)
             if operand is not None:
-                yield Slot(operand, _VALUES[word.text])
+                yield Slot(operand, VALUES[word.text])
 
 
 def registers(line: Line) -> list[Word]:

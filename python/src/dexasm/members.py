@@ -8,10 +8,12 @@ from collections.abc import Callable, Iterator, Sequence
 from dataclasses import dataclass
 from typing import Any, ClassVar, TypeVar
 
+from dexasm.answers import of_listing
 from dexasm.code import Code, Insn
 from dexasm.names import FieldRef, MethodRef, Proto, Type, flags, member, number, operand_of, proto_of, quoted, shown
 from dexasm.names import spelled, type_of, unquoted, unspelled
 
+_PRIVATE, _STATIC = 0x2, 0x8
 _DEPTH = 65  # a value more than 64 deep is refused; one that is in itself has no end
 _WORD = re.compile(r'"(?:[^"\\]|\\.)*"|[^ ]+')
 _NUMBERS = ("byte", "short", "char", "int", "long")
@@ -64,6 +66,10 @@ class Field:
         """`count:I`"""
         return f"{self.name}:{self.type}"
 
+    def __str__(self) -> str:
+        """Its line of a listing; it stands among the static fields if its flags say so."""
+        return _field_line("static" if self.flags & _STATIC else "instance", self)
+
 
 @dataclass(slots=True)
 class Method:
@@ -78,6 +84,11 @@ class Method:
     def signature(self) -> str:
         """`get(Z)I`"""
         return f"{self.name}{self.proto}"
+
+    def __str__(self) -> str:
+        """Its lines of a listing; it stands among the direct methods if its flags or its name say so."""
+        is_direct = self.flags & (_STATIC | _PRIVATE) or self.name.startswith("<")
+        return _method_lines("direct" if is_direct else "virtual", self)
 
     @property
     def insns(self) -> Sequence[Insn]:
@@ -162,6 +173,7 @@ def _only(members: tuple[Member, ...], signature: str, mark: str) -> Member:
 # ---- reading
 
 
+@of_listing
 def _read_class(text: str) -> Class:
     made: Class | None = None
     at = 0

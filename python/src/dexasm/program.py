@@ -5,14 +5,18 @@ is written keeps every rule, and what doesn't raises Refused. Nothing here may b
 """
 from __future__ import annotations
 
+import re
 from collections.abc import Iterable, Iterator, MutableSequence
 from typing import Any, overload
 
 import dexasm
+from dexasm.answers import NoListing, of_listing
 from dexasm.members import Class
 from dexasm.names import Type, shown, unspelled
 
 HEAD = "dex 035 listing 2\n"
+# How many near names are told, of what length at most, and how many are compared letter by letter.
+MOST_NEAR, LONGEST_NEAR, MOST_COMPARED = 3, 200, 5000
 _END = "\nend class\n"
 
 
@@ -21,6 +25,7 @@ class Classes(MutableSequence[Class]):
 
     __slots__ = ("_text", "_rows", "_changed", "_index")
 
+    @of_listing
     def __init__(self, text: str) -> None:
         self._text = text
         self._rows: list[Class | tuple[int, int]] = []
@@ -78,7 +83,7 @@ class Classes(MutableSequence[Class]):
 
     def names(self) -> Iterator[Type]:
         """The classes' names; none is read for it."""
-        return (Type(self._name(row)) for row in self._rows)
+        return map(self._type, self._rows)
 
     def texts(self) -> Iterator[str]:
         """The lines of each class. One that wasn't read has them as they came."""
@@ -99,10 +104,51 @@ class Classes(MutableSequence[Class]):
         return row
 
     def _name(self, row: Class | tuple[int, int]) -> str:
-        if isinstance(row, Class):
-            return row.name
-        begin = row[0] + len("class ")
+        return row.name if isinstance(row, Class) else self._name_in_text(row[0])
+
+    @of_listing
+    def _name_in_text(self, at: int) -> str:
+        begin = at + len("class ")
         return unspelled(self._text[begin : self._text.index(" ", begin)])
+
+    def _type(self, row: Class | tuple[int, int]) -> Type:
+        return Type(row.name) if isinstance(row, Class) else self._type_in_text(row[0])
+
+    @of_listing
+    def _type_in_text(self, at: int) -> Type:
+        return Type(self._name_in_text(at))
+
+
+class NoClass(KeyError):
+    """A program has no class of this name; the message says which names are near."""
+
+    def __init__(self, name: object, classes: Classes) -> None:
+        super().__init__(name)
+        self._classes = classes
+
+    def __str__(self) -> str:
+        found = near_names(str(self.args[0]), [str(name) for name in self._classes.names()])
+        return f"no class {shown(self.args[0])}" + (f"; near it: {', '.join(map(shown, found))}" if found else "")
+
+    def __reduce__(self) -> tuple[object, ...]:
+        return KeyError, (str(self),)
+
+
+def near_names(asked: str, names: list[str]) -> list[str]:
+    """Names of classes that somebody could have meant: by another spelling (com.x.Y, com/x/Y), of another package, or
+    with letters that differ.
+    """
+    bare = asked.removeprefix("L").removesuffix(";")
+    for spelled in (f"L{asked.replace('.', '/')};", f"L{bare.replace('.', '/')};"):
+        if spelled in names:
+            return [spelled]
+    last = re.split("[./]", bare)[-1].lower()
+    alike = [name for name in names if name[1:-1].rpartition("/")[2].lower() == last]
+    if alike or len(bare) > LONGEST_NEAR:
+        return alike[:MOST_NEAR]
+    import difflib
+
+    return difflib.get_close_matches(asked, names[:MOST_COMPARED], MOST_NEAR, 0.75)
 
 
 def _known(given: object) -> Class:
@@ -145,7 +191,7 @@ class Program:
     def of_listing(cls, text: str) -> Program:
         """The program of a listing that `list` wrote. It isn't looked at again: `parse` takes other texts."""
         if not text.startswith(HEAD):
-            raise ValueError("no listing as list writes it")
+            raise NoListing("no listing as list writes it")
         made = cls()
         made._classes = Classes(text)
         return made
@@ -158,7 +204,7 @@ class Program:
         """The class of this name."""
         place = self.classes.place(name)
         if place is None:
-            raise KeyError(name)
+            raise NoClass(name, self.classes)
         return self.classes[place]
 
     def __contains__(self, name: object) -> bool:

@@ -159,6 +159,52 @@ def numbers_of(name: str) -> list[int]:
     return [int(number) for number in re.findall(r"\d+", name)]
 
 
+# Two files of an archive that lead into each other, each with a class p.Twin. Both call a method that it has in both.
+ONE = rb"""dex 035 listing 2
+class Lp/A; 0x1
+super Ljava/lang/Object;
+direct m ()V 0x9
+code 1 0 0
+const-string v0 "both"
+invoke-static { } Lp/q/B;->n()V
+invoke-static { } Lp/Twin;->t()V
+return-void
+end code
+end class
+class Lp/Twin; 0x1
+direct t ()V 0x9
+code 0 0 0
+return-void
+end code
+end class
+"""
+TWO = rb"""dex 035 listing 2
+class Lp/Twin; 0x1
+direct t ()V 0x9
+code 0 0 0
+return-void
+end code
+direct u ()V 0x9
+code 0 0 0
+return-void
+end code
+end class
+class Lp/q/B; 0x1
+super Lp/A;
+direct n ()V 0x9
+code 1 0 0
+const-string v0 "both"
+const-string v0 "second"
+invoke-static { } Lp/A;->m()V
+invoke-static { } Lp/q/B;->m()V
+invoke-static { } Lp/Twin;->t()V
+invoke-static { } Lp/Twin;->u()V
+return-void
+end code
+end class
+"""
+
+
 def browse(at: str, file: bytes, *words: str, name: str = "a.dex", **options: Any) -> Ended:
     put(at, name, file)
     return tool("dexasm-browse", *words, "--output", "out", "--", name, at=at, **options)

@@ -8,6 +8,7 @@ import select
 import shutil
 import subprocess
 import time
+import unittest
 from typing import Any
 
 from .rooms import environment, path
@@ -19,6 +20,11 @@ TOLD = ("Runtime.consoleAPICalled", "Runtime.exceptionThrown", "Log.entryAdded",
 
 def found() -> str | None:
     return shutil.which("chromium") or shutil.which("chromium-browser") or shutil.which("google-chrome")
+
+
+def needed() -> None:
+    if not found():
+        raise unittest.SkipTest("no Chromium here: nothing is looked at in a browser")
 
 
 class Browser:

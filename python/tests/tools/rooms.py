@@ -78,8 +78,10 @@ class HelperTest(TestCase):
     @classmethod
     def setUpClass(cls) -> None:
         super().setUpClass()
-        # (a gate in the background ignores SIGINT, and what it starts would too)
+        # (a gate in the background ignores SIGINT, one by nohup SIGHUP, and what it starts would too)
         signal.signal(signal.SIGINT, signal.default_int_handler)
+        if signal.getsignal(signal.SIGHUP) == signal.SIG_IGN:
+            signal.signal(signal.SIGHUP, lambda *_: None)
 
 
 @functools.cache

@@ -201,7 +201,7 @@ class Apk(HelperTest):
         """FOLDER looks like an option, or is wanted and isn't there."""
         at, file = room("apk words"), assembled(LISTING)
         put(at, "slip.apk", archive(("classes.dex", file)))
-        usage = "usage: dexasm-apk [--close] check|list|strip ARCHIVE [FOLDER]\n"
+        usage = "usage: dexasm-apk [--close] [--allow-empty] check|list|strip|extract ARCHIVE [FOLDER]\n"
         for words in (
             ("strip", "slip.apk", "-o-"),
             ("strip", "slip.apk", "--output=x"),

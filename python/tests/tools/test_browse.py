@@ -12,7 +12,8 @@ import time
 from typing import Any
 
 from ..outs import ACL, acl_of, listed, mode_of
-from .browsed import CODE, PARTS, SHOWN, STRINGS, BrowseTest, Page, browse, hostile
+from .archives import FLAGS, SIZE, archive, changed
+from .browsed import CODE, ONE, PARTS, SHOWN, STRINGS, TWO, BrowseTest, Page, browse, hostile
 from .rooms import (
     ESC,
     HEAD,
@@ -246,6 +247,7 @@ class Browse(BrowseTest):
             self.beside_query(what, found, file, at)
             if shutil.which("dexdump"):
                 self.beside_dexdump(what, found, numbers, file, at)
+        self.need("dexdump", "no page is looked at beside it")
 
     def test_by_hand(self) -> None:
         """What is said of a small program, by hand."""
@@ -278,6 +280,129 @@ class Browse(BrowseTest):
             ),
         ):
             self.check(f"dexasm-browse, {what}", is_so, hello[-4000:])
+
+    def test_files(self) -> None:
+        """Several files of an archive, by hand: names lead from file to file, and classes stand by file."""
+        at, files = room("browse files"), [assembled(one) for one in (ONE, TWO, HEAD)]
+        zipped = archive(*zip(("classes.dex", "classes2.dex", "classes3.dex"), files))
+        self.check_equal("dexasm-browse, an archive", browse(at, zipped, name="a.apk"), (0, "", ""))
+        found = self.pages(os.path.join(at, "out"))
+        a, twin, other, b = (get(at, "out", "class", f"{row}.html").decode() for row in range(4))
+        for what, want, page in (
+            ("a call into the second file", 'Lp/q/B;</a>-&gt;<a href="3.html#0">n</a>()V', a),
+            ("and back", '<a href="0.html">Lp/A;</a>-&gt;<a href="0.html#0">m</a>()V', b),
+            ("what a class of the other has", '<a href="3.html">Lp/q/B;</a>-&gt;<a href="0.html#0">m</a>()V', b),
+            ("a superclass of the other file", '<dt>superclass</dt><dd><a href="0.html">p.A</a></dd>', b),
+            ("its heirs", '<dt>inherited by</dt><dd><a href="3.html">p.q.B</a></dd>', a),
+            ("used from the other file", '<a href="3.html#0.2">p.q.B.n()</a> (2 times)', a),
+            ("a class of both files is the first's", '-&gt;<a href="1.html#0">t</a>()V', a),
+            ("from the second too", '-&gt;<a href="1.html#0">t</a>()V', b),
+            ("its twin isn't asked for what it hasn't", "-&gt;u()V", b),
+            ("the first has its twin", 'also defined in</dt><dd><a href="2.html">p.Twin (classes2.dex)</a>', twin),
+            ("and the other way", 'also defined in</dt><dd><a href="1.html">p.Twin (classes.dex)</a>', other),
+            ("what isn't used", "Nothing in these files uses it by name.", other),
+            ("calls", "Calls 2 methods of these files, and 1 outside these files", b),
+            ("calls of the first", "Calls 2 methods of these files<", a),
+            ("a string of both files", '<a class="s" href="../strings/0.html#0">&quot;both&quot;</a>', a),
+            ("is one", '<a class="s" href="../strings/0.html#0">&quot;both&quot;</a>', b),
+            ("a package has its file", '<dd><a href="../package/5.html">p.q of classes2.dex</a></dd>', b),
+        ):
+            self.check(f"dexasm-browse, several files: {what}", want in page, page)
+        self.check_index(at, files)
+        classes = [one for one in found if one.startswith("class/")]
+        self.check_equal("dexasm-browse, several files: pages", len(classes), 4)
+
+    def check_index(self, at: str, files: list[bytes]) -> None:
+        """What the pages beside those of classes say of these files."""
+        index, helped = (get(at, "out", name).decode() for name in ("index.html", "help.html"))
+        tops = [get(at, "out", "package", f"{number}.html").decode() for number in range(6)]
+        script = get(at, "out", "search", "0.js").decode("ascii")
+        for what, want, page in (
+            ("the files", "<h2>Files</h2>", index),
+            ("a file", '<a href="package/3.html">classes2.dex</a>', index),
+            ("all files", "<h1>All packages</h1>", tops[0]),
+            ("a file's packages", "<h1>All packages of classes.dex</h1>", tops[1]),
+            ("a package of a file", "<h1>Package p.q of classes2.dex</h1>", tops[5]),
+            ("its classes", "class/3.html", tops[5]),
+            ("which of two is taken", "the one of the first is what a device takes", helped),
+            ("the index", '["p.Twin","2.html",0,["t()","u()"],"classes2.dex"]', script),
+        ):
+            self.check(f"dexasm-browse, several files: {what}", want in page, page)
+        numbers = facts_of(index.encode())
+        told = {"files": 3, "bytes": sum(map(len, files)), "classes": 4, "methods": 5, "strings in use": 2}
+        self.check("dexasm-browse, several files: numbers", told.items() <= numbers.items(), (told, numbers))
+
+    def test_files_alike(self) -> None:
+        """The pages of several files have the lines and the places that those of each have; a page that is too large is
+        cut there too, and nothing of a name is obeyed.
+        """
+        at = room("browse files alike")
+        insns = 'const-string v0 "%s"\n' % ("x" * 60) * 12_000
+        large = f"class Lp/Large; 0x1\ndirect a ()V 0x9\ncode 1 0 0\n{insns}return-void\nend code\nend class\n"
+        large += "class Lp/Uses; 0x1\ndirect b ()V 0x9\ncode 0 0 0\ninvoke-static { } Lp/Large;->a()V\nreturn-void\n"
+        files = [hostile(), assembled(HEAD + f"{large}end code\nend class\n".encode()), assembled(CODE), hostile()]
+        alone: dict[str, list[str]] = {"lines": [], "places": []}
+        for number, file in enumerate(files):
+            self.check_equal(f"dexasm-browse, file {number}", browse(at, file), (0, "", ""))
+            self.add_lines(alone, at)
+        names = ["classes.dex", "classes2.dex", "classes03.dex", f"classes{'9' * 200}.dex"]
+        seen = browse(at, archive(*zip(names, files)), name="a.apk")
+        self.check_equal("dexasm-browse, four files", seen, (0, "", ""))
+        self.pages(os.path.join(at, "out"))
+        together: dict[str, list[str]] = {"lines": [], "places": []}
+        self.add_lines(together, at)
+        for what, said in alone.items():
+            self.check(f"dexasm-browse, four files: {what}", together[what] == said and said, len(said))
+        sizes = {name: len(given) for name, given in seen_in(os.path.join(at, "out")).items()}
+        large_pages = [name for name in sizes if re.fullmatch(rf"class/{len(PARTS)}-\d+\.html", name)]
+        is_so = len(large_pages) > 0 and max(sizes.values()) < 2_000_000
+        self.check("dexasm-browse, four files: a page is cut", is_so, sizes)
+
+    def add_lines(self, found: dict[str, list[str]], at: str) -> None:
+        """The lines of the code that pages have, but for where labels lead, and the places of the file."""
+        given = seen_in(os.path.join(at, "out", "class"))
+        for name in sorted(given, key=lambda name: [int(number) for number in re.findall(r"\d+", name)]):
+            page = Page(bytes(given[name]).decode("utf8"))  # type: ignore[arg-type]  # (all are files)
+            found["lines"] += page.lines
+            found["places"] += page.places
+
+    def test_files_many(self) -> None:
+        """A class that many files define: each of its pages has links to a few of the others, so all stay small."""
+        at, file = room("browse files many"), assembled(HEAD + b"class LA; 0x1\nend class\n")
+        zipped = archive(*((f"classes{number}.dex", file) for number in range(100, 160)))
+        self.check_equal("dexasm-browse, 60 files", browse(at, zipped, name="a.apk"), (0, "", ""))
+        found = self.pages(os.path.join(at, "out"))
+        for row in (0, 5, 59):
+            text = get(at, "out", "class", f"{row}.html").decode()
+            links = re.findall(r'<a href="(\d+)\.html">A \(classes\d+\.dex\)</a>', text)
+            is_so = len(set(links) - {str(row)}) == len(links) == 10 and "and 49 more" in text
+            self.check(f"dexasm-browse, 60 files: the class of file {row}", is_so, text[-2000:])
+        sizes = [len(given) for given in seen_in(os.path.join(at, "out", "class")).values()]
+        self.check("dexasm-browse, 60 files: sizes", len(sizes) == 60 and max(sizes) < 4000 and len(found) > 120, sizes)
+
+    def test_files_wrong(self) -> None:
+        """One of the files can't be shown: a line that names it, and no pages."""
+        at, file = room("browse files wrong"), assembled(LISTING)
+        good = archive(("classes.dex", file), ("classes2.dex", file))
+        put(at, "old/index.html", b'<meta name="generator" content="dexasm-browse">')
+        before = seen_in(os.path.join(at, "old"))
+        one, two = "classes.dex", "classes2.dex"
+        for what, given, status, says in (
+            ("cut", archive((one, file), (two, file[:-1])), 1, "!classes2.dex: dexasm: refused 4 FileSize"),
+            ("no file", archive((one, file), (two, b"")), 1, "!classes2.dex: dexasm: refused 1 TooShort"),
+            ("twice", archive((one, file), (one, file), (two, file)), 3, "!classes.dex: it is there more than once"),
+            ("encrypted", changed(good, two, *FLAGS, 1), 3, "!classes2.dex: it is encrypted"),
+            ("longer than it says", changed(good, two, *SIZE, 9), 3, "!classes2.dex: it can't be read"),
+            ("an archive in it", archive((one, good), (two, file)), 3, "!classes.dex: a zip archive"),
+            ("none", archive(("lib/classes.dex", file)), 3, ": no classes*.dex in it, but others: "),
+        ):
+            put(at, "a.apk", given)
+            seen = tool("dexasm-browse", "a.apk", "--output", "old", at=at)
+            is_so = seen[:2] == (status, "") and is_one_line(seen[2], "dexasm-browse: a.apk") and says in seen[2]
+            self.check(f"dexasm-browse, several files: {what}", is_so, seen)
+        self.check_equal("dexasm-browse, what fails changes nothing", seen_in(os.path.join(at, "old")), before)
+        beside = set(os.listdir(at)) - {"a.apk", "old"}
+        self.check("dexasm-browse, several files: nothing is left", not beside, beside)
 
     def test_folder(self) -> None:
         at, file = room("browse folder"), assembled(LISTING)

@@ -8,7 +8,8 @@ from collections.abc import Iterator
 
 from dexasm.tools.pages.page import KINDS
 from . import browser
-from .browsed import CODE, PARTS, hostile
+from .archives import archive
+from .browsed import CODE, ONE, PARTS, TWO, hostile
 from .rooms import TOP, HelperTest, assembled, get, put, room, tool
 
 HTTP = "http://localhost:"
@@ -59,13 +60,13 @@ class Walk(HelperTest):
 
     def test_browser(self) -> None:
         """A walk from the largest method to what it calls and back, a search, and the keyboard."""
-        if not browser.found():
-            return
+        browser.needed()
         at = room("browse browser")
         put(at, "a.dex", assembled(CODE))
         put(at, "evil.dex", hostile())
-        for name in ("a", "evil"):
-            tool("dexasm-browse", f"{name}.dex", "--output", name, at=at)
+        put(at, "two.apk", archive(("classes.dex", assembled(ONE)), ("classes2.dex", assembled(TWO))))
+        for name, file in (("a", "a.dex"), ("evil", "evil.dex"), ("two", "two.apk")):
+            tool("dexasm-browse", file, "--output", name, at=at)
         top = f"file://{at.replace(' ', '%20')}"
         with browser.Browser() as page:
             self.walk(page, f"{top}/a")
@@ -77,9 +78,15 @@ class Walk(HelperTest):
             self.check(
                 "in a browser, names of evil are found", page.until("document.querySelectorAll('#hits a').length > 1")
             )
+            page.open(f"{top}/two/index.html")
+            page.run("document.getElementById('search').focus()")
+            page.type("twin")
+            seen = page.until("document.getElementById('hits').textContent.includes('(a class) of classes2.dex')")
+            self.check("in a browser, what is found has its file", seen)
             self.widths(page, f"{top}/a")
             self.over_http(page, at)
-            outside = [url for url in page.asked if not url.startswith((f"{top}/a/", f"{top}/evil/", "about:", HTTP))]
+            own = tuple(f"{top}/{name}/" for name in ("a", "evil", "two"))
+            outside = [url for url in page.asked if not url.startswith((*own, "about:", HTTP))]
             self.check("in a browser, nothing beyond the folder is asked for", page.asked and not outside, outside[:5])
             self.check_equal("in a browser, its console is empty", page.told, [])
 

@@ -16,7 +16,7 @@ import subprocess
 import sys
 import time
 import zipfile
-from collections.abc import Iterator
+from collections.abc import Callable, Iterator
 from typing import Any
 from urllib.parse import unquote_to_bytes
 from xml.etree import ElementTree
@@ -35,6 +35,7 @@ from .rooms import (
     Ended,
     HelperTest,
     assembled,
+    classes,
     dexasm,
     environment,
     get,
@@ -65,7 +66,7 @@ SARIF: dict[str, tuple[set[str], set[str]]] = {
     "log": ({"version", "runs"}, {"$schema"}),
     "run": ({"tool"}, {"invocations", "columnKind", "results"}),
     "tool": ({"driver"}, set()),
-    "driver": ({"name"}, {"rules"}),
+    "driver": ({"name"}, {"rules", "version", "properties"}),
     "rule": ({"id"}, {"name", "shortDescription"}),
     "invocation": ({"executionSuccessful"}, {"exitCode", "toolExecutionNotifications"}),
     "result": ({"message"}, {"ruleId", "ruleIndex", "level", "locations"}),
@@ -78,6 +79,7 @@ SARIF: dict[str, tuple[set[str], set[str]]] = {
     "region": (set(), {"startLine", "startColumn", "byteOffset"}),
     "logicalLocation": (set(), {"fullyQualifiedName"}),
 }
+BUILD = "answered by the (?:proved|quick|unknown) build with the SHA-256 [0-9a-f]{64}"
 URI = re.compile(r"(?:[A-Za-z0-9._~!$&'()*+,;=@/:-]|%[0-9A-F]{2})+")
 
 
@@ -170,6 +172,19 @@ print(*[one.status for one in Told(asked).judge([b"a", b"b", b"c", b"d"])])
 # ---- names
 
 
+def put_inputs(at: str, file: bytes) -> None:
+    """A file of each kind, accepted or not."""
+    put(at, "a.dex", file)
+    put(at, "f/B.DeX", damaged(file))
+    put(at, "f/other", b"no file")
+    put(at, "x.txt", LISTING)
+    put(at, "y.txt", b"\n" + HEAD + b"class LA; 0x1\n   super 7\nend class\n")
+    put(at, "z.txt", HEAD + b"class LB; 0x1\nend class\n" + b"class LA; 0x1\nsuper LA;\nend class\n")
+    put(at, "app.apk", archive(("classes2.dex", b"no file"), ("classes.dex", file), ("lib/classes3.dex", b"x")))
+    put(at, "n.jar", archive(("a.class", b"x")))
+    put(at, "n.APK", archive(("a.class", b"x")))
+
+
 def evil(name: str) -> str:
     """A room with a refused file of each name, in a folder f."""
     at = room(name)
@@ -226,7 +241,7 @@ def located(kind: str, given: dict[str, Any]) -> Iterator[str]:
     yield from wrong("message", given["message"])
     if given["level"] not in ("none", "note", "warning", "error"):
         yield f"level {given['level']}"
-    for one in given["locations"]:
+    for one in given.get("locations", ()):
         place = one["physicalLocation"]
         for name, part in (("location", one), ("physicalLocation", place)):
             yield from wrong(name, part)
@@ -240,11 +255,68 @@ def located(kind: str, given: dict[str, Any]) -> Iterator[str]:
             yield f"region {region}"
 
 
+# What a runner of GitHub, Azure or TeamCity takes for a command: each stands in every place of a file that is named.
+RUNNERS = "##[add-mask]", "::error::x", "##vso[task.complete]x", "##teamcity[x]", " ::stop-commands::x", "###[x]##[y]"
+IN_TEXTS = (
+    b"class L%s; 0x1\n%s\nend class\n",
+    b"class L%s; %s\nend class\n",
+    b"class LA; 0x1\nsuper %s\nend class\n",
+    b"class LA; 0x1\nstatic %s I 0x9\nend class\n",
+    b"class LA; 0x1\nstatic a I 0x9 = int %s\nend class\n",
+    b"class LA; 0x1\nsource \"%s\"\nsource \"%s\"\nend class\n",
+    b"class LA; 0x1\ndirect m ()V 0x9\ncode 1 0 0\ngoto %s\nend code\nend class\n",
+    b"class LA; 0x1\ndirect m ()V 0x9\ncode 1 0 0\ngoto :L%s\nend code\nend class\n",
+    b"class LA; 0x1\ndirect m ()V 0x9\ncode 1 0 0\n%s v0 v0\nend code\nend class\n",
+    b"class LA; 0x1\ndirect m ()V 0x9\ncode 1 0 0\nconst-string v%s \"%s\"\nend code\nend class\n",
+    b"class LA; 0x1\ndirect m ()V 0x9\ncode 1 0 0\ninvoke-static { } L%s;->%s()V\nend code\nend class\n",
+    b"class LA; 0x1\ndirect m ()V 0x9\ncode 1 0 0\nconst-string v0 \"%s\"\nadd-int v0 v0 v0\nend code\nend class\n",
+    b"class L\\u0023#[x]; 0x1\nstatic \\u003a:%s I 0x9 = long 1\nend class\n",
+)
+
+
+def put_all(at: str, number: int, evil: str) -> list[str]:
+    """Files with this text in every place: names of files, words of listings, entries of archives, headers."""
+    file, text = assembled(LISTING), evil.encode()
+    paths = [f"{evil}.dex", f"{number}/x{evil}.txt", f"{evil}.apk", f"{evil}none"]
+    put(at, paths[0], b"no file")
+    put(at, paths[1], b"no listing")
+    put(at, paths[2], archive((f"{evil}.dex", b"no file"), (f"a/{evil}.jar", b"x"), (f"{evil}/b.dex", file)))
+    for place, form in enumerate(IN_TEXTS):
+        paths.append(f"{number}/{place}.txt")
+        put(at, paths[-1], HEAD + form.replace(b"%s", text))
+    good = archive(("classes.dex", file))
+    for place, bad in enumerate((good.replace(b"classes.dex", (text * 3)[:11], 1), text + good, good[:-4] + text)):
+        paths.append(f"{number}/{place}.apk")
+        put(at, paths[-1], bad)
+    return paths
+
+
+def named_by_junit(out: str) -> list[str | None]:
+    return [case.get("name") for case in ElementTree.fromstring(out).findall("testsuite/testcase")]
+
+
+def is_command(line: str, form: str) -> bool:
+    """Whether a runner takes a line for a command that isn't of the form itself."""
+    is_ours = form == "--github" and line.startswith(("::error ", "::notice ")) and "::" in line[8:]
+    return re.search(r"##[\w.-]*\[", line) is not None or line.lstrip().startswith("::") and not is_ours
+
+
 def words_of(process: str) -> list[bytes]:
     try:
         return get("/proc", process, "cmdline").split(b"\0")[:-1]
     except OSError:
         return []
+
+
+def sleeping(seconds: bytes) -> list[str]:
+    return [one for one in os.listdir("/proc") if one.isdigit() and words_of(one) == [b"sleep", seconds]]
+
+
+def wait_for(is_so: Callable[[], bool]) -> None:
+    for _ in range(400):
+        if is_so():
+            return
+        time.sleep(0.05)
 
 
 CHANGES = """
@@ -306,15 +378,7 @@ class Check(HelperTest):
     def test_verdicts(self) -> None:
         """Each kind of input, its line and the status, by the library and by the command alike."""
         at, file = room("check verdicts"), assembled(LISTING)
-        put(at, "a.dex", file)
-        put(at, "f/B.DeX", damaged(file))
-        put(at, "f/other", b"no file")
-        put(at, "x.txt", LISTING)
-        put(at, "y.txt", b"\n" + HEAD + b"class LA; 0x1\n   super 7\nend class\n")
-        put(at, "z.txt", HEAD + b"class LB; 0x1\nend class\n" + b"class LA; 0x1\nsuper LA;\nend class\n")
-        put(at, "app.apk", archive(("classes2.dex", b"no file"), ("classes.dex", file), ("lib/classes3.dex", b"x")))
-        put(at, "n.jar", archive(("a.class", b"x")))
-        put(at, "n.APK", archive(("a.class", b"x")))
+        put_inputs(at, file)
         words: tuple[str, ...] | str
         words = ("a.dex", "f", "x.txt", "y.txt", "app.apk", "n.jar", "n.APK", "none")
         want: str | int
@@ -327,8 +391,9 @@ class Check(HelperTest):
         rest = (
             "app.apk!classes.dex: ok\n"
             "app.apk!classes2.dex:0x07: error: 1 TooShort: there are fewer than 112 bytes\n"
-            "n.jar: no classes*.dex in it\n"
-            "n.APK: error: no classes*.dex in it\n"
+            "app.apk!lib/classes3.dex:0x01: error: 1 TooShort: there are fewer than 112 bytes\n"
+            "n.jar: no .dex file in it\n"
+            "n.APK: error: no .dex file in it\n"
             "none: error: No such file or directory\n"
         )
         seen = checked(*words, at=at)
@@ -375,6 +440,9 @@ class Check(HelperTest):
             ("list.JAR", LISTING, ": error: no zip archive can be read: "),
             ("inner.apk", archive(("classes.dex", LISTING)), "!classes.dex:0x00: error: 2 Magic: "),
             ("nested.apk", archive(("classes.dex", zipped)), "!classes.dex:0x"),
+            ("no first line", classes("LA;").partition(b"\n")[2], ":1:1: error: 103 Order: class: the first line has to "),
+            ("a mark", b"\xef\xbb\xbf" + LISTING, ":1:1: error: 100 Word: \\ufeff#: a byte order mark (ef bb bf) "),
+            ("classy", b"classy LA;", ":0x0a: error: 1 TooShort: "),
             ("empty", b"", ":0x00: error: 1 TooShort: "),
             ("empty.zip", b"", ": error: no zip archive can be read: "),
         ):
@@ -518,12 +586,56 @@ class Check(HelperTest):
             file = properties(line).get("file")
             is_same = file == name.decode("utf8", "replace") or "\\" in (file or "")
             is_exact = file == name.decode("utf8", "replace") or not name.decode("utf8", "replace").isprintable()
-            is_exact = is_exact or b"\xff" in name or b"\xed" in name or b"\x9b" in name
+            # (a command has no escape for #)
+            is_exact = is_exact or b"##[" in name or b"\xff" in name or b"\xed" in name or b"\x9b" in name
             self.check(f"dexasm-check --github, {name!r}", is_same and is_exact and line.isprintable(), line)
         status, out, said = of_names("--junit", at)
         cases = ElementTree.fromstring(out).findall("testsuite/testcase")
         is_so = len(cases) == len(names) and all(case.attrib["name"].isprintable() for case in cases)
         self.check("dexasm-check --junit, names", (status, said) == (1, "") and is_so and out.isascii(), out)
+
+    def test_commands_of_runners(self) -> None:
+        """Whatever a stranger gives (names of files and entries, words of listings, what libraries say of an archive)
+        no line of any form holds a command of a CI runner, and none is lost of what JSON, SARIF and JUnit say.
+        """
+        at = room("check runners")
+        names = [put_all(at, number, evil) for number, evil in enumerate(RUNNERS)]
+        paths = [path for those in names for path in those]
+        for form in FORMS:
+            seen = checked(*[form] * bool(form), "--lint", "--", *paths, at=at)
+            lines = [line for part in seen[1:] for line in str(part).splitlines()]
+            bad = [line for line in lines if is_command(line, form)]
+            self.check(f"dexasm-check {form}, runners", bad == [] and len(lines) > 20, bad)
+            if form in ("--json", "--junit"):
+                files = [json.loads(line)["file"] for line in lines] if form == "--json" else named_by_junit(seen[1])
+                # (of a rule of a member JUnit has the line in the name)
+                given = {path for path in paths if path.endswith((".dex", ".txt", "none")) and "/11." not in path}
+                lost = given - {*files}
+                self.check(f"dexasm-check {form} says the very names", lost == set(), lost)
+        self.check_skipped_runners(at)
+        out = by_command("--", *paths, at=at)[1]
+        self.check("dexasm-check, runners, by the command", not any(is_command(line, "") for line in out.splitlines()))
+        for words in (("--json", "--##[x]"), ("--color", "##vso[x]", "a"), ("--jobs", "::x", "a"), ("--##[a]",)):
+            seen = checked(*words, at=at)
+            bad = [line for line in seen[2].splitlines() if is_command(line, "")]
+            self.check(f"dexasm-check {words}, its usage", seen[0] == 2 and bad == [], seen)
+        for name in ("dexasm-lint", "dexasm-info", "dexasm-apk"):
+            for path in (path for those in names for path in those[:3]):
+                seen = run([os.path.join(TOOLS, name), *["check"] * (name == "dexasm-apk"), "--", path], at=at)
+                bad = [line for line in seen[2].splitlines() if is_command(line, "")]
+                self.check(f"{name} {path!r}, standard error", bad == [], bad)
+
+    def check_skipped_runners(self, at: str) -> None:
+        """The same of links below a folder, which each form tells, though they are no errors."""
+        put(at, "links/a.dex", assembled(LISTING))
+        for evil in RUNNERS:
+            os.symlink("a.dex", os.path.join(at, "links", evil))
+        for form in FORMS:
+            status, out, said = checked(*[form] * bool(form), "links", at=at)
+            bad = [line for line in out.splitlines() if is_command(line, form)]
+            told = len(re.findall(r"a link to a file, which isn't followed", out.replace("&apos;", "'")))
+            is_so = (status, said, bad) == (0, "", []) and told == len(RUNNERS) * (2 if form == "--json" else 1)
+            self.check(f"dexasm-check {form}, links that are called as commands of runners", is_so, (status, out, bad))
 
     def test_sarif(self) -> None:
         """The document keeps the schema's rules, and says the very names; of an archive's entry it has no region."""
@@ -573,12 +685,115 @@ class Check(HelperTest):
             is_so = lines[-2:] == ["a.dex: ok", "link.dex: ok"] and all(": error: " in line for line in lines[:-2])
             is_so = is_so and (status, said, len(lines)) == (3, "", 9)
             self.check(f"dexasm-check, no files, by {how}", is_so, (status, out, said))
+    def test_below_a_folder(self) -> None:
+        """Links, pipes and devices below a folder: each has a line, and is an error where something could pass unseen."""
+        at, file = room("check below a folder"), assembled(LISTING)
         put(at, "d/x.DEX", file)
         put(at, "d/other.txt", b"")
         os.mkfifo(os.path.join(at, "d", "fifo.dex"))
         for name, to in (("up", ".."), ("top", "/"), ("l.dex", "/etc/passwd")):
             os.symlink(to, os.path.join(at, "d", name))
-        self.check_equal("dexasm-check, links in a folder", checked("d", at=at), (0, "d/x.DEX: ok\n", ""))
+        put(at, "d/inner/b.dex", file)
+        put(at, "d/blob", b"no file")
+        put(at, "e/c", file)
+        put(at, "e/text", b"a text")
+        os.mkfifo(os.path.join(at, "d", "fifo"))
+        for name, to in (("here", "inner"), ("same.dex", "x.DEX"), ("z.apk", "blob"), ("none", "none")):
+            os.symlink(to, os.path.join(at, "d", name))
+        for name, to in (("none.dex", "none"), ("out", "../e/c"), ("text", "../e/text"), ("zero.jar", "/dev/zero")):
+            os.symlink(to, os.path.join(at, "d", name))
+        want = """d/fifo: no file
+d/fifo.dex: error: no file
+d/here: a link to a folder, which isn't followed
+d/l.dex: error: a link to a file, which isn't followed
+d/none: error: Too many levels of symbolic links
+d/none.dex: error: Too many levels of symbolic links
+d/out: error: a link to a file, which isn't followed
+d/same.dex: a link to a file, which isn't followed
+d/text: a link to a file, which isn't followed
+d/top: error: a link to a folder, which isn't followed
+d/up: error: a link to a folder, which isn't followed
+d/x.DEX: ok
+d/z.apk: error: a link to a file, which isn't followed
+d/zero.jar: error: a link to no file
+d/inner/b.dex: ok
+"""
+        seen = checked("d", at=at)
+        self.check_equal("dexasm-check, what is below a folder", (seen[0], *seen[1:]), (3, want, ""))
+        quiet = "".join(line for line in want.splitlines(True) if ": error: " in line)
+        self.check_equal("dexasm-check --quiet, below a folder", checked("--quiet", "d", at=at), (3, quiet, ""))
+        found = [json.loads(line) for line in checked("--json", "d", at=at)[1].splitlines()]
+        told = {one["status"] for one in found if one["file"] in ("d/fifo", "d/here", "d/same.dex", "d/text")}
+        self.check("dexasm-check --json, below a folder", told == {"skipped"} and len(found) == 15, found)
+        self.check_forms_below(at)
+
+    def check_forms_below(self, at: str) -> None:
+        """What SARIF and GitHub's form tell of the same folder."""
+        document = json.loads(checked("--sarif", "d", at=at)[1])
+        notes = document["runs"][0]["invocations"][0]["toolExecutionNotifications"]
+        skipped = [one["locations"][0]["physicalLocation"] for one in notes if one["level"] == "note"]
+        names = [one["artifactLocation"]["uri"] for one in skipped]
+        is_so = names == ["d/fifo", "d/here", "d/same.dex", "d/text"] and len(notes) == 13 and [*faults(document)] == []
+        self.check("dexasm-check --sarif, below a folder", is_so, document)
+        lines = checked("--github", "d", at=at)[1].splitlines()
+        notices = [line for line in lines if line.startswith("::notice file=d/")]
+        self.check("dexasm-check --github, below a folder", len(notices) == 4 and len(lines) == 13, lines)
+
+    def test_below(self) -> None:
+        """What is looked at below a folder: names, and how other files begin; all below it is, or has a line."""
+        at, file = room("check below"), assembled(LISTING)
+        kinds = ("a.apk", "b.JAR", "c.zip", "d.aar", "e.aab", "f.Apks", "begins like one")
+        for name in kinds:
+            put(at, f"f/{name}", archive(("x/y.Dex", damaged(file))))
+        put(at, "f/a.dex", file)
+        put(at, "f/dex", file)
+        for name, given in (("text", b"PK, a text"), ("empty", b""), ("a.dex.txt", LISTING), ("short", b"de")):
+            put(at, f"f/{name}", given)
+        want = sorted([f"f/{name}!x/y.Dex:0x08: error: 8 " for name in kinds] + ["f/a.dex: ok", "f/dex: ok"])
+        status, out, said = checked("f", at=at)
+        lines = sorted(out.splitlines())
+        is_so = len(lines) == len(want) and all(line.startswith(begin) for line, begin in zip(lines, want))
+        self.check("dexasm-check, below a folder", is_so and (status, said) == (1, ""), (status, out, said))
+        if os.geteuid():
+            os.chmod(os.path.join(at, "f/text"), 0)
+            seen = checked("f", at=at)
+            self.check("dexasm-check, what can't be opened", seen[0] == 3 and "f/text: error: Perm" in seen[1], seen)
+
+    def test_nested(self) -> None:
+        """Archives in an archive, one deep; what is wrong with one of them has a line, and the others go on."""
+        at, file = room("check nested"), assembled(LISTING)
+        two = archive(("classes.dex", file), ("deep.zip", archive(("x.dex", b"no file"))))
+        aab = archive(("base/dex/classes.dex", file), ("base/lib.jar", archive(("classes2.dex", damaged(file)))))
+        wrong = archive(("a.jar", b"no archive"), ("b.jar", file + two), ("c.jar", archive(("d.class", b"x"))))
+        for name, given, status, lines in (
+            ("a.apks", archive(("splits/base.apk", two)), 0, ["splits/base.apk!classes.dex: ok"]),
+            ("b.aab", aab, 1, ["base/dex/classes.dex: ok", "base/lib.jar!classes2.dex:0x08: error: 8 Ch"]),
+            ("c.zip", wrong, 3, ["a.jar: error: no zip", "b.jar: error: it begins as a .dex", "b.jar!classes.dex: ok"]),
+            ("d.apks", archive(("a.apk", archive(("x", b"")))), 0, None),
+        ):
+            put(at, name, given)
+            seen = checked(name, at=at)
+            told = [one.removeprefix(f"{name}!") for one in seen[1].splitlines() if "two archives deep" not in one]
+            is_so = told == [f"{name}: no .dex file in it"] if lines is None else len(told) == len(lines) and all(
+                line.startswith(begin) for line, begin in zip(told, lines)
+            )
+            self.check(f"dexasm-check {name}", is_so and seen[::2] == (status, ""), seen)
+        deep = "a.apks!splits/base.apk!deep.zip: an archive two archives deep\n"
+        self.check("dexasm-check, two deep", deep in checked("a.apks", at=at)[1])
+
+    def test_fronts(self) -> None:
+        """A file that begins as something else, with an archive behind that: a line of its own, whatever the entries."""
+        at, file = room("check fronts"), assembled(LISTING)
+        good = archive(("classes.dex", file))
+        for name, front, what in (("a.apk", file, "a .dex file"), ("b.jar", b"#!/bin/sh\n", "something else")):
+            put(at, name, front + good)
+            want = f"{name}: error: it begins as {what}, and the archive stands behind that: "
+            seen = checked(name, at=at)
+            is_so = seen[::2] == (3, "") and seen[1].startswith(want) and seen[1].endswith(f"{name}!classes.dex: ok\n")
+            self.check(f"dexasm-check {name}, its front", is_so and seen[1].count("\n") == 2, seen)
+            seen = run([os.path.join(TOOLS, "dexasm-apk"), "check", name], at=at)
+            is_so = seen[:2] == (3, "classes.dex: ok\n") and seen[2].startswith(f"dexasm-apk: {name}: it begins as ")
+            self.check(f"dexasm-apk {name}, its front", is_so and seen[2].count("\n") == 1, seen)
 
     def test_folders(self) -> None:
         """A folder that can't be read: one that is too deep for a name, and one of no rights."""
@@ -648,6 +863,78 @@ class Check(HelperTest):
         for jobs in ("1", "3"):
             seen = checked("--memory", "250M", "--jobs", jobs, "bomb.apk", "sparse.dex", "a.dex", at=at)
             self.check_equal(f"dexasm-check, bombs, --jobs {jobs}", seen, (4, want, ""))
+
+    def test_archives_limits(self) -> None:
+        """An archive has --seconds and --memory once, whatever its entries say, and ends soon."""
+        at, file = room("check archives limits"), assembled(LISTING)
+        count = 65000
+        many = archive(*((f"{number}.dex", b"") for number in range(count)))
+        # (each entry says 3 GB in the directory)
+        size = re.compile(b"(PK\1\2.{20})\0\0\0\0", re.S)
+        put(at, "many.apk", size.sub(lambda found: found[1] + struct.pack("<I", 3 << 30), many))
+        begun = time.monotonic()
+        status, out, said = checked("many.apk", at=at)
+        taken = time.monotonic() - begun
+        lines = out.splitlines()
+        is_so = len(lines) == count and all(line.endswith(": it takes more than --memory") for line in lines)
+        self.check("dexasm-check, 65,000 entries that say 3 GB", is_so and (status, said) == (4, ""), (status, out[:500]))
+        self.check("dexasm-check, 65,000 entries, its time", taken < 60, taken)
+        bomb = io.BytesIO()
+        with zipfile.ZipFile(bomb, "w", zipfile.ZIP_DEFLATED) as zipped:
+            zipped.writestr("big.dex", bytes(100 << 20))
+        for number, given in enumerate((b"", file)):
+            entries = [(f"{number}.zip", bomb.getvalue()) for number in range(9)]
+            put(at, f"{number}.zip", archive(*entries, ("z/classes.dex", given)))
+        status, out, said = checked("--memory", "400M", "1.zip", at=at)
+        told = [line.rpartition(": ")[2] for line in out.splitlines()]
+        is_so = told.count("it takes more than --memory") >= 6 and out.endswith("1.zip!z/classes.dex: ok\n")
+        self.check("dexasm-check, a sum of memory", is_so and (status, said) == (4, ""), (status, out, said))
+        seen = checked("--seconds", "0.02", "--lint", "1.zip", "none", at=at)
+        is_so = "it takes longer than --seconds: nothing behind it in the archive is looked at\n" in seen[1]
+        is_so = is_so or "1.zip: error: it takes longer than --seconds\n" in seen[1]
+        self.check("dexasm-check, a sum of time", is_so and seen[0] == 3 and seen[1].endswith("directory\n"), seen)
+
+    def test_lying_sizes(self) -> None:
+        """An entry that is larger than it says, or smaller: no more is inflated than it says."""
+        at, file = room("check lying sizes"), assembled(LISTING)
+        small = 1000
+        made = io.BytesIO()
+        with zipfile.ZipFile(made, "w", zipfile.ZIP_DEFLATED) as zipped:
+            zipped.writestr("classes.dex", bytes(300 << 20))
+            zipped.writestr("classes2.dex", file)
+        for name, says in (("less.apk", small), ("more.apk", (300 << 20) + 5)):
+            put(at, name, changed(made.getvalue(), "classes.dex", 22, "<I", says))
+            seen = checked("--memory", "1G", name, at=at)
+            begin = f"{name}!classes.dex: error: it can't be read: "
+            is_so = seen[::2] == (3, "") and seen[1].startswith(begin) and seen[1].endswith("classes2.dex: ok\n")
+            self.check(f"dexasm-check {name}", is_so, seen)
+        seen = checked("--memory", "150M", "less.apk", at=at)
+        self.check("dexasm-check, no more than it says", seen[0] == 3 and "--memory" not in seen[1], seen)
+        for method in (zipfile.ZIP_BZIP2, zipfile.ZIP_LZMA):
+            made = io.BytesIO()
+            with zipfile.ZipFile(made, "w", method) as zipped:
+                zipped.writestr("classes.dex", file)
+            put(at, "a.zip", made.getvalue())
+            want = f"a.zip!classes.dex: error: its method of compression is unknown: {int(method)}\n"
+            self.check_equal(f"dexasm-check, method {method}", checked("a.zip", at=at), (3, want, ""))
+
+    def test_ended(self) -> None:
+        """However a helper is ended, its workers end, with what they run."""
+        at = room("check ended")
+        program = shlex.quote(tried.program())
+        command = fake(at, "fake/dexasm", f'[ "$1" != check ] && exec {program} "$@"\n: >"$0.begun"\nsleep 619')
+        put(at, "a.dex", assembled(LISTING))
+        for ends in (signal.SIGTERM, signal.SIGHUP, signal.SIGKILL):
+            env = {**environment(), "DEXASM_COMMAND": command}
+            begun = subprocess.Popen([os.path.join(alone(), "dexasm-check"), "a.dex"], cwd=at, env=env)
+            wait_for(lambda: os.path.exists(f"{command}.begun"))
+            os.remove(f"{command}.begun")
+            begun.send_signal(ends)
+            begun.wait(LIMIT)
+            wait_for(lambda: not sleeping(b"619"))
+            self.check_equal(f"dexasm-check, ended by {ends.name}, what it left", sleeping(b"619"), [])
+            for one in sleeping(b"619"):
+                os.kill(int(one), signal.SIGKILL)
 
     def test_limits(self) -> None:
         """A file that takes too long, and one at which the worker is killed: the others go on, and nothing is left."""
@@ -719,7 +1006,7 @@ class Check(HelperTest):
         is_so = is_so and (status, said, len(lines)) == (3, "", count)
         self.check("dexasm-check, 100,000 paths", is_so, (status, said, out[:99]))
         self.check("dexasm-check, their verdicts", lines.count("a.dex: ok") == count // 1000, out[:99])
-        for given, want in ((b"", 0), (b"\0\0\0", 0), (b"a.dex", 0), (b"a.dex\n", 3), (os.urandom(5000), 3)):
+        for given, want in ((b"", 3), (b"\0\0\0", 3), (b"a.dex", 0), (b"a.dex\n", 3), (os.urandom(5000), 3)):
             seen = checked("-", at=at, given=given)
             self.check(f"dexasm-check, {given[:9]!r} on standard input", seen[0] == want and is_safe(seen[1]), seen)
 
@@ -786,9 +1073,42 @@ class Check(HelperTest):
         self.check_equal(
             "dexasm-check, no .dex file in a folder", checked(at, at=room("check empty")), (0, f"{at}/a.dex: ok\n", "")
         )
+
+    def test_nothing(self) -> None:
+        """Where nothing is looked at that isn't accepted: not in any form, and not without a line."""
+        at = room("check nothing")
+        os.mkdir(os.path.join(at, "empty"))
+        put(at, "others/a.txt", b"a text")
+        os.symlink("a.txt", os.path.join(at, "others", "link"))
         for form in FORMS:
-            seen = checked(*[form] * bool(form), room(f"check nothing{form}"), at=at)
-            self.check(f"dexasm-check {form}, nothing to look at", seen[::2] == (0, ""), seen)
+            for words, given in ((["empty"], b""), (["others"], b""), (["-"], b""), (["-"], b"\0\0"), (["-", "empty"], b"")):
+                seen = checked(*[form] * bool(form), *words, at=at, given=given)
+                is_so = seen[0] == 3 and seen[2].startswith("dexasm-check: nothing was looked at: ")
+                self.check(f"dexasm-check {form} {words}", is_so and seen[2].count("\n") == 1, seen)
+                if form == "--sarif":
+                    done = json.loads(seen[1])["runs"][0]["invocations"][0]
+                    notes = [note["descriptor"]["id"] for note in done["toolExecutionNotifications"]]
+                    want = 3, [*["skipped"] * (words == ["others"]), "nothing"]
+                    self.check(f"dexasm-check --sarif {words}", (done["exitCode"], notes) == want, seen)
+                    self.check_equal("dexasm-check --sarif, the schema", [*faults(json.loads(seen[1]))], [])
+                if form == "--junit":
+                    suite = ElementTree.fromstring(seen[1]).find("testsuite")
+                    assert suite is not None
+                    is_so = suite.get("errors") == "1" and suite.get("tests") == str(len(suite)) and len(suite) >= 1
+                    self.check(f"dexasm-check --junit {words}", is_so, seen)
+                seen = checked(*[form] * bool(form), "--allow-empty", *words, at=at, given=given)
+                self.check(f"dexasm-check {form} --allow-empty {words}", seen[::2] == (0, ""), seen)
+        self.check("dexasm-check, what isn't there", checked("none", "--allow-empty", at=at)[0] == 3)
+        put(at, "a.zip", archive(("x", b"")))
+        self.check_equal("dexasm-check, an archive was looked at", checked(".", at=at)[0], 0)
+        for name, asks in (("dexasm-corpus", ("add", "c.db", "others")), ("dexasm-apk", ("check", "a.zip"))):
+            for more, status in (((), 3), (("--allow-empty",), 0)):
+                seen = run([os.path.join(TOOLS, name), *asks, *more], at=at, **self.library())
+                is_so = seen[0] == status and seen[2].count("\n") == (status > 0)
+                self.check(f"{name} {asks} {more}, nothing to look at", is_so, seen)
+
+    def library(self) -> dict[str, Any]:
+        return {"DEXASM_LIBRARY": tried.shared_library()} if tried.shared_library() else {}
 
     def test_terminal(self) -> None:
         """Colours where they are asked for, and a line of progress that is gone at the end."""
@@ -815,7 +1135,8 @@ class Check(HelperTest):
         text = get(TOP, ".pre-commit-hooks.yaml").decode()
         field = dict(re.findall(r"^[ -] (\w+): (.*)$", text, re.M))
         pattern = re.compile(field["files"])
-        for name in ("a.dex", "f/X.DEX", "x.apk", "X.Jar", "a.zip", "--seconds=9.dex"):
+        self.check(".pre-commit-hooks.yaml takes links", field["types_or"] == "[file, symlink]", field)
+        for name in ("a.dex", "f/X.DEX", "x.apk", "X.Jar", "a.zip", "--seconds=9.dex", "a.aar", "b.AAB", "c.apks"):
             self.check(f".pre-commit-hooks.yaml takes {name}", pattern.search(name) is not None)
         for name in ("a.dexx", "a.apk.txt", "dex", "adex"):
             self.check(f".pre-commit-hooks.yaml leaves {name}", pattern.search(name) is None)
@@ -834,11 +1155,46 @@ class Check(HelperTest):
             ".pre-commit-hooks.yaml, refused", seen[0] == 1 and seen[1].startswith("-x.dex:0x07: error: 1 "), seen
         )
 
+    def test_build(self) -> None:
+        """Which build answers: by where it lies, or by the sums of its package. With DEXASM=proved no other one does."""
+        at, program = room("check build"), get(tried.program())
+        put(at, "a.dex", assembled(LISTING))
+        sha, version = hashlib.sha256(program).hexdigest(), dexasm("--version").decode().split()[-1]
+        proved_by = os.path.join(os.path.dirname(os.path.dirname(alone())), "share/doc/dexasm/PROVED-BY")
+        put(at, "other/NOT-PROVED", b"")
+        for place, said, want in (
+            ("crates/dexasm/out/built/dexasm", "", "proved"),
+            ("crates/dexasm/out/quick/dexasm", "", "quick"),
+            ("dexasm", "", "quick"),  # (the launcher, which runs that one)
+            ("bin/dexasm", "", "unknown"),
+            ("other/dexasm", f"Proved and built of commit x\n{sha}  dexasm\n", "quick"),
+            ("bin/dexasm", f"Proved and built of commit x\n{sha}  dexasm\n", "proved"),
+            ("bin/dexasm", f"Packed at commit x\n{sha}  dexasm\n", "unknown"),
+            ("bin/dexasm", f"Proved and built of commit x\n{sha[::-1]}  dexasm\n", "unknown"),
+        ):
+            if place == "dexasm":
+                os.remove(os.path.join(at, "crates/dexasm/out/built/dexasm"))
+            put(at, place, get(TOP, "dexasm") if place == "dexasm" else program)
+            os.chmod(os.path.join(at, place), 0o755)
+            put("/", proved_by[1:], said.encode())
+            env: dict[str, Any] = {"DEXASM_COMMAND": os.path.join(at, place)}
+            told = json.loads(by_command("--json", "a.dex", at=at, **env)[1])["dexasm"]
+            self.check_equal(f"{place} {said[:9]}", told, {"version": version, "build": want, "sha256": sha})
+            seen = by_command("a.dex", at=at, **env, DEXASM="proved")
+            # (the launcher would make a proved one, which it can't here)
+            is_told = "isn't known" in seen[2] or place == "dexasm" and "status 70" in seen[2]
+            is_so = seen == (0, "a.dex: ok\n", "") if want == "proved" else seen[:2] == (3, "") and is_told
+            self.check(f"{place} {said[:9]}, DEXASM=proved", is_so, seen)
+        os.remove(proved_by)
+
     def test_version(self) -> None:
         """Each helper tells the version, which is the command's; a command that tells none is a line."""
         want = sought(r"dexasm (\S+)\n", dexasm("--version").decode())[1]
         for name in sorted(os.listdir(TOOLS)):
             seen = run([os.path.join(TOOLS, name), "--version"])
-            self.check_equal(f"{name} --version", seen, (0, f"{name} {want}\n", ""))
+            lines = seen[1].splitlines()
+            is_build = name == "dexasm-check" and re.fullmatch(BUILD, lines.pop()) is not None
+            self.check(f"{name} --version", seen[::2] == (0, "") and lines == [f"{name} {want}"], seen)
+            self.check(f"{name} --version, its build", is_build == (name == "dexasm-check"), seen)
         seen = run([os.path.join(TOOLS, "dexasm-check"), "--version"], DEXASM_COMMAND="/bin/true")
         self.check("dexasm-check --version by /bin/true", seen[:2] == (3, "") and seen[2].count("\n") == 1, seen)

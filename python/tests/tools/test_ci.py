@@ -1,14 +1,16 @@
 """The hook for git and the workflow of docs/ci, as they stand there: on files whose names are meant to do harm, and
 where git, dexasm or the disk fails. What they couldn't look at ends in failure.
 """
+import json
 import os
 import re
 import shlex
 import shutil
-from collections.abc import Iterable
+from collections.abc import Callable, Iterable
 from typing import Any
 
-from .archives import archive
+from tests import tried
+from .archives import archive, changed
 from .checked import alone, properties
 from .recipe import EVIL, IDENTITY, TEXT, TURNED, many
 from .rooms import TOP, Ended, HelperTest, assembled, environment, get, put, room, run, shell
@@ -64,6 +66,129 @@ def before(folder: str) -> dict[str, Any]:
 def worked(step: str, at: str, **env: Any) -> Ended:
     """The step, as GitHub has bash run it."""
     return run(["bash", "--noprofile", "--norc", "-eo", "pipefail", step], at=at, **env)
+
+
+# ---- the line of README
+
+
+PROVED = "DEXASM=proved "
+
+
+def line_of_readme() -> str:
+    """The line that README has for CI, but without DEXASM=proved, by which a build that isn't proved stops it."""
+    lines = [line for line in get(TOP, "README.md").decode().splitlines() if line.endswith("> dexasm.sarif || exit 1")]
+    assert len(lines) == 1 and lines[0].startswith(PROVED)
+    return lines[0].removeprefix(PROVED)
+
+
+def build(at: str, before: str = "", **env: Any) -> Ended:
+    """A build's script with that line, in a folder; `before` runs bash otherwise."""
+    if tried.shared_library():
+        env = {"DEXASM_LIBRARY": tried.shared_library(), **env}
+    most = env.pop("most", None)
+    words = [*shlex.split(before), "bash", "-c", f"{line_of_readme()}\necho went on\n"]
+    return run(words, at=at, most=most, **env)
+
+
+def inner(name: str, given: bytes) -> Callable[[str, bytes], object]:
+    """Puts an archive there that has this file beside a good one."""
+
+    def puts(at: str, file: bytes) -> None:
+        put(at, f"inner/{name}", archive(("classes.dex", file), ("base/dex/classes2.dex", given)))
+
+    return puts
+
+
+def put_link(at: str, file: bytes) -> None:
+    put(os.path.dirname(at), "elsewhere", file[:-1])
+    os.symlink("../elsewhere", os.path.join(at, "link"))
+
+
+def put_lying(at: str, file: bytes) -> None:
+    """An archive whose entry says that it is shorter than it is."""
+    put(at, "app.apk", changed(archive(("classes.dex", file)), "classes.dex", 22, "<I", len(file) - 1))
+
+
+# What a build has in its folder beside a good file: a name, and what puts it there.
+BROKEN: dict[str, Callable[[str, bytes], object]] = {
+    "an .apk in a folder": inner("app.apk", b"no file"),
+    "an .aab": inner("app.aab", b"no file"),
+    "an .apk in an .apks": lambda at, file: put(at, "a.apks", archive(("a.apk", archive(("classes.dex", file[:-1]))))),
+    "a link": put_link,
+    "a link that leads nowhere": lambda at, file: os.symlink("none", os.path.join(at, "a.apk")),
+    "a .dex file called .dat": lambda at, file: put(at, "inner/file.dat", file[:-1]),
+    "an archive called .dat": lambda at, file: put(at, "inner/file.dat", archive(("classes.dex", file[:-1]))),
+    "a lying archive": put_lying,
+    "an archive cut short": lambda at, file: put(at, "app.apk", archive(("classes.dex", file))[:-9]),
+    "an archive behind a file": lambda at, file: put(at, "app.apk", file + archive(("classes.dex", file))),
+}
+
+
+class ReadmeLine(HelperTest):
+    """The build that README's line has to stop, and the one that goes on."""
+
+    def is_stopped(self, what: str, seen: Ended, at: str = "") -> None:
+        self.check(f"README's line, {what}", seen[:2] == (1, "") and "Traceback" not in seen[2], seen)
+        if at:
+            document = json.loads(get(at, "dexasm.sarif"))
+            found, run_of = document["runs"][0]["results"], document["runs"][0]["invocations"][0]
+            is_so = bool(found) or run_of["executionSuccessful"] is False and run_of["toolExecutionNotifications"]
+            self.check(f"README's line, {what}: the report says so", is_so, document)
+
+    def test_broken(self) -> None:
+        """What is in the folder beside a good file."""
+        file = assembled(TEXT)
+        for number, (what, puts) in enumerate(BROKEN.items()):
+            at = os.path.join(room(f"readme {number}"), "build")
+            put(at, "good.dex", file)
+            if number == 0:
+                self.check_equal("README's line, a good file", build(at), (0, "went on\n", ""))
+            puts(at, file)
+            self.is_stopped(what, build(at), at)
+        at = room("readme good")
+        put(at, "a.aab", archive(("base/dex/classes.dex", file)))
+        self.check_equal("README's line, a good archive", build(at), (0, "went on\n", ""))
+
+    def test_nothing_there(self) -> None:
+        at = room("readme empty")
+        self.is_stopped("an empty folder", build(at), at)
+        put(at, "text.txt", b"a text")
+        os.mkdir(os.path.join(at, "inner"))
+        self.is_stopped("nothing to look at", build(at))
+        os.symlink("text.txt", os.path.join(at, "link"))
+        self.is_stopped("a link to what needn't be looked at", build(at))
+
+    def test_unreadable(self) -> None:
+        """A file that may not be read, and a folder. (Root may read all, but without that capability.)"""
+        before = ""
+        if os.geteuid() == 0:
+            before = "setpriv --bounding-set=-dac_override,-dac_read_search --inh-caps=-all"
+            if shutil.which("setpriv") is None or run([*before.split(), "true"])[0] != 0:
+                self.skipTest("root may read all files here, and setpriv can't take that away")
+        for what, name in (("a file", "x.dex"), ("a file of another name", "x.dat"), ("a folder", "inner")):
+            at = room(f"readme unreadable {name}")
+            put(at, "good.dex", assembled(TEXT))
+            put(at, "inner/x.dex" if name == "inner" else name, assembled(TEXT))
+            os.chmod(os.path.join(at, name), 0)
+            self.is_stopped(f"{what} that may not be read", build(at, before), at)
+            os.chmod(os.path.join(at, name), 0o700)
+
+    def test_surroundings(self) -> None:
+        """What runs fails: a worker is killed, there is no room for the report, and dexasm isn't there."""
+        at = room("readme surroundings")
+        put(at, "good.dex", assembled(TEXT))
+        does = b'#!/bin/sh\n[ "$1" = --version ] && exec dexasm "$@"\nkill -9 $PPID\n'
+        killer = put(room("readme killer"), "dexasm", does)
+        os.chmod(killer, 0o755)
+        helpers = os.pathsep.join([alone(), environment()["PATH"]])
+        self.is_stopped("a worker is killed", build(at, PATH=helpers, DEXASM_LIBRARY="", DEXASM_COMMAND=killer), at)
+        self.is_stopped("no room for the report", build(at, most=100))
+        self.is_stopped("no dexasm-check on the PATH", build(at, PATH="/usr/bin:/bin"))
+        ways = os.pathsep.join([alone(), "/usr/bin", "/bin"])
+        self.is_stopped("no dexasm on the PATH", build(at, PATH=ways, DEXASM_LIBRARY=""))
+        self.is_stopped("no such library", build(at, PATH=ways, DEXASM_LIBRARY="/none"))
+        seen = build(at)
+        self.check_equal("README's line, nothing fails", seen, (0, "went on\n", ""))
 
 
 class ContinuousIntegration(HelperTest):

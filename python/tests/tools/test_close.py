@@ -68,7 +68,8 @@ class Close(HelperTest):
             before = seen_in(at)
             for words in ((name,), (name, "--output", "out"), ("--check", name)):
                 got = tool("dexasm-close", *words, at=at)
-                is_so = got[:2] == (1, "") and is_one_line(got[2], f"dexasm-close: {name}: ") and seen_in(at) == before
+                status = 3 if name == "zip" else 1  # (it begins as an archive, and none can be read)
+                is_so = got[:2] == (status, "") and is_one_line(got[2], f"dexasm-close: {name}: ") and seen_in(at) == before
                 self.check(f"dexasm-close {' '.join(words)}", is_so, got)
 
     def test_names(self) -> None:

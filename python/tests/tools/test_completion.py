@@ -1,10 +1,10 @@
 """The completions of shells: the words of each helper, and names of files that stay names."""
 import os
-import shutil
 from collections.abc import Sequence
 
 from .rooms import NAMES, TOP, HelperTest, put, room, run, shell
 
+COMPLETION = f"{TOP}/contrib/completion"
 BASH = """. {file}
 COMP_WORDS=({words}) COMP_CWORD={at}
 {function}
@@ -14,7 +14,7 @@ printf '%s\\0' "${{COMPREPLY[@]}}"
 
 def completed(at: str, words: Sequence[str], function: str = "_dexasm_helper") -> list[str] | tuple[int | str, str]:
     """What bash offers for the last one of these words, as a shell has them."""
-    file = f"'{TOP}/contrib/completion/dexasm.bash'"
+    file = f"'{COMPLETION}/dexasm.bash'"
     text = BASH.format(file=file, words=" ".join(words), at=len(words) - 1, function=function)
     status, out, said = shell(text, at)
     return sorted(out.split("\0")[:-1]) if (status, said) == (0, "") else (status, said)
@@ -24,12 +24,12 @@ class Completion(HelperTest):
     def test_bash(self) -> None:
         at = room("completion")
         for words, want in (
-            (("dexasm-apk", "''"), ["check", "list", "strip"]),
+            (("dexasm-apk", "''"), ["check", "extract", "list", "replace", "strip"]),
             (("dexasm-query", "c"), ["calls", "classes"]),
             (("dexasm-info", "--h"), ["--help", "--hex"]),
             (("dexasm-diff", "--color", "a"), ["always", "auto"]),
             (("dexasm-size", "--by", "''"), ["class", "method", "package", "string"]),
-            (("dexasm-merge", "--"), ["--help", "--output", "--same", "--version"]),
+            (("dexasm-merge", "--"), ["--fit", "--help", "--output", "--same", "--version"]),
             (("dexasm-size", "--s"), ["--sort"]),
             (("dexasm-split", "--"), ["--help", "--join", "--version"]),
             (("dexasm-browse", "--graphs", "''"), ["all"]),
@@ -50,16 +50,14 @@ class Completion(HelperTest):
             completed(at, ("dexasm", "list", word), "_dexasm")
         self.check("bash runs no name", "PWNED" not in os.listdir(at))
 
-    def test_others(self) -> None:
-        """zsh and fish take their files."""
-        at = room("completion others")
-        file = f"{TOP}/contrib/completion"
-        if shutil.which("zsh"):
-            seen = run(["zsh", "-n", f"{file}/_dexasm"], at=at)
-            self.check_equal("zsh reads its completions", seen, (0, "", ""))
-        if shutil.which("fish"):
-            text = f"source '{file}/dexasm.fish'; complete -C 'dexasm-diff --color a'; complete -C 'dexasm-query c'"
-            seen = run(["fish", "--no-config", "-c", text], at=at)
-            self.check(
-                "fish completes", seen[0] == 0 and {"always", "auto", "calls", "classes"} <= set(seen[1].split()), seen
-            )
+    def test_zsh(self) -> None:
+        self.need("zsh", "its completions aren't read")
+        seen = run(["zsh", "-n", f"{COMPLETION}/_dexasm"])
+        self.check_equal("zsh reads its completions", seen, (0, "", ""))
+
+    def test_fish(self) -> None:
+        self.need("fish", "its completions aren't tried")
+        text = f"source '{COMPLETION}/dexasm.fish'; complete -C 'dexasm-diff --color a'; complete -C 'dexasm-query c'"
+        seen = run(["fish", "--no-config", "-c", text], at=room("completion fish"))
+        is_so = seen[0] == 0 and {"always", "auto", "calls", "classes"} <= set(seen[1].split())
+        self.check("fish completes", is_so, seen)

@@ -146,7 +146,7 @@ class Explain(PatchedTest):
             ("a comment at the end", b"nop # why", "a comment stands on a line of its own"),
             ("smali", b".line 3", "it is smali"),
             ("smali's method", b".method public static main([Ljava/lang/String;)V", "it is smali"),
-            ("a letter", 'const-string v0 "\u00e9"'.encode(), "the byte c3 at column 18 is none of a listing"),
+            ("a letter", 'const-string v0 "\u00e9"'.encode(), "the bytes c3 a9 at column 18 are none of a listing"),
             ("an open text", b'const-string v0 "a', "a text isn't closed"),
             ("an escape", rb'const-string v0 "a\n"', "in a text a backslash begins"),
             ("words after a text", b'const-string v0 "a"b', "a space has to follow a text"),

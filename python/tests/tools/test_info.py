@@ -278,8 +278,8 @@ class Info(HelperTest):
         for words, status, begins in (
             (("none",), 3, "dexasm-info: none: No such file"),
             (("folder",), 3, "dexasm-info: folder: Is a directory"),
-            (("a.apk",), 3, "dexasm-info: a.apk: a zip archive: dexasm-apk looks at"),
-            (("--hex", "a.apk"), 3, "dexasm-info: a.apk: a zip archive"),
+            (("a.apk",), 3, "dexasm-info: a.apk: no zip archive can be read"),
+            (("--hex", "a.apk"), 3, "dexasm-info: a.apk: no zip archive can be read"),
             (("--hex", "a..b"), 3, "dexasm-info: a..b: No such file"),
         ):
             seen = tool("dexasm-info", *words, at=at)

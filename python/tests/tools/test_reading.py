@@ -174,14 +174,14 @@ class Pages(BrowseTest):
         wrong: list[str] | list[int] = [char for char in UNSEEN if escaped(f"x{char}y") != f"x{shown(char)}y"]
         self.check("names, what nobody sees is an escape", not wrong, ascii(wrong))
         words = "for (0..0x10ffff) { print qq($_ ) if ($_ < 0xd800 || $_ > 0xdfff) && chr =~ /\\p{DI}/ }"
-        if shutil.which("perl"):
-            listed = subprocess.run(["perl", "-e", words], capture_output=True).stdout.split()
-            wrong = [int(one) for one in listed if escaped(chr(int(one))) == chr(int(one))]
-            self.check(
-                "names, all of Default_Ignorable_Code_Point", len(listed) > 4000 and not wrong, (len(listed), wrong[:5])
-            )
         kept = "\u00e9\u4e2d\U0001f600\u05d0\u0e01\u0e38 x"
         self.check_equal("names, what is seen stays", escaped(kept), kept)
+        self.need("perl", "the standard's own list isn't looked at")
+        listed = subprocess.run(["perl", "-e", words], capture_output=True).stdout.split()
+        wrong = [int(one) for one in listed if escaped(chr(int(one))) == chr(int(one))]
+        self.check(
+            "names, all of Default_Ignorable_Code_Point", len(listed) > 4000 and not wrong, (len(listed), wrong[:5])
+        )
 
     def test_names(self) -> None:
         """Names that deceive, on each page and in the table."""
@@ -257,6 +257,7 @@ class Pages(BrowseTest):
         again = browse(at, assembled(LISTING))
         left = [name for name in seen_in(out) if "-" in name]
         self.check("dexasm-browse, cut pages are replaced", again == (0, "", "") and not left, (again, left[:5]))
+        browser.needed()
 
     def search_cut(self, out: str, place: tuple[str, str]) -> None:
         """A browser finds what is on a page that goes on, and a link there leads to another one of them."""
@@ -284,16 +285,15 @@ class Pages(BrowseTest):
         at, file = room("pages hint"), assembled(LISTING)
         hint, method = "--graphs METHOD", ("--graphs", "LA;->m()V")
         for words, want in (((), [True, False]), (method, [False, False]), (("--graphs", "all"), [False, False])):
-            if words and not shutil.which("dot"):
-                continue
+            if words:
+                self.need("dot", "no picture is asked for")
             browse(at, file, *words)
             seen = [hint in get(at, "out", "class", f"{row}.html").decode() for row in range(2)]
             self.check_equal(f"dexasm-browse {words}, how a picture is asked for", seen, want)
 
     def test_sights(self) -> None:
         """What is seen of the pages at 400 and at 1280 pixels, in light and in dark."""
-        if not browser.found():
-            return
+        browser.needed()
         at = room("pages sights")
         put(at, "many.dex", many())
         put(at, "names.dex", deceiving())

@@ -3,7 +3,6 @@ import hashlib
 import os
 import re
 import shlex
-import shutil
 import subprocess
 
 from tests import tried
@@ -103,6 +102,26 @@ class Recipes(HelperTest):
             seen,
         )
 
+    def test_application(self) -> None:
+        """An archive in place of a file, and a patched file put back, by plain names and by evil ones."""
+        _, several, back = blocks("docs/RECIPES.md")["An .apk"]
+        file, other = assembled(TEXT), assembled(HEAD + b"class LOther; 0x1\nsuper LHello;\nend class\n")
+        changed = assembled(TEXT.replace(b"v0 41", b"v0 42"))
+        back = "".join(line for line in back.splitlines(True) if not line.startswith("apksigner"))
+        for name in ("", EVIL):
+            at = room(f"application {bool(name)}")
+            put(at, f"{name}app.apk", archive(("classes.dex", file), ("classes2.dex", other), ("x", b"x")))
+            put(at, f"{name}new.apk", archive(("classes.dex", changed), ("classes2.dex", other)))
+            _, out, said = shell(with_names(several, name), at)
+            wants = "!classes2.dex: ok\n", "class LHello; 0x1\n", "@@ LHello;->get(Z)I in both @@\n", "unchanged)"
+            is_so = all(want in out for want in wants) and said == ""
+            self.check(f"RECIPES: archives, {name!r}", is_so and "PWNED" not in seen_in(at), (out, said))
+            seen = shell(f"set -e\n{with_names(back, name)}", at)
+            self.check(f"RECIPES: a patched file, {name!r}", seen == (0, "", "") and "PWNED" not in seen_in(at), seen)
+            words = ("dexasm-diff", "--", f"{name}new.apk", f"{name}patched.apk")
+            seen = shell(" ".join(map(shlex.quote, words)), at)
+            self.check_equal(f"RECIPES: what was patched, {name!r}", seen, (0, "", ""))
+
     def test_merged(self) -> None:
         """Several files in one, by plain names and by evil ones: each command as it stands, on files that are for
         it."""
@@ -127,6 +146,7 @@ class Recipes(HelperTest):
         for command in commands:
             at = prepared(f"word {command[:24]}".replace("/", ""), "")
             put(at, "a.txt", TEXT)
+            put(at, "mapping.txt", b"com.x.Hi -> Hello:\n")
             status, out, said = shell(command, at)
             wrote = [one for one in ("c.dex", "pages", "listings") if os.path.exists(os.path.join(at, one))]
             # (one entry of the archive is refused, and the two files differ)
@@ -275,8 +295,7 @@ class Recipes(HelperTest):
         )
 
     def test_parallel(self) -> None:
-        if not shutil.which("parallel"):
-            return
+        self.need("parallel", "its recipe isn't tried")
         at = room("parallel")
         refused = many(at)
         put(at, "machines", b":\n")
@@ -284,8 +303,9 @@ class Recipes(HelperTest):
         os.mkdir(env["PARALLEL_HOME"])
         put(at, "home/will-cite", b"")
         self.resumed("parallel", at, refused, **env)
-        if are_there():
-            self.check_logins(env["PARALLEL_HOME"])
+        if not are_there():
+            self.skipTest("no sshd here, no ssh or no rsync: logins aren't tried")
+        self.check_logins(env["PARALLEL_HOME"])
 
     def check_logins(self, home: str) -> None:
         """The same over two logins."""
@@ -305,7 +325,7 @@ class Recipes(HelperTest):
         """Each recipe is tried."""
         known = {
             "Looking at a file": 1,
-            "An .apk": 1,
+            "An .apk": 3,
             "What a refusal means": 1,
             "A file that D8 before 1.6.20 signed": 1,
             "A file for a device": 2,

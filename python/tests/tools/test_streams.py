@@ -7,10 +7,11 @@ import shlex
 import shutil
 import sys
 
+from tests import tried
 from .archives import archive
 from .browsed import CODE
 from .rooms import (
-    HEAD, LISTING, TOP, HelperTest, assembled, environment, has_pages, is_one_line, put, room, shell
+    HEAD, LISTING, TOOLS, TOP, HelperTest, assembled, dexasm, environment, get, has_pages, is_one_line, put, room, shell
 )  # fmt: skip
 from .streaming import answers, each, fake, is_line
 
@@ -80,6 +81,15 @@ class Streams(HelperTest):
         for text, seen in each([f"dexasm-{name} --help >/dev/full" for name in WORDS], at):
             self.check(text, seen[:2] == (2 if "diff" in text else 3, "") and is_one_line(seen[2], "dexasm-"), seen)
 
+    def test_help_unbuffered(self) -> None:
+        """As Python is in most images of containers."""
+        at = room("help unbuffered")
+        for name in sorted(os.listdir(TOOLS)):
+            for word in ("--help", "--version"):
+                seen = shell(f"{name} {word} >/dev/full", at, PYTHONUNBUFFERED="1")
+                is_so = seen[0] in (2, 3) and is_one_line(seen[2], f"{name}: ")
+                self.check(f"{name} {word} >/dev/full, unbuffered", is_so, seen)
+
     def test_unread(self) -> None:
         """More than a pipe holds, of which one byte is read: what answers by its status doesn't say that all is
         well."""
@@ -100,7 +110,7 @@ class Streams(HelperTest):
             "split --join classes": 0,
         }
         if has_pages():
-            wants["size --by class a.dex --html page.html"] = 0
+            wants["size --csv --by class a.dex --html page.html"] = 0
         texts = {f"dexasm-{words} | head -c 1; exit ${{PIPESTATUS[0]}}": want for words, want in wants.items()}
         for text, seen in each(texts, at):
             is_said = seen[2] == "" or "none" in text
@@ -160,6 +170,27 @@ class Streams(HelperTest):
                 is_same = "diff" in text and command.startswith(("a member", "a code")) and seen == (0, "", "")
                 is_so = seen[0] == (2 if "diff" in text else 3) and is_line(said) or is_same
                 self.check(f"{text} by a command that answers {command}", is_so and "\x1b" not in seen[1], seen)
+
+    def test_lies(self) -> None:
+        """Over a command that lists another text than it should, a line or a word of which is another one: whatever goes
+        wrong with that is told of dexasm."""
+        at = prepared("streams lies")
+        good = dexasm("list", given=get(at, "a.dex"))
+        lies = [b"virtual n - 0x1", b"super end code", b"class x 0x1", b"static s { 0x9", b"", b"code 1 0", b"move-wide"]
+        words = ["query calls a.dex", "query show a.dex LA;", "lint --code a.dex", "graph --calls a.dex", "split a.dex cut"]
+        words += ["merge a.dex --output merged", "diff a.dex c.txt"] + ["browse a.dex --output pages"] * has_pages()
+        program = shlex.quote(tried.program())
+        for number, lie in enumerate(lies):
+            rows = good.split(b"\n")
+            place = next((at for at, row in enumerate(rows) if row[:4] == lie[:4]), 9)
+            rows[place] = lie
+            given = shlex.quote(put(at, f"lies/{number}", b"\n".join(rows)))
+            does = f'[ "$1" = list ] || exec {program} "$@"\ncat >"$0.$$"\nexec cat {given}'
+            command = fake(at, f"fake/lies {number}", does)
+            for text, seen in each([f"dexasm-{one}" for one in words], at, DEXASM_COMMAND=command):
+                said = re.sub(r"^.*: it can't be stripped, so .*\n", "", seen[2])
+                is_so = seen[0] in (0, 1) and said == "" or seen[0] in (1, 2, 3) and is_line(said)
+                self.check(f"{text}, dexasm lists {lie!r}", is_so and ": unexpected " not in said, seen)
 
     def test_graphviz(self) -> None:
         """Over a graphviz that answers what is no picture."""

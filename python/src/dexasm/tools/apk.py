@@ -1,9 +1,11 @@
-"""Checks, lists or strips each classes*.dex of an .apk, a .jar or another zip archive.
+"""Checks, lists, strips, takes out or exchanges each classes*.dex of an .apk, a .jar or another zip archive.
 
-usage: dexasm-apk [--close] check|list|strip ARCHIVE [FOLDER]
+usage: dexasm-apk [--close] [--allow-empty] check|list|strip|extract ARCHIVE [FOLDER]
+       dexasm-apk [--close] replace ARCHIVE FILE.. --output OUT
 
 check and list write the name of the .dex file before each line: `classes2.dex: ok`. With FOLDER the listings go to
-FOLDER/classes.txt and so on, one for each .dex file; strip wants it, and writes FOLDER/classes.dex and so on. What is
+FOLDER/classes.txt and so on, one for each .dex file; strip and extract want it, and write FOLDER/classes.dex and so on,
+stripped or as it is (extract asks dexasm nothing, so a refused file is taken out too). What is
 refused, or can't be read out of the archive, is a line on standard error with the same name before it, and the others
 go on. Nothing else of the archive is read, and nothing outside FOLDER is written: a link there, a file with another
 name, and what is no file are lines too. After `--` a word is a file whatever it begins with.
@@ -14,6 +16,15 @@ others are taken as they are, and so is what has no header or another length. Th
 
 An entry isn't read where it is encrypted or says so (Android doesn't look at that), where its sum is wrong or its
 method unknown, and where another one has its name (Android refuses such an archive). Each .dex file is held in memory.
+A file that begins as something else, with an archive behind that, has a line and status 3: who reads it from its front
+sees another file. Without a classes*.dex an archive has one too, unless --allow-empty is given. What has other names
+(*.dex in other folders, archives in the archive) `dexasm-check` looks at.
+
+replace writes OUT, the archive with its classes.dex exchanged for a FILE of that name, and so on, if dexasm accepts it.
+Each other entry stays byte for byte, at the place that zipalign asks for where it isn't compressed (4 bytes, 16 KB for
+lib/*.so); signatures are left out, since they don't hold any more: META-INF/*.SF, *.RSA, *.DSA and *.EC, of an
+application their MANIFEST.MF, and the block of Android's own. OUT has to be signed, as by apksigner. It is written by
+the command's rules, once it is whole; ARCHIVE stays, unless it is OUT.
 
 Exit status: 0, or the highest of dexasm's; 2 wrong words; 3 no archive, no classes*.dex in it, or one that can't be
 read or written."""
@@ -23,16 +34,17 @@ import os
 import stat
 import sys
 
-from dexasm.tools.archives import dex_files, opened, taken_out
-from dexasm.tools.asking import ask
-from dexasm.tools.basis import FAILED, Failed, reason
+from dexasm.tools.archives import NAME, dex_files, opened, taken_out, wrong_front
+from dexasm.tools.asking import answer, ask
+from dexasm.tools.basis import FAILED, USAGE, ZIP, Failed, reason
 from dexasm.tools.escapes import escaped
-from dexasm.tools.files import deliver
+from dexasm.tools.files import deliver, get
 from dexasm.tools.helper import helper, say
 from dexasm.tools.sums import closed, differences, unframed
 
 TYPE_CHECKING = False  # (as in typing)
 if TYPE_CHECKING:
+    from argparse import Namespace
     from zipfile import ZipFile, ZipInfo
 
     from dexasm.tools.helper import Words
@@ -42,7 +54,7 @@ def place_of(job: str, folder: str | None, name: str) -> str | None:
     """Where the answer goes, or None for standard output. What would be written elsewhere isn't written."""
     if folder is None:
         return None
-    place = os.path.join(folder, name if job == "strip" else name.removesuffix("dex") + "txt")
+    place = os.path.join(folder, name.removesuffix("dex") + "txt" if job == "list" else name)
     try:
         there = os.lstat(place)
     except FileNotFoundError:
@@ -70,6 +82,9 @@ def done(job: str, archive: ZipFile, folder: str | None, name: str, entries: lis
     """The job on one .dex file; answers the status."""
     try:
         place, given = place_of(job, folder, name), taken_out(archive, entries)
+        if job == "extract" and place is not None:
+            deliver(place, closed_if_open(given, name) if closes else given, through=False)
+            return 0
         ended = ask(job, given=closed_if_open(given, name) if closes else given)
         if place is not None and ended.status == 0:
             deliver(place, ended.answer, through=False)
@@ -88,24 +103,64 @@ def done(job: str, archive: ZipFile, folder: str | None, name: str, entries: lis
 @helper(unread=FAILED)
 def main(words: Words) -> int:
     words.add_argument("--close", action="store_true")
-    words.add_argument("job", choices=("check", "list", "strip"))
+    words.add_argument("--allow-empty", action="store_true")
+    words.add_argument("--output", "-o")
+    words.add_argument("job", choices=("check", "list", "strip", "extract", "replace"))
     words.add_argument("archive")
-    words.add_argument("folder", nargs="?")
-    asked = words.parse_args()
-    if asked.job == "strip" and asked.folder is None:
-        words.error("strip wants a FOLDER")
+    words.add_argument("rest", nargs="*")
+    asked = words.parse_intermixed_args()  # (an option may stand behind the files)
+    if asked.job == "replace":
+        return replace(words, asked)
+    if asked.output is not None:
+        words.error("--output is of replace alone")
+    if len(asked.rest) > 1:
+        words.error("too many words")
+    asked.folder = asked.rest[0] if asked.rest else None
+    if asked.job in ("strip", "extract") and asked.folder is None:
+        words.error(f"{asked.job} wants a FOLDER")
     if asked.job == "check" and asked.folder is not None:
         words.error("check takes one ARCHIVE and no FOLDER: dexasm-check looks at many")
     with opened(asked.archive) as archive:
+        status = look_at_front(archive, asked.archive)
         entries = dex_files(archive)
-        if not entries:
+        if not entries and not asked.allow_empty:
             raise Failed(f"{escaped(asked.archive)}: no classes*.dex in it")
         if asked.folder is not None:
             try:
                 os.makedirs(asked.folder, exist_ok=True)
             except OSError as error:
                 raise Failed(f"{escaped(asked.folder)}: {reason(error)}", FAILED) from None
-        return max(done(asked.job, archive, asked.folder, name, found, asked.close) for name, found in entries)
+        ends = (done(asked.job, archive, asked.folder, name, found, asked.close) for name, found in entries)
+        return max([status, *ends])
+
+
+def replace(words: Words, asked: Namespace) -> int:
+    """Writes the archive with these files in it."""
+    if asked.output is None or not asked.rest:
+        words.error("replace wants FILEs, and --output OUT")
+    from dexasm.tools.replacing import replaced
+
+    files: dict[str, bytes] = {}
+    for path in asked.rest:
+        entry, given = os.path.basename(path), get(path)
+        if NAME.fullmatch(entry) is None or entry in files:
+            why = "it is given twice" if entry in files else "no classes*.dex"
+            raise Failed(f"{escaped(path)}: {why}: FILE has the name of what it replaces", USAGE)
+        files[entry] = closed_if_open(given, escaped(path)) if asked.close else given
+        answer("check", given=files[entry], name=escaped(path))
+    deliver(asked.output, replaced(asked.archive, files))
+    return 0
+
+
+def look_at_front(archive: ZipFile, path: str) -> int:
+    """Tells where the file begins as something else than an archive; answers the status."""
+    assert archive.fp is not None  # (it is open)
+    archive.fp.seek(0)
+    why = wrong_front(archive.fp.read(2 * len(ZIP)))
+    if why is None:
+        return 0
+    say(f"dexasm-apk: {escaped(path)}: {why}")
+    return FAILED
 
 
 if __name__ == "__main__":

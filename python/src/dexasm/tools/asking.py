@@ -6,7 +6,8 @@ import re
 
 from dexasm.tools.basis import DEX, FAILED, MEMORY, REFUSED, ZIP, Failed, reason
 from dexasm.tools.escapes import escaped
-from dexasm.tools.files import get, name_of
+from dexasm.tools.files import name_of
+from dexasm.tools.inputs import inputs_of, one_input
 from dexasm.tools.places import PROGRAM
 
 TYPE_CHECKING = False  # (as in typing, which takes a while to read)
@@ -16,6 +17,7 @@ if TYPE_CHECKING:
     from dexasm.program import Program
 
 # (what only some helpers call is imported where it is: that takes longer than most of what they do)
+OF_TEXTS = range(100, 120)  # faults of a listing, and of a program that one lists
 REFUSAL = re.compile(r".*\brefused (\d{1,5}) (\w+) at (\d{1,20})(?:: .*)?$")
 
 
@@ -84,14 +86,19 @@ def answer(*words: str, given: bytes, name: str) -> bytes:
     return ended.answer
 
 
+# How a listing begins, and one that lacks its first line or has a byte order mark before it.
+LISTING = re.compile(rb"(?:\xef\xbb\xbf)?(?: *(?:#.*)?\r?\n)* *(?:dex +\w|class +L)")
+
+
 def is_listing(given: bytes) -> bool:
-    """Whether the bytes begin as a listing does."""
-    return not given.startswith(DEX) and re.match(rb"(?: *(?:#.*)?\n)* *dex +\w", given) is not None
+    """Whether the bytes begin as a listing does, be it a right one or not."""
+    return not given.startswith(DEX) and LISTING.match(given) is not None
 
 
 def dex_of(path: str | bytes | None) -> bytes:
-    """The bytes of a .dex file; of a listing those that dexasm makes of it."""
-    return dex_from(get(path), name_of(path))
+    """The bytes of a .dex file, or of the one that is in an archive; of a listing those that dexasm makes of it."""
+    given = one_input(path)
+    return dex_from(given.data, given.name)
 
 
 def dex_from(given: bytes, name: str) -> bytes:
@@ -99,7 +106,7 @@ def dex_from(given: bytes, name: str) -> bytes:
     if is_listing(given):
         given = answer("assemble", given=given, name=name)
     if given.startswith(ZIP):
-        raise Failed(f"{name}: a zip archive: dexasm-apk looks at the .dex files in it")
+        raise Failed(f"{name}: a zip archive, whose .dex files can be read where it is a file that is named")
     return given
 
 
@@ -117,13 +124,42 @@ def decoded(word: str) -> str:
 
 
 def program_of(path: str | bytes | None) -> Program:
-    """The program of a file or of a listing, as an object of the module for Python."""
-    return listed(dex_of(path), name_of(path))
+    """The program of a file, of a listing, or of all .dex files of an archive, as an object of the module for Python."""
+    return together([listed(dex_from(given.data, given.name), given.name) for given in inputs_of(path)])
+
+
+def together(programs: list[Program]) -> Program:
+    """The classes of all as one program, in their order; a class may be there more than once."""
+    if len(programs) == 1:
+        return programs[0]
+    from dexasm.program import HEAD, Program
+
+    return Program.of_listing(HEAD + "".join(str(program).removeprefix(HEAD) for program in programs))
+
+
+listings: list[str] = []  # that programs are read from
+
+
+def is_a_lie() -> bool:
+    """Whether dexasm answered a listing that it refuses itself, or lists otherwise: what goes wrong with it isn't the
+    helper's fault.
+    """
+    return any("\n\n" in listing or is_refused(listing) for listing in listings)
+
+
+def is_refused(listing: str) -> bool:
+    refusal = ask("assemble", given=listing.encode("ascii")).refusal()
+    return refusal is not None and refusal[0] in OF_TEXTS
 
 
 def listed(data: bytes, name: str) -> Program:
     """The program of the bytes of a file of that name, by what dexasm lists of it."""
-    listing = answer("list", given=data, name=name).decode("ascii")
+    return program_in(answer("list", given=data, name=name).decode("ascii"), name)
+
+
+def program_in(listing: str, name: str) -> Program:
+    """The program of what dexasm listed of a file of that name."""
+    listings.append(listing)
     from dexasm.program import Program
 
     try:

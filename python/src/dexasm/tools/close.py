@@ -11,7 +11,8 @@ so look at what --check says first.
 
 FILE is closed in place, or into OUT; `-` is standard input and output. What has no such header, or isn't as long as its
 header says, is refused. --check says what would change and changes nothing. A file is replaced when its answer is
-complete, by the command's own rules. `dexasm-apk --close` does it with each .dex file that it takes out of an archive.
+complete, by the command's own rules. As FILE an archive with one classes*.dex, or app.apk!classes2.dex, does too, with
+--output or --check. `dexasm-apk --close` does it with each .dex file that it takes out of an archive.
 
 Exit status: 0, and with --check that both sums hold; 1 with --check where one doesn't, or the file is refused; 2 wrong
 words; 3 reading or writing failed; 4 out of memory.
@@ -20,9 +21,10 @@ from __future__ import annotations
 
 import sys
 
-from dexasm.tools.basis import FAILED, REFUSED, Failed
-from dexasm.tools.files import deliver, get, name_of
+from dexasm.tools.basis import FAILED, REFUSED, USAGE, Failed
+from dexasm.tools.files import deliver
 from dexasm.tools.helper import helper
+from dexasm.tools.inputs import one_input
 from dexasm.tools.sums import closed, differences, unframed
 
 TYPE_CHECKING = False  # (as in typing)
@@ -47,12 +49,15 @@ def main(words: Words) -> int:
     if asked.check and asked.output is not None:
         words.error("--check writes nothing, so it takes no --output")
     path = None if asked.file == "-" else asked.file
-    given = framed(get(path), name_of(path))
+    found = one_input(path)
+    given = framed(found.data, found.name)
     if asked.check:
         lines = differences(given)
         for line in lines or ["both sums hold"]:
-            print(f"{name_of(path)}: {line}")
+            print(f"{found.name}: {line}")
         return REFUSED if lines else 0
+    if found.entry and asked.output is None:
+        raise Failed(f"{found.name}: --output says where it goes: an archive isn't changed", USAGE)
     out = asked.file if asked.output is None else asked.output
     if out == "-":
         sys.stdout.buffer.write(closed(given))

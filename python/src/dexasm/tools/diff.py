@@ -3,7 +3,8 @@
 usage: dexasm-diff [--names] [--color auto|always|never] A B
        dexasm-diff --textconv FILE
 
-A and B are .dex files or listings; debug information and annotations are no part of a program. A class or a member that
+A and B are .dex files or listings, or archives, of which all classes*.dex are one program; app.apk!classes2.dex is one
+of them alone. Debug information and annotations are no part of a program. A class or a member that
 only one of them has is shown whole, one that both have by the lines that differ, with three lines around each change.
 Labels are numbered one after the other in each code, so that an instruction more or less changes no line but its own.
 With --names each class and member is one line: `-` only in A, `+` only in B, `!` in both, and otherwise. Colours are
@@ -25,8 +26,8 @@ import sys
 from dexasm.tools.asking import ask, program_of
 from dexasm.tools.basis import REFUSED, Failed
 from dexasm.tools.escapes import escaped
-from dexasm.tools.files import get, name_of
 from dexasm.tools.helper import helper
+from dexasm.tools.inputs import inputs_of
 from dexasm.tools.terminal import is_colored
 
 TYPE_CHECKING = False  # (as in typing)
@@ -36,6 +37,7 @@ if TYPE_CHECKING:
     from dexasm.members import Class as ProgramClass
     from dexasm.program import Program
     from dexasm.tools.helper import Words
+    from dexasm.tools.inputs import Input
 
     Marked = tuple[str, str]  # a mark and a line
     Part = tuple[str, str, Iterable[Marked]]  # its name, its mark, and its lines with theirs
@@ -168,12 +170,17 @@ def compare(a: str, b: str, is_short: bool, has_colors: bool) -> int:
 
 
 def textconv(path: str) -> int:
-    given = get(path)
+    """Of an archive one file after the other."""
+    return max(convert(given) for given in inputs_of(path))
+
+
+def convert(file: Input) -> int:
+    given = file.data
     ended = ask("list", given=given)
     if ended.status == REFUSED and ended.refusal():
         print(f"{escaped(ended.told[-1])}\n{hashlib.sha256(given).hexdigest()}")
     elif ended.status:
-        raise Failed(f"{name_of(path)}: {ended.last()}", 2)
+        raise Failed(f"{file.name}: {ended.last()}", 2)
     else:
         from dexasm.program import Program
 

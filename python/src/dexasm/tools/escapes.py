@@ -12,6 +12,17 @@ UNSEEN = re.compile(
     "\ufe00-\ufe0f\ufeff\uffa0\ufff0-\ufff8\U00013441\U00013442\U00016fe4\U0001bca0-\U0001bca3\U0001d159"
     "\U0001d173-\U0001d17a\U000e0000-\U000e0fff]"
 )
+# What runners of continuous integration take for a command in a line of output, whoever wrote it: `##[..]` of GitHub
+# and Azure, `##vso[..]` of Azure, `##teamcity[..]`, anywhere; `::` of GitHub at the beginning.
+COMMANDS = re.compile(r"(?<=#)#(?=[\w.-]*\[)|^(?P<blank>\s*):(?=:)")
+TEXT, JSON, XML = "\\x{:02x}", "\\u{:04x}", "&#{};"  # a character, as texts and documents can have it
+
+
+def disarmed(line: str, form: str = TEXT) -> str:
+    """A line of output without a command of a runner in it: one of its characters stands as the form has it."""
+    if "##" not in line and "::" not in line:
+        return line
+    return COMMANDS.sub(lambda found: (found["blank"] or "") + form.format(ord(found[0][-1])), line)
 
 
 def escaped(text: str | bytes) -> str:

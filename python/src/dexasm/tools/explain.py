@@ -8,7 +8,8 @@ the bytes, the line or the class at P, the class or the method in which it stand
 between registers, an archive, a file of another version, who wrote such a signature, the character that a name can't
 have, the member that stands twice, the number that is spelled too far. Of a listing it tells the line, the word and
 what would stand there instead, also where P is only a class that breaks a rule of programs or a limit, or a count.
-Other lines are printed as they are, but for what a terminal would obey.
+Other lines are printed as they are, but for what a terminal would obey. FILE may be an archive, as in `dexasm-apk check
+app.apk 2>&1 | dexasm-explain app.apk`: each line then names one of its .dex files.
 
 With --json it prints a line of JSON for each refusal, and nothing else: `number`, `name`, `place`; `sentence` and
 `place_is`, as the pages have them; `found`, lines of what stands there; `hints`; and `line`, `column`, `class`,
@@ -30,11 +31,11 @@ from dexasm.tools.asking import REFUSAL, ask
 from dexasm.tools.basis import DEX, Failed
 from dexasm.tools.escapes import escaped, shortened
 from dexasm.tools.faults import MENDS, OF_CLASSES, OF_COUNTS, OF_LINES, sentences
-from dexasm.tools.files import get
+from dexasm.tools.files import get, name_of
 from dexasm.tools.helper import helper
+from dexasm.tools.inputs import Input, inputs_of, parted
 from dexasm.tools.layout import NO_FILE, Tables
 from dexasm.tools.sums import signature_of, signer
-from dexasm.tools.uses import CLASS_FLAGS, FIELD_FLAGS, METHOD_FLAGS
 
 TYPE_CHECKING = False  # (as in typing)
 if TYPE_CHECKING:
@@ -47,19 +48,10 @@ if TYPE_CHECKING:
     Row = tuple[str, str, str]  # of a fault: its name, its sentence, and what its place is
 
 AROUND = 16  # bytes a row
-LOOKED_AT = 4000  # characters of a line that are looked through
 OF_ROWS, OF_CODES = range(40, 50), range(60, 80)  # faults whose place is a class row's, or in a code
 # Faults of names: the table, and which characters are of the name's form too.
 OF_NAMES = {24: ("type", "[/;"), 31: ("field", ""), 34: ("method", "")}
 LISTED = b"dex 035"
-# Of each line with flags which of its words they are, and what those are in Java.
-FLAGS_AT: dict[bytes, tuple[int, dict[int, str]]] = {
-    b"class": (2, CLASS_FLAGS),
-    b"static": (3, FIELD_FLAGS),
-    b"instance": (3, FIELD_FLAGS),
-    b"direct": (3, METHOD_FLAGS),
-    b"virtual": (3, METHOD_FLAGS),
-}
 HEADS = (
     (b"PK", "it is a zip archive (an .apk or a .jar): dexasm-apk looks at the .dex files in it"),
     (b"dey\n", "it is an .odex file, which an old Android made on the device: the .dex file has to be taken out of it"),
@@ -127,49 +119,11 @@ def character_hint(name: str, others: str) -> str | None:
 # ---- listings
 
 
-def flag_hints(words: list[bytes]) -> Iterator[str]:
-    """Words of Java where flags stand, and the number that they are."""
-    first, table = FLAGS_AT.get((words or [b""])[0], (0, {}))
-    bits = {word: bit for bit, word in table.items()}
-    found = [word.decode() for word in words[first:] if first and word.decode("latin1") in bits]
-    if found:
-        said = sum({bits[word] for word in found})
-        yield f"flags are a number: {' '.join(found)} is 0x{said:x} (docs/LISTING.md has a table of them)"
-
-
 def line_hints(text: bytes, is_first: bool) -> Iterator[str]:
-    """What is often the reason why this line isn't of the listing's form; a very long one isn't looked through."""
-    if len(text) > LOOKED_AT:
-        return
-    bare = re.sub(rb'"(?:[^"\\]|\\.)*"', b'""', text)
-    if text.startswith(b"\xef\xbb\xbf"):
-        yield "a byte order mark (ef bb bf) stands at the begin of the line: save the text without one"
-        text = bare = bare[3:]
-    if text.endswith(b"\r"):
-        yield "the line ends in a carriage return (CRLF): a listing has line feeds alone (dos2unix, or sed 's/\\r$//')"
-        text, bare = text[:-1], bare.rstrip(b"\r")
-    yield from flag_hints(words_of(bare))
-    if b"\t" in bare:
-        yield f"a tab stands at column {text.index(9) + 1}: words stand between spaces"
-    other = next((at for at, byte in enumerate(text) if byte not in b"\t" and not 0x20 <= byte < 0x7F), None)
-    if other is not None:
-        yield f"the byte {text[other]:02x} at column {other + 1} is none of a listing: write it as \\uXXXX"
-    if b"#" in bare.lstrip(b" "):
-        yield "a comment stands on a line of its own: none may follow other words"
-    if bare.count(b'"') % 2:
-        yield "a text isn't closed: it ends at the next quote that has no backslash before it"
-    elif re.search(rb'""[^ \r]', bare):
-        yield "a space has to follow a text"
-    if re.search(rb'"(?:[^"\\]|\\.)*?\\(?!u[0-9A-Fa-f]{4}|["\\])', text):
-        yield 'in a text a backslash begins \\", \\\\ or \\uXXXX, and nothing else'
-    if b"," in bare:
-        yield f"a comma stands at column {text.index(b',') + 1}: words stand between spaces, as in `add-int v0 v1 v2`"
-    if re.match(rb" *\.(?:class|super|method|field|end|registers|locals|line|source|implements)\b", bare):
-        yield "it is smali: a listing has its own form, which docs/LISTING.md shows"
-    if re.match(rb" *dex(?:\s|$)", bare) and not re.fullmatch(rb" *dex +035(?: +listing +2)? *", bare):
-        yield "a listing begins with `dex 035 listing 2`, or with `dex 035`, and no other version"
-    elif is_first and not re.match(rb" *dex\b", bare):
-        yield "the first line has to be `dex 035 listing 2`"
+    """What is often the reason why this line isn't of the listing's form."""
+    from dexasm.faultform import usual
+
+    return (why for _, why in usual(text.decode("utf8", "surrogateescape"), is_first))
 
 
 def words_of(line: bytes) -> list[bytes]:
@@ -199,7 +153,7 @@ class Explained:
         if not 0 < self.place <= len(rows):
             return
         self.line = self.place
-        if self.number in (100, 101, 102):
+        if self.number in (101, 102):
             is_first = not any(words_of(row) and words_of(row)[0][:1] != b"#" for row in rows[: self.place - 1])
             self.hints += line_hints(rows[self.place - 1], is_first)
         self.found.append(f"{self.line}: {cut(rows[self.line - 1])}")
@@ -233,7 +187,10 @@ class Explained:
         self.class_ = where.class_name and where.class_name.spelled
         self.member = where.member and where.member.spelled.partition("->")[2]
         self.column, self.insn, self.word = where.column, where.insn, where.word and escaped(where.word)
-        self.hints += [shortened(where.sentence())] if where.why else []
+        if where.why:
+            # (of a line that isn't of the form what is wrong is often no word)
+            self.hints = [hint for hint in self.hints if hint != where.why]
+            self.hints.append(shortened(escaped(where.why if self.number == 100 else where.sentence())))
 
     def in_file(self, data: bytes) -> None:
         """The class whose row it is, or the method whose code has the place, if this is the file that was refused."""
@@ -321,13 +278,14 @@ def located(number: int, place: int, listing: bytes) -> Place | None:
 
 
 def cut(line: bytes) -> str:
-    return shortened(escaped(line.decode("latin1")))
+    return shortened(escaped(line))
 
 
-def explained(line: str, rows: dict[int, Row], data: bytes | None) -> Explained | None:
+def explained(line: str, rows: dict[int, Row], given: list[Input]) -> Explained | None:
     found = REFUSAL.match(line)
     if found is None or int(found[1]) not in rows:
         return None
+    data = data_of(given, line[: found.start(1)])
     number, name, place = int(found[1]), found[2], int(found[3])
     one = Explained(number, name, place, rows[number])
     if data is not None:
@@ -337,16 +295,36 @@ def explained(line: str, rows: dict[int, Row], data: bytes | None) -> Explained 
     return one
 
 
+def data_of(given: list[Input], before: str) -> bytes | None:
+    """The file that was refused: of several the one whose entry of the archive stands before the refusal."""
+    named = [one.data for one in given[1:] if re.search(rf"(?:^|!|\s){re.escape(one.entry)}:", before)]
+    return named[0] if len(named) == 1 else given[0].data if given else None
+
+
+def given_of(path: str | None) -> list[Input]:
+    """The file, and the .dex files that it has as an archive, where these can be read."""
+    if path is None:
+        return []
+    archive, entry = parted(path)
+    if archive is None or entry is not None:
+        return [*inputs_of(path)]
+    whole = Input(name_of(path), "", get(path))
+    try:
+        return [whole, *inputs_of(path)]
+    except Failed:
+        return [whole]
+
+
 @helper()
 def main(words: Words) -> int:
     words.add_argument("--json", action="store_true")
     words.add_argument("file", nargs="?")
     asked = words.parse_args()
-    rows, data = sentences(), None if asked.file is None else get(asked.file)
+    rows, given = sentences(), given_of(asked.file)
     if sys.stdin is None:
         raise Failed("standard input: it is closed")
     for told in sys.stdin.buffer.read().decode("utf8", "surrogateescape").removesuffix("\n").split("\n"):
-        one = explained(told, rows, data)
+        one = explained(told, rows, given)
         if asked.json:
             if one:
                 print(json.dumps(one.json()))

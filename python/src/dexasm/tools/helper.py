@@ -11,9 +11,10 @@ import re
 import sys
 from collections.abc import Callable
 
-from dexasm.tools.asking import answer
+from dexasm.answers import NoListing
+from dexasm.tools.asking import answer, is_a_lie
 from dexasm.tools.basis import FAILED, MEMORY, USAGE, Failed, reason
-from dexasm.tools.escapes import escaped
+from dexasm.tools.escapes import disarmed, escaped
 from dexasm.tools.files import get
 
 TYPE_CHECKING = False  # (as in typing, which takes a while to read)
@@ -36,9 +37,12 @@ class Version(argparse.Action):
         super().__init__(nargs=0, **options)
 
     def __call__(self, parser: argparse.ArgumentParser, *_: object) -> None:
-        said = answer("--version", given=b"", name=parser.prog).decode("ascii")
-        print(f"{parser.prog} {said.split()[-1]}")
+        print(self.told(parser.prog))
         parser.exit()
+
+    def told(self, prog: str) -> str:
+        said = answer("--version", given=b"", name=prog).decode("ascii")
+        return f"{prog} {said.split()[-1]}"
 
 
 class Words(argparse.ArgumentParser):
@@ -50,11 +54,16 @@ class Words(argparse.ArgumentParser):
         # (whose width is looked for otherwise, which takes a while, for a help that isn't printed)
         formatter = functools.partial(argparse.HelpFormatter, width=80)
         named: dict[str, Any] = {"prog": self.uses.split()[1], "usage": "%(prog)s"}
-        super().__init__(**named, allow_abbrev=False, formatter_class=formatter)
+        # (of a word that is added twice the second one counts)
+        settings: dict[str, Any] = {"allow_abbrev": False, "conflict_handler": "resolve"}
+        super().__init__(**named, **settings, formatter_class=formatter)
         self.add_argument("--version", action=Version)
 
     def format_help(self) -> str:
         return self.doc
+
+    def print_help(self, file: object = None) -> None:
+        print(self.doc, end="")  # (argparse passes over what can't be written)
 
     def error(self, message: str) -> NoReturn:
         raise Usage(f"{self.uses}\n{self.prog}: {escaped(message)}", USAGE)
@@ -93,7 +102,7 @@ def say(line: str) -> None:
     """A line on standard error, where there is one."""
     if sys.stderr is not None:
         try:
-            print(line, file=sys.stderr, flush=True)
+            print(*map(disarmed, line.split("\n")), sep="\n", file=sys.stderr, flush=True)
         except OSError:
             pass
 
@@ -135,10 +144,17 @@ def run(does: Callable[[Words], int], trouble: int | None, unread: int) -> NoRet
     except Exception as error:
         if sys.flags.dev_mode:
             raise
-        say(f"{words.prog}: unexpected {type(error).__name__}: {escaped(str(error))}")
+        say(f"{words.prog}: {unexpected(error)}")
         status = trouble or FAILED
     silence()
     sys.exit(status)
+
+
+def unexpected(error: Exception) -> str:
+    """What is told of a failure that nobody thought of, but that dexasm may answer what is no listing."""
+    if isinstance(error, NoListing) or is_a_lie():
+        return "dexasm: what it answers is no listing"
+    return f"unexpected {type(error).__name__}: {escaped(str(error))}"
 
 
 def finished(does: Callable[[Words], int], words: Words, unread: int) -> int:

@@ -6,7 +6,10 @@ import stat
 import sys
 from collections.abc import Callable, Iterator
 
-from dexasm.tools.basis import Failed
+from dexasm.tools.basis import ARCHIVES_BEGIN, DEX, Failed, is_archive_name, is_dex_name
+
+Wrong = Callable[[bytes, OSError], None]
+Other = Callable[[bytes, bytes], None]
 
 
 def named(words: list[str]) -> Iterator[bytes]:
@@ -25,8 +28,10 @@ def named(words: list[str]) -> Iterator[bytes]:
             yield rest
 
 
-def walked(path: bytes, wrong: Callable[[bytes, OSError], None]) -> Iterator[tuple[bytes, bool, int]]:
-    """The files of a path, each with whether it was named itself and its size; no link below it is followed."""
+def walked(path: bytes, wrong: Wrong, other: Other | None = None) -> Iterator[tuple[bytes, bool, int]]:
+    """The files of a path, each with whether it was named itself and its size; no link below it is followed. `other` is
+    called with the path and what stands below it that is neither a file nor a folder.
+    """
     try:
         seen = os.stat(path)
     except OSError as error:
@@ -45,9 +50,15 @@ def walked(path: bytes, wrong: Callable[[bytes, OSError], None]) -> Iterator[tup
             wrong(at, error)
             continue
         due += [entry.path for entry in reversed(entries) if entry.is_dir(follow_symlinks=False)]
-        for entry in entries:
-            if entry.is_file(follow_symlinks=False):
-                yield entry.path, False, size_of(entry)
+        yield from files_of(path, entries, other)
+
+
+def files_of(top: bytes, entries: list[os.DirEntry[bytes]], other: Other | None) -> Iterator[tuple[bytes, bool, int]]:
+    for entry in entries:
+        if entry.is_file(follow_symlinks=False):
+            yield entry.path, False, size_of(entry)
+        elif other is not None and not entry.is_dir(follow_symlinks=False):
+            other(top, entry.path)
 
 
 def size_of(entry: os.DirEntry[bytes]) -> int:
@@ -55,3 +66,43 @@ def size_of(entry: os.DirEntry[bytes]) -> int:
         return entry.stat(follow_symlinks=False).st_size
     except OSError:
         return 0
+
+
+# ---- what is looked at below a folder
+
+
+def is_named_as_one(path: bytes) -> bool:
+    """Whether a path is that of a .dex file or an archive, by its name."""
+    name = os.fsdecode(path)
+    return is_dex_name(name) or is_archive_name(name)
+
+
+def begins_as_one(path: bytes) -> bool:
+    """Whether a file begins as a .dex file or an archive does."""
+    at = os.open(path, os.O_RDONLY | os.O_NONBLOCK | os.O_NOCTTY)
+    try:
+        return stat.S_ISREG(os.fstat(at).st_mode) and os.read(at, len(DEX)) in (DEX, *ARCHIVES_BEGIN)
+    finally:
+        os.close(at)
+
+
+def passed_over(top: bytes, path: bytes) -> tuple[bool, str]:
+    """Of what stands below a folder and is neither file nor folder: whether something could pass unseen in it, and what
+    it is.
+    """
+    is_one = is_named_as_one(path)
+    if not os.path.islink(path):
+        return is_one, "no file"
+    try:
+        there = os.stat(path)
+    except FileNotFoundError:
+        return is_one, "a link to nothing"
+    place, here = os.path.realpath(path), os.path.realpath(top)
+    is_here = (place + b"/").startswith(here.rstrip(b"/") + b"/")
+    if stat.S_ISDIR(there.st_mode):
+        return not is_here, "a link to a folder, which isn't followed"
+    if not stat.S_ISREG(there.st_mode):
+        return is_one, "a link to no file"
+    is_one = is_one or begins_as_one(path)
+    is_seen = is_here and (is_named_as_one(place) or begins_as_one(place))
+    return is_one and not is_seen, "a link to a file, which isn't followed"

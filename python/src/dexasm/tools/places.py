@@ -21,6 +21,7 @@ SOURCES = _ABOVE
 TOP, IS_CHECKOUT = _top()
 PROGRAM = os.path.join(TOP, *(() if IS_CHECKOUT else ("bin",)), "dexasm")
 LIBRARY = os.path.join(TOP, "lib", "libdexasm.so.0")  # of a package; that of a checkout the module finds itself
+PROVED_BY = os.path.join(TOP, "share", "doc", "dexasm", "PROVED-BY")  # of a package
 PAGES = os.path.join(TOP, *(("docs",) if IS_CHECKOUT else ("share", "doc", "dexasm", "docs")))
 
 

@@ -33,11 +33,12 @@ import re
 import stat
 import sys
 
+from dexasm.answers import NoListing
 from dexasm.tools.asking import answer, ask, decoded
 from dexasm.tools.basis import DEX, Failed, reason
 from dexasm.tools.escapes import escaped
-from dexasm.tools.files import get, name_of
 from dexasm.tools.helper import helper
+from dexasm.tools.inputs import one_input
 
 TYPE_CHECKING = False  # (as in typing)
 if TYPE_CHECKING:
@@ -269,7 +270,8 @@ def pieces(listing: bytes) -> tuple[bytes, list[bytes], bytes]:
 def path_of(piece: bytes, taken: set[str]) -> str:
     """Where a class goes; `taken` has the paths that there are, in lower case."""
     found = re.search(rb"^ *class +(\S+)", piece, re.MULTILINE)
-    assert found is not None  # (each piece has a class)
+    if found is None:
+        raise NoListing(piece)
     name = decoded(found[1].decode("ascii"))
     name = "".join(char if char < "\x7f" else f"%u{ord(char):04x}" for char in name)[1:-1]
     parts, path = name.split("/"), name
@@ -341,7 +343,8 @@ def main(words: Words) -> int:
         sys.stdout.buffer.flush()
         return 0
     file = asked.paths[0] if len(asked.paths) == 2 else None
-    split(checked(get(file), name_of(file)), folder)
+    given = one_input(file)
+    split(checked(given.data, given.name), folder)
     return 0
 
 

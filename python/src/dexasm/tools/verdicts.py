@@ -1,26 +1,31 @@
 """The forms in which dexasm-check and dexasm-lint tell verdicts: lines for people, and JSON, SARIF, JUnit and GitHub's
 for machines.
 
-Names of files are anybody's. Each form escapes what its reader would obey, and GitHub's runner reads each of them: it
-takes a line that begins with `::`, or has `##[` in it, for a command.
+Names of files and what is in them are anybody's. Each form escapes what its reader would obey; what a runner of
+continuous integration would, which reads each of them, stands in no line that `Text.print` prints.
 """
 from __future__ import annotations
 
 import re
-from typing import Any
+from typing import TYPE_CHECKING, Any
 
 from dexasm.tools.basis import FAILED, MEMORY, REFUSED
 from dexasm.tools.check.checkers import Verdict
-from dexasm.tools.escapes import escaped
+from dexasm.tools.escapes import JSON, TEXT, XML, disarmed, escaped
 from dexasm.tools.faults import OF_CLASSES, OF_COUNTS, sentences
 
+if TYPE_CHECKING:
+    from dexasm.tools.answering import Answering
+
 # (what isn't here couldn't be looked at)
-STATUSES = {"ok": 0, "empty": 0, "refused": REFUSED, "broken": REFUSED, "memory": MEMORY}
-ACCEPTED = ("ok", "empty")
+STATUSES = {"ok": 0, "empty": 0, "skipped": 0, "refused": REFUSED, "broken": REFUSED, "memory": MEMORY}
+ACCEPTED = ("ok", "empty", "skipped")
+LOOKED_AT = ("ok", "empty")  # and accepted
 NOWHERE = (90, 255)  # whose place is none
 OK, BAD, PLAIN = "\x1b[32m", "\x1b[1;31m", "\x1b[0m"
 SCHEMA = "https://docs.oasis-open.org/sarif/sarif/v2.1.0/errata01/os/schemas/sarif-schema-2.1.0.json"
 # What GitHub's runner undoes (actions/toolkit, command.ts).
+ERROR, NOTICE = "::error ", "::notice "
 GITHUB = {"%": "%25", "\r": "%0D", "\n": "%0A", ":": "%3A", ",": "%2C"}
 
 
@@ -107,33 +112,46 @@ def where(verdict: Verdict) -> str:
 class Text:
     """A line for each, as compilers have it."""
 
+    form = TEXT  # in which a character stands that mustn't be itself
+    tells_build = False
+    build: Answering | None = None  # of dexasm, where it was asked which one answers
+
     def __init__(self, has_colors: bool = False) -> None:
         self.ok, self.bad, self.plain = (OK, BAD, PLAIN) if has_colors else ("", "", "")
 
     def lines(self, verdict: Verdict) -> list[str]:
-        name = harmless(escaped(name_of(verdict)))
+        name = escaped(name_of(verdict))
         if verdict.status == "ok":
             return [f"{name}: {self.ok}ok{self.plain}"]
-        if verdict.status == "empty":
+        if verdict.status in ACCEPTED:
             return [f"{name}: {self.ok}{verdict.why}{self.plain}"]
         if is_of_member(verdict):
             from dexasm.tools.lint.code import line_of
 
-            return [harmless(line_of(name, verdict, f"{self.bad}error:{self.plain}"))]
+            return [line_of(name, verdict, f"{self.bad}error:{self.plain}")]
         return [f"{name}{place_of(verdict)}: {self.bad}error:{self.plain} {message_of(verdict)}"]
+
+    def nothing(self, why: str) -> list[str]:
+        """What is told where nothing was looked at, beside the line on standard error."""
+        return []
 
     def end(self, status: int) -> list[str]:
         return []
 
+    def print(self, lines: list[str]) -> None:
+        """Prints lines, each without what a runner of continuous integration takes for a command, whoever wrote it."""
+        if lines:
+            print(*map(self.disarmed, lines), sep="\n")
 
-def harmless(name: str) -> str:
-    """A name that is no command to a runner of GitHub that reads it."""
-    return re.sub(r"^( *):(?=:)", r"\1\\x3a", name).replace("##[", "#\\x23[")
+    def disarmed(self, line: str) -> str:
+        return disarmed(line, self.form)
 
 
 class Json(Text):
     """A line of JSON for each."""
 
+    form = JSON
+    tells_build = True
     fields: tuple[str, ...] = ("number", "name", "place", "line", "column", "class_", "member", "instruction")
 
     def __init__(self, is_linted: bool = False) -> None:
@@ -146,17 +164,21 @@ class Json(Text):
         found = {"file": name_of(verdict), "uri": uri_of(verdict.path), "kind": verdict.kind, "status": verdict.status}
         for field in self.fields:
             found[field.rstrip("_")] = getattr(verdict, field)
-        return [json.dumps(found | self.more(verdict))]
+        return [json.dumps(found | self.more(verdict) | self.by())]
+
+    def by(self) -> dict[str, Any]:
+        """Which dexasm answers, where that was asked."""
+        return {} if self.build is None else {"dexasm": self.build._asdict()}
 
     def more(self, verdict: Verdict) -> dict[str, Any]:
         return {"sentence": sentence_of(verdict), "why": verdict.why, "program": verdict.program}
 
 
 class GitHub(Text):
-    """A command of GitHub's workflows for each that isn't accepted."""
+    """A command of GitHub's workflows for each that isn't accepted, and for each that was skipped."""
 
     def lines(self, verdict: Verdict) -> list[str]:
-        if verdict.status in ACCEPTED:
+        if verdict.status in LOOKED_AT:
             return []
         words = {"file": bare(verdict.path).decode("utf8", "surrogateescape")}
         if not verdict.entry and verdict.line is not None:
@@ -165,7 +187,15 @@ class GitHub(Text):
         words["title"] = titled(verdict)
         head = ",".join(f"{name}={commanded(text)}" for name, text in words.items())
         message = commanded(f"{name_of(verdict)}{place_of(verdict)}: {whole(verdict)}", "%\r\n")
-        return [f"::error {head}::{message}"]
+        return [f"{NOTICE if verdict.status in ACCEPTED else ERROR}{head}::{message}"]
+
+    def nothing(self, why: str) -> list[str]:
+        return [f"{ERROR}title=not looked at::{why}"]
+
+    def disarmed(self, line: str) -> str:
+        # (each line of this form begins as one of the two, by what it is)
+        begin = NOTICE if line.startswith(NOTICE) else ERROR
+        return begin + disarmed(line.removeprefix(begin))
 
 
 def commanded(text: str, special: str = "%\r\n:,") -> str:
@@ -175,6 +205,8 @@ def commanded(text: str, special: str = "%\r\n:,") -> str:
 
 class JUnit(Text):
     """One document, as JUnit's own reports are."""
+
+    form = XML
 
     def __init__(self) -> None:
         from xml.etree import ElementTree
@@ -188,7 +220,7 @@ class JUnit(Text):
         name = escaped(name_of(verdict)) + (place_of(verdict) if is_of_member(verdict) else "")
         case = ElementTree.SubElement(self.suite, "testcase", classname="dexasm-check", name=name)
         self.counts["tests"] += 1
-        kinds = {"ok": None, "empty": "skipped", "refused": "failure", "broken": "failure"}
+        kinds = {"ok": None, "refused": "failure", "broken": "failure", **dict.fromkeys(ACCEPTED[1:], "skipped")}
         kind = kinds.get(verdict.status, "error")
         if kind is not None:
             self.counts["skipped" if kind == "skipped" else f"{kind}s"] += 1
@@ -196,6 +228,15 @@ class JUnit(Text):
             if kind != "skipped":
                 told.set("type", verdict.name or verdict.rule or verdict.status)
                 told.text = Text().lines(verdict)[0]
+        return []
+
+    def nothing(self, why: str) -> list[str]:
+        from xml.etree import ElementTree
+
+        case = ElementTree.SubElement(self.suite, "testcase", classname="dexasm-check", name="what is looked at")
+        ElementTree.SubElement(case, "error", message=why, type="nothing")
+        self.counts["tests"] += 1
+        self.counts["errors"] += 1
         return []
 
     def end(self, status: int) -> list[str]:
@@ -213,6 +254,8 @@ class JUnit(Text):
 class Sarif(Text):
     """One document, of SARIF 2.1.0."""
 
+    form = JSON
+    tells_build = True
     tool = "dexasm-check"
 
     def __init__(self) -> None:
@@ -221,16 +264,21 @@ class Sarif(Text):
         self.notes: list[dict[str, Any]] = []
 
     def lines(self, verdict: Verdict) -> list[str]:
-        if verdict.status in ACCEPTED:
+        if verdict.status in LOOKED_AT:
             return []
         said = f"{verdict.entry}{place_of(verdict)}: " if verdict.entry else ""
-        told = {"level": "error", "message": {"text": said + message_of(verdict)}, "locations": [location(verdict)]}
+        level = "note" if verdict.status in ACCEPTED else "error"
+        told = {"level": level, "message": {"text": said + message_of(verdict)}, "locations": [location(verdict)]}
         rule = verdict.rule if verdict.number is None else str(verdict.number)
         if rule is None:
             self.notes.append({"descriptor": {"id": verdict.status}, **told})
         else:
             at = self.rules.setdefault(rule, len(self.rules))
             self.results.append({"ruleId": rule, "ruleIndex": at, **told})
+        return []
+
+    def nothing(self, why: str) -> list[str]:
+        self.notes.append({"descriptor": {"id": "nothing"}, "level": "error", "message": {"text": why}})
         return []
 
     def named(self, rule: str) -> tuple[str, str]:
@@ -249,8 +297,11 @@ class Sarif(Text):
             name, sentence = self.named(rule)
             more: dict[str, Any] = {"shortDescription": {"text": sentence}} if sentence else {}
             rules.append({"id": rule, "name": name, **more})
+        driver: dict[str, Any] = {"name": self.tool, "rules": rules}
+        if self.build is not None:
+            driver |= {"version": self.build.version, "properties": {"dexasm": self.build._asdict()}}
         run = {
-            "tool": {"driver": {"name": self.tool, "rules": rules}},
+            "tool": {"driver": driver},
             "invocations": [
                 {
                     "executionSuccessful": status in (0, REFUSED),

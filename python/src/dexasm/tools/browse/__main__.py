@@ -9,10 +9,13 @@ instruction stands behind its offset in the file and its address; of each member
 the strings, with where they are used; and a search over classes, members and strings. No page has two megabytes: what
 would be larger goes on in further pages, but a single line isn't cut.
 
-FILE may be a listing too. FOLDER is a new or an empty folder, or one that dexasm-browse made before, which is replaced
-in one step when the new pages are complete, and keeps its mode and its owner; any other is refused. --graphs METHOD
-puts a picture of the flow of a method, as 'LHello;->get(Z)I', on the page of its class; --graphs all does it for all
-methods. That needs graphviz.
+FILE may be a listing too, or an archive: all its classes*.dex are one set of pages then, with their packages and
+classes by file, and a name leads to its class in whichever of them that is, of several to the first, which is the one
+that a device takes. app.apk!classes2.dex is one of them alone.
+
+FOLDER is a new or an empty folder, or one that dexasm-browse made before, which is replaced in one step when the new
+pages are complete, and keeps its mode and its owner; any other is refused. --graphs METHOD puts a picture of the flow
+of a method, as 'LHello;->get(Z)I', on the page of its class; --graphs all does it for all methods. That needs graphviz.
 
 Exit status: 0 done, 1 the file is refused, 2 wrong words, 3 something can't be read or written, 4 out of memory.
 """
@@ -20,9 +23,8 @@ from __future__ import annotations
 
 import os
 
-from dexasm.tools.asking import dex_of
-from dexasm.tools.files import name_of
 from dexasm.tools.helper import helper
+from dexasm.tools.inputs import inputs_of
 
 TYPE_CHECKING = False  # (as in typing)
 if TYPE_CHECKING:
@@ -39,7 +41,7 @@ def main(words: Words) -> int:
     from dexasm.tools.browse.making import Browse
 
     folder = Folder(asked.output)
-    pages = Browse(dex_of(asked.file), name_of(asked.file), os.path.basename(asked.file), words.prog)
+    pages = Browse([*inputs_of(asked.file)], os.path.basename(asked.file), words.prog)
     if asked.graphs is not None:
         pages.picture(asked.graphs)
     with folder:

@@ -5,30 +5,47 @@ from array import array
 from collections import Counter
 from collections.abc import Callable, Iterator
 
+from dexasm.flags import CLASS_FLAGS
 from dexasm.tools.browse.code import Coder
 from dexasm.tools.browse.cuts import Part, file_of, member, others, paged
 from dexasm.tools.browse.texts import counted, facts, folded, link, some
 from dexasm.tools.pages.markup import text
 from dexasm.tools.pages.templates import Markup, joined, part
-from dexasm.tools.uses import CLASS_FLAGS, Uses, flag_words, heading, title
+from dexasm.tools.uses import Uses, flag_words, heading, title
 
 TYPE_CHECKING = False  # (as in typing)
 if TYPE_CHECKING:
     from dexasm.names import Type
+    from dexasm.tools.browse.files import Files
 
 LONG = 300  # characters of a heading
+MOST_TWINS = 10  # classes of one name to which each of them has links
 RUNS_IT = "The runtime calls it when the class is first used."
 
 
 class Classes:
     """The pages of classes, and the links that lead to them from other pages."""
 
-    def __init__(self, uses: Uses, coder: Coder) -> None:
-        self.uses, self.coder = uses, coder
+    def __init__(self, uses: Uses, coder: Coder, files: Files) -> None:
+        self.uses, self.coder, self.files = uses, coder, files
         self.titles: dict[int, Markup] = {}
+        self.twins: dict[str, list[int]] = {}  # the classes of a name that several files have
+        for row, one in enumerate(uses.classes):
+            if uses.rows[one.name] != row:
+                self.twins.setdefault(one.name, [uses.rows[one.name]]).append(row)
 
     def class_link(self, row: int, root: str = "") -> Markup:
-        return link(f"{root}{row}.html", text(self.uses.classes[row].name.pretty))
+        return link(f"{root}{row}.html", text(self.uses.classes[row].name.pretty) + text(self.apart(row)))
+
+    def apart(self, row: int) -> str:
+        """The file of a class of a name that several files have."""
+        return f" ({self.files.name(row)})" if self.uses.classes[row].name in self.twins else ""
+
+    def twins_of(self, row: int) -> list[Markup | str]:
+        """Links to the classes of its name in other files. (As many as there are files, on the pages of as many.)"""
+        found = self.twins.get(self.uses.classes[row].name, [row])
+        near = [twin for twin in found[: MOST_TWINS + 1] if twin != row][:MOST_TWINS]
+        return some(map(self.class_link, near), len(found) - 1)
 
     def title(self, number: int) -> Markup:
         """A member with its class, as HTML, cut where it is long."""
@@ -40,7 +57,7 @@ class Classes:
         """The same by `text`, or by `plain` where no element may stand."""
         row, at = self.uses.place(number)
         owner, member = self.uses.classes[row].name.pretty, title(self.uses.members[row][at])
-        return part("dotted")(said(owner, 80), said(member, 80))
+        return part("dotted")(said(owner, 80), said(member, 80)) + said(self.apart(row), 80)
 
     def member_link(self, number: int, place: int | None = None, root: str = "") -> Markup:
         row, at = self.uses.place(number)
@@ -80,6 +97,7 @@ class Classes:
             (
                 ("name in the file", part("code")(text(one.name, LONG))),
                 ("package", package),
+                ("also defined in", joined(", ", self.twins_of(row))),
                 ("superclass", self.type_link(one.superclass) if one.superclass is not None else ""),
                 ("interfaces", joined(", ", interfaces)),
                 ("source file", text(one.source) if one.source is not None else ""),
@@ -139,9 +157,9 @@ class Classes:
             yield extra(number)
         used = self.used_by(self.coder.of_member.get(number))
         is_first = self.uses.member(number).name == "<clinit>"
-        yield used or part("soft")(RUNS_IT if is_first else "Nothing in this file uses it by name.")
+        yield used or part("soft")(RUNS_IT if is_first else f"Nothing in {self.files.these} uses it by name.")
         calls = self.coder.calls.get(number, {})
         called = (self.member_link(to) + (f" ({times} times)" if times > 1 else "") for to, times in calls.items())
-        outside = self.coder.calls_outside.get(number, 0)
-        more = f", and {outside:,} outside this file" if outside else ""
-        yield folded(f"Calls {counted(len(calls), 'method')} of this file{more}", some(called, len(calls)))
+        outside, these = self.coder.calls_outside.get(number, 0), self.files.these
+        more = f", and {outside:,} outside {these}" if outside else ""
+        yield folded(f"Calls {counted(len(calls), 'method')} of {these}{more}", some(called, len(calls)))

@@ -4,45 +4,27 @@ from __future__ import annotations
 import zlib
 from collections.abc import Iterable, Iterator
 
-from dexasm.program import Program
-from dexasm.tools.asking import answer, ask
 from dexasm.tools.basis import Failed
 from dexasm.tools.browse.classes import Classes
 from dexasm.tools.browse.code import Coder
 from dexasm.tools.browse.cuts import Cuts, Part, file_of, others
+from dexasm.tools.browse.files import Files
 from dexasm.tools.browse.folder import Folder, Progress
 from dexasm.tools.browse.pages import Packages, overview, reading, shards, strings, strings_cut
 from dexasm.tools.browse.texts import Frame, counted
 from dexasm.tools.flow import MOST_DRAWN, as_dot, drawn, flow, for_page, graphviz
-from dexasm.tools.helper import say
-from dexasm.tools.layout import KINDS, Dex, Tables, addresses, code_sizes
 from dexasm.tools.pages.markup import plain, text
 from dexasm.tools.pages.templates import Markup, part, read
-from dexasm.tools.sizes import rows_of
 from dexasm.tools.uses import Uses, method_of
 
 TYPE_CHECKING = False  # (as in typing)
 if TYPE_CHECKING:
     from typing import Any
 
+    from dexasm.tools.inputs import Input
+
 TOO_LARGE = "it is too large"
 MOST_OF_PICTURE = 500_000  # bytes of a picture on a page
-
-
-class Sizes:
-    """Bytes of the file, by class and by method."""
-
-    def __init__(self, data: bytes, stripped: bytes | None, uses: Uses) -> None:
-        dex = Dex(data)
-        self.rows = rows_of(dex, None if stripped is None else Dex(stripped))
-        self.code: dict[int, int] = {}
-        sizes = [size for row in code_sizes(dex) for size in row]
-        self.code = dict(zip((number for number, _ in uses.methods()), sizes, strict=True))
-
-    def of_class(self, name: str) -> str:
-        total, *taken, strip = self.rows[name]
-        said = ", ".join(f"{kind} {count:,}" for kind, count in zip(KINDS, taken) if count)
-        return f"{total:,} ({said})" + (f"; strip takes away {strip:,}" if strip else "")
 
 
 def lines_of(uses: Uses, coder: Coder, row: int, places: Iterator[Iterator[tuple[int, int]]]) -> Iterator[Markup]:
@@ -74,22 +56,19 @@ def first_of(parts: list[Part]) -> int:
 
 
 class Browse:
-    """What a file's pages are made of."""
+    """What the pages of a file, or of all files of an archive, are made of."""
 
-    def __init__(self, data: bytes, name: str, shown: str, prog: str) -> None:
-        """`name` is the file's in messages, `shown` on the pages."""
-        self.data, self.name, self.shown = data, name, shown
-        listing = answer("list", given=data, name=name).decode("ascii")
-        stripped = ask("strip", given=data)
-        if stripped.status:
-            say(f"{prog}: {name}: it can't be stripped, so nothing is said of that: {stripped.last()}")
-        self.stripped = None if stripped.status else stripped.answer
-        self.tables = Tables(data)
-        self.uses = Uses(Program.of_listing(listing))
+    def __init__(self, given: list[Input], shown: str, prog: str) -> None:
+        """`shown` is the name on the pages."""
+        self.shown, self.files = shown, Files(given)
+        for file in self.files:
+            file.measure(prog)
+        self.uses = Uses(self.files.program())
         self.coder = Coder(self.uses)
-        self.classes = Classes(self.uses, self.coder)
-        self.sizes = Sizes(data, self.stripped, self.uses)
-        self.packages = Packages(self.sizes.rows, self.uses.rows)
+        self.classes = Classes(self.uses, self.coder, self.files)
+        sizes = (size for file in self.files for size in file.code_sizes)
+        self.code_sizes = dict(zip((number for number, _ in self.uses.methods()), sizes, strict=True))
+        self.packages = Packages(self.uses, self.files)
         self.pictured: set[int] = set()
 
     def picture(self, asked: str) -> None:
@@ -105,7 +84,7 @@ class Browse:
         made = []
         with Progress("reading", count) as progress:
             for row in range(count):
-                made.append(packed(lines_of(self.uses, self.coder, row, self.places(row))))
+                made.append(packed(lines_of(self.uses, self.coder, row, self.files.of(row).places(row))))
                 progress.step()
         cuts = Cuts()
         firsts: list[list[int]] = []
@@ -126,18 +105,14 @@ class Browse:
         self.put_strings(folder, frame, cuts, texts, len(found))
         self.put_others(folder, frame, cuts)
 
-    def places(self, row: int) -> Iterator[Iterator[tuple[int, int]]]:
-        """Where the instructions of each code of a class are."""
-        return (addresses(self.data, code) for code, _ in self.tables.codes_of(row, None))
-
     def laid_out(self, row: int, lines: list[str], cuts: Cuts, firsts: list[list[int]]) -> bytes:
         """What the pages of a class have. Where it is cut is noted, and with which member each page begins."""
-        name = self.uses.classes[row].name
-        at = self.packages.of_class.get(name)
+        at = self.packages.of_row.get(row)
+        taken = self.files.of(row).size_of(self.uses.classes[row].name)
         package = self.packages.link(at) if at is not None else Markup()
         methods = range(self.uses.first[row], self.uses.first[row] + len(self.uses.members[row]))
         hint = self.pictured.isdisjoint(methods) and not self.coder.insns.keys().isdisjoint(methods)
-        pages = [*self.classes.pages(row, lines, package, self.sizes.of_class(name), self.extra, hint)]
+        pages = [*self.classes.pages(row, lines, package, taken, self.extra, hint)]
         cut = [parts for parts, _ in pages]
         cuts.add("class", row, cut)
         firsts.append([first_of(parts) for parts in cut])
@@ -153,7 +128,7 @@ class Browse:
         """What is said of a method, besides who uses it."""
         if number not in self.coder.insns:
             return part("soft")("No code in this file.")
-        said = f"{counted(self.sizes.code[number], 'byte')}, {counted(self.coder.insns[number], 'instruction')}."
+        said = f"{counted(self.code_sizes[number], 'byte')}, {counted(self.coder.insns[number], 'instruction')}."
         return part("paragraph")(said, self.flow_of(number) if number in self.pictured else "")
 
     def flow_of(self, number: int) -> Markup:
@@ -181,13 +156,13 @@ class Browse:
             folder.put(f"strings/{name}", frame.page(Markup("Strings"), cuts.turned(body, "strings")))
 
     def put_others(self, folder: Folder, frame: Frame, cuts: Cuts) -> None:
-        for at in range(len(self.packages.nodes)):
+        for at in range(len(self.packages.places)):
             title = plain(self.packages.path(at), 80)
             for page, body in enumerate(self.packages.pages(at)):
                 folder.put(f"package/{file_of(at, page)}", frame.page(title, body))
-        first = overview(self.shown, self.numbers(), self.packages, self.classes, self.sizes.code)
+        first = overview(self.shown, self.numbers(), self.packages, self.classes, self.code_sizes)
         folder.put("index.html", frame.page(Markup("Overview"), cuts.turned(first, ""), ""))
-        folder.put("help.html", frame.page(Markup("How to read it"), reading(), ""))
+        folder.put("help.html", frame.page(Markup("How to read it"), reading(self.files.are_several), ""))
         folder.put("style.css", read("pages.css") + read("browse.css"))
         folder.put("script.js", read("pages.js") + read("browse.js"))
         folder.put("icon.svg", read("icon.svg"))
@@ -195,12 +170,15 @@ class Browse:
     def numbers(self) -> Iterator[tuple[str, int]]:
         uses, coder = self.uses, self.coder
         fields = sum(len(one.fields) for one in uses.classes)
-        yield "bytes", len(self.data)
+        if self.files.are_several:
+            yield "files", len(self.files.all)
+        yield "bytes", sum(len(file.data) for file in self.files)
         yield "classes", len(uses.classes)
         yield "fields", fields
         yield "methods", uses.count - fields
         yield "methods with code", len(coder.insns)
         yield "instructions", sum(coder.insns.values())
         yield "strings in use", len(coder.strings)
-        if self.stripped is not None:
-            yield "bytes that strip takes away", len(self.data) - len(self.stripped)
+        taken = [file.stripped for file in self.files if file.stripped is not None]
+        if len(taken) == len(self.files.all):
+            yield "bytes that strip takes away", sum(taken)

@@ -3,6 +3,7 @@ from __future__ import annotations
 
 import json
 from collections.abc import Callable, Iterable, Iterator
+from typing import NamedTuple
 
 from dexasm.tools.browse.classes import Classes
 from dexasm.tools.browse.code import STRINGS_A_PAGE
@@ -12,11 +13,13 @@ from dexasm.tools.pages.markup import LONGEST, number, seen, table, text
 from dexasm.tools.pages.page import Node, picture, tree_of
 from dexasm.tools.pages.templates import Markup, joined, page, part
 from dexasm.tools.sizes import COLUMNS
-from dexasm.tools.uses import title
+from dexasm.tools.uses import Uses, title
 
 TYPE_CHECKING = False  # (as in typing)
 if TYPE_CHECKING:
     from typing import Any
+
+    from dexasm.tools.browse.files import Files
 
 LARGEST = 50  # classes, methods and packages that the overview shows
 SHARD = 4000  # names in a script of the index
@@ -59,24 +62,60 @@ TYPES = (
 )
 
 
-class Packages:
-    """The packages of a file as a tree, a page for each, and which class is in which."""
+class Place(NamedTuple):
+    """Where a package stands: its whole name, the number of the one that it is in, and of several files its own."""
 
-    def __init__(self, rows: dict[str, list[Any]], class_rows: dict[str, int]) -> None:
-        self.rows, self.class_rows = rows, class_rows
-        self.tree = tree_of(rows)
+    node: Node
+    path: str
+    outer: int
+    file: str
+
+
+def over(trees: list[Node], names: list[str]) -> Node:
+    """A tree of trees, which get these names."""
+    top = Node("")
+    for tree, name in zip(trees, names):
+        tree.name = name
+        top.inner[name, "file"] = tree
+        top.total += tree.total
+    return top
+
+
+class Packages:
+    """The packages of a file as a tree, a page for each, and which class is in which. Of several files each is a tree
+    by itself, and all that the top of the tree has.
+    """
+
+    def __init__(self, uses: Uses, files: Files) -> None:
         self.numbers: dict[int, int] = {}
-        self.nodes: list[tuple[Node, str, int]] = []  # each node with its path and the number of the one that it is in
-        self.of_class: dict[str, int] = {}
-        due = [(self.tree, "", 0)]
-        for node, path, outer in due:
-            at = self.numbers[id(node)] = len(self.nodes)
-            self.nodes.append((node, path, outer))
-            for inner in node.rows():
+        self.places: list[Place] = []
+        self.of_row: dict[int, int] = {}  # the package of each class
+        self.row_of: dict[int, int] = {}  # the class of a node
+        self.are_several = files.are_several
+        trees = [tree_of(file.sizes) for file in files]
+        self.tree = over(trees, [file.entry for file in files]) if self.are_several else trees[0]
+        if self.are_several:
+            self.add(Place(self.tree, "", 0, ""))
+        for file, tree in zip(files, trees):
+            rows = {str(uses.classes[row].name): row for row in range(file.first, file.end)}
+            self.add_all(Place(tree, "", 0, tree.name), rows)
+
+    def add(self, place: Place) -> int:
+        at = self.numbers[id(place.node)] = len(self.places)
+        self.places.append(place)
+        return at
+
+    def add_all(self, top: Place, rows: dict[str, int]) -> None:
+        """A file's packages, of whose classes these are the rows."""
+        due = [top]
+        for place in due:
+            at = self.add(place)
+            for inner in place.node.rows():
                 if inner.kinds is None:
-                    due.append((inner, f"{path}/{inner.name}" if path else inner.name, at))
-                else:
-                    self.of_class[inner.full] = at
+                    due.append(Place(inner, f"{place.path}/{inner.name}" if place.path else inner.name, at, place.file))
+                elif inner.full in rows:
+                    row = self.row_of[id(inner)] = rows[inner.full]
+                    self.of_row[row] = at
 
     def lead(self, root: str) -> Callable[[Node], str]:
         """What tells the page of a node, from a page at the top (root is "") or below a folder."""
@@ -84,14 +123,15 @@ class Packages:
         def to(node: Node) -> str:
             if node.kinds is None:
                 return f"{root}package/{self.numbers[id(node)]}.html"
-            row = self.class_rows.get(node.full)
+            row = self.row_of.get(id(node))
             return f"{root}class/{row}.html" if row is not None else ""
 
         return to
 
     def name(self, node: Node, root: str) -> Markup:
         to = self.lead(root)(node)
-        said = text(node.name.replace("/", ".") + (".*" if node.kinds is None else ""))
+        is_file = node.kinds is None and not self.places[self.numbers[id(node)]].path
+        said = text(node.name if is_file else node.name.replace("/", ".") + (".*" if node.kinds is None else ""))
         return link(to, said) if to else said
 
     def lines(self, node: Node, root: str) -> Iterator[Markup]:
@@ -102,18 +142,19 @@ class Packages:
         """The largest rows of the overview, which leads to the others."""
         rows = [*self.lines(self.tree, "")]
         if len(rows) <= LARGEST:
-            return holds(rows)
-        return holds(rows[:LARGEST]) + part("paragraph")(link("package/0.html", f"All {len(rows):,} rows"))
+            return self.holds(rows, 0)
+        return self.holds(rows[:LARGEST], 0) + part("paragraph")(link("package/0.html", f"All {len(rows):,} rows"))
 
     def path(self, at: int) -> str:
-        return self.nodes[at][1].replace("/", ".") or "(all packages)"
+        place = self.places[at]
+        return (place.path.replace("/", ".") or "(all packages)") + (f" of {place.file}" if place.file else "")
 
     def link(self, at: int, root: str = "../") -> Markup:
         return link(f"{root}package/{at}.html", text(self.path(at)))
 
     def pages(self, at: int) -> Iterator[Markup]:
         """What each page of a package has."""
-        node, _, outer = self.nodes[at]
+        node, path, outer, file = self.places[at]
         said = part("bytes_in")(counted(node.total, "byte"), self.link(outer) if at else "")
         shown = Part(0, -1, joined("\n", [said, picture(node, self.lead("../"))]))
         cut = paged([shown, *(Part(place, -1, one) for place, one in enumerate(self.lines(node, "../"), 1))])
@@ -122,11 +163,11 @@ class Packages:
             lead = others("Pages of this package", names, here)
             html = [one.html for one in parts]
             top = html.pop(0) if here == 0 else ""
-            yield part("package")(self.path(at) if at else "", lead, top, holds(html))
+            yield part("package")(path.replace("/", "."), file, lead, top, self.holds(html, at))
 
-
-def holds(rows: list[Markup]) -> Markup:
-    return table("What it holds, by bytes", ("bytes", "package or class"), rows)
+    def holds(self, rows: list[Markup], at: int) -> Markup:
+        what = "file" if self.are_several and at == 0 else "package or class"
+        return table("What it holds, by bytes", ("bytes", what), rows)
 
 
 def overview(
@@ -138,8 +179,9 @@ def overview(
         facts=facts((said, number(count)) for said, count in numbers),
         picture=picture(packages.tree, packages.lead("")),
         methods=largest_methods(classes, code_sizes),
-        classes=largest_classes(packages, classes),
+        classes=largest_classes(classes),
         packages=packages.largest(),
+        are_several=packages.are_several,
     )
 
 
@@ -155,13 +197,13 @@ def largest_methods(classes: Classes, code_sizes: dict[int, int]) -> Markup:
     return table("By the bytes of their code", ("bytes", "instructions", "used by", "method"), rows())
 
 
-def largest_classes(packages: Packages, classes: Classes) -> Markup:
-    known = [(name, taken) for name, taken in packages.rows.items() if name in packages.class_rows]
-    known.sort(key=lambda row: (-row[1][0], row[0]))
+def largest_classes(classes: Classes) -> Markup:
+    names = [one.name for one in classes.uses.classes]
+    taken: list[list[Any]] = [classes.files.of(row).sizes[name] for row, name in enumerate(names)]
 
     def rows() -> Iterator[Markup]:
-        for name, taken in known[:LARGEST]:
-            yield part("row")(taken, classes.class_link(packages.class_rows[name], "class/"))
+        for row in sorted(range(len(names)), key=lambda row: (-taken[row][0], names[row], row))[:LARGEST]:
+            yield part("row")(taken[row], classes.class_link(row, "class/"))
 
     return table("By their bytes; strip is what dexasm strip takes away", (*COLUMNS, "class"), rows())
 
@@ -190,14 +232,15 @@ def strings(parts: list[Part], count: int, lead: Markup) -> Markup:
     return page("strings", count_here=len(parts), count=count, lead=lead, rows=rows, **ends)
 
 
-def reading() -> Markup:
+def reading(are_several: bool) -> Markup:
     instructions, types = ([(part("code")(word), Markup(said)) for word, said in rows] for rows in (READING, TYPES))
-    return page("help", instructions=facts(instructions), types=facts(types), longest=LONGEST)
+    return page("help", instructions=facts(instructions), types=facts(types), longest=LONGEST, are_several=are_several)
 
 
 def shards(classes: Classes, pages: list[list[int]], found: list[str], cuts: Cuts) -> Iterator[str]:
-    """The index as scripts: of each page of a class the class's name, the page's, the number of its first member and
-    the members' names; and strings. `pages` has of each class the numbers of the members with which its pages begin.
+    """The index as scripts: of each page of a class the class's name, the page's, the number of its first member, the
+    members' names, and of several files its own; and strings. `pages` has of each class the numbers of the members with
+    which its pages begin.
     """
     uses = classes.uses
     rows, count = [], 0
@@ -205,7 +248,8 @@ def shards(classes: Classes, pages: list[list[int]], found: list[str], cuts: Cut
         ends = [*pages[at][1:], len(uses.members[at])]
         for cut, (first, end) in enumerate(zip(pages[at], ends)):
             names = [seen(title(member)) for member in uses.members[at][first:end]]
-            rows.append([seen(one.name.pretty), file_of(at, cut), first, names])
+            row = [seen(one.name.pretty), file_of(at, cut), first, names]
+            rows.append([*row, seen(classes.files.name(at))] if classes.files.are_several else row)
             count += 1 + len(names)
             if count >= SHARD:
                 yield script(rows, [])

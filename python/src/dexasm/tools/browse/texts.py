@@ -62,4 +62,4 @@ class Frame:
 
     def page(self, title: Markup, body: Markup, root: str = "../") -> str:
         """A page; `root` leads to the top of the folder."""
-        return page("browse", title=title, file=self.name, root=root, shards=self.shards, body=body)
+        return str(page("browse", title=title, file=self.name, root=root, shards=self.shards, body=body))

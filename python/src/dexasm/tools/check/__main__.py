@@ -1,42 +1,52 @@
 """Says of many files whether dexasm accepts them, in lines for people or in a form for machines.
 
-usage: dexasm-check [--lint] [--quiet] [--color auto|always|never] [--jobs N] [--seconds N] [--memory SIZE] PATH..
+usage: dexasm-check [--lint] [--quiet] [--allow-empty] [--color auto|always|never] [--jobs N] [--seconds N]
+                    [--memory SIZE] PATH..
        dexasm-check --json [--program] [--lint] [--quiet] [..] PATH..
        dexasm-check --sarif|--github|--junit [--lint] [--quiet] [..] PATH..
 
-PATH is a .dex file, a zip archive, of which each classes*.dex is looked at, or a listing, which is assembled. What is
-called *.dex is the first, *.apk, *.jar and *.zip are the second, and of others the first bytes say it. Of a folder it
-is each file below that is called *.dex, in any case; no link is followed there. `-` reads paths from standard input,
-each with a NUL after it. There is a line for each, in the order of the paths:
+PATH is a .dex file, a zip archive, of which each *.dex is looked at, or a listing, which is assembled. What is called
+*.dex is the first, *.apk, *.jar, *.zip, *.aar, *.aab and *.apks are the second, in any case, and of others the first
+bytes say it. Archives in an archive are looked into too, one deep. Of a folder it is each file below that has such a
+name, or begins as a .dex file or an archive does. A link there isn't followed: each has a line, and so have pipes and
+devices; it is an error where something could pass unseen (what it leads to has such a name, begins so or is a folder,
+and lies elsewhere). `-` reads paths from standard input, each with a NUL after it. There is a line for each, in the
+order of the paths:
 
   a.dex: ok
   a.dex:0x0c: error: 9 Signature: the SHA-1 differs
   app.apk!classes2.dex: ok
+  app.aab!base/dex/classes.dex: ok
   x.txt:12:8: error: 102 Number: v16: v0 to v15 here; move/from16 or move/16 takes more
 
 After the name stands the place: the byte of a file, or line and column of a listing. Where no line is known of a class
-that breaks a rule, its number is told. What can't be read is such a line too, and the others go on. An archive without
-a classes*.dex is accepted, unless it is called *.apk.
+that breaks a rule, its number is told. What can't be read is such a line too, and the others go on; a file is one that
+begins as something else, with an archive behind that. An archive without a *.dex is accepted, unless it is called
+*.apk. Where nothing was looked at, a line on standard error says so and the status is 3.
 
+  --allow-empty  accepts that
   --lint     of what dexasm accepts, what a device would still refuse: each place where it breaks a rule of dexasm-lint
              (with its --code, whose manual has them) is such a line, and where none does it is `ok`:
              x.txt:9:12: error: v3 holds 0.., and .. (register-kind, B1)
   --quiet    leaves out what is accepted
   --json     a line of JSON for each: file, uri, kind (dex, listing, archive), status, number, name, place, line,
-             column, class, member, instruction, sentence, why, program; what isn't known is null. The status is ok,
-             refused, empty (an archive without a classes*.dex), failed (it can't be read), time, memory or killed.
-             With --lint also address, register, rule and page, and the status broken
+             column, class, member, instruction, sentence, why, program, dexasm; what isn't known is null. The status is
+             ok, refused, empty (an archive without a *.dex), skipped (a link or no file, or an archive two deep, which
+             is accepted), failed (it can't be read), time, memory or killed. dexasm has version, build (proved, quick
+             or unknown) and sha256 of what answers. With --lint also address, register, rule and page, and the status
+             broken
   --program  has program say the SHA-256 of the stripped bytes: equal where two files are one program
-  --sarif    one document of SARIF 2.1.0, which has what isn't accepted
-  --github   what isn't accepted as commands of a workflow of GitHub, which shows them at the file
+  --sarif    one document of SARIF 2.1.0, which has what isn't accepted, as notes what was skipped, and dexasm as above
+  --github   what isn't accepted, and what was skipped, as commands of a workflow of GitHub, which shows it at the file
   --junit    one document as JUnit writes it, for other servers
   --color    on a terminal, unless NO_COLOR is set, the verdicts have colours; always and never say so of each output
 
 The files are looked at by up to --jobs N workers (as many as there are processors): one for some thousands of small
-files or some megabytes, and another for each that many more. Each file may take --seconds N of its processor (60, or a
-fraction such as 0.5; ten times as much by the clock) and --memory SIZE (2G); one at which a worker is stopped has a
-line that says so. On a terminal a line tells how far it is. Without libdexasm each file is a run of dexasm, which takes
-longer.
+files or some megabytes, and another for each that many more. Each file, an archive with all that is in it, may take
+--seconds N of its processor (60, or a fraction such as 0.5; ten times as much by the clock) and --memory SIZE (2G); one
+at which a worker is stopped has a line that says so. On a terminal a line tells how far it is. Without libdexasm each
+file is a run of dexasm, which takes longer. --version tells which build answers and its SHA-256; with DEXASM=proved in
+the environment only a proved one does.
 
 Exit status: 0 all are accepted, 1 one is refused or breaks a rule, 2 wrong words, 3 one can't be read or takes too
 long, or a method isn't looked at to its end, 4 one takes more than --memory. Of several it is the highest.
@@ -46,9 +56,10 @@ from __future__ import annotations
 import os
 import sys
 
+from dexasm.tools.answering import PROVED, answering
 from dexasm.tools.basis import FAILED
 from dexasm.tools.check.checkers import inputs, judge_all, lead
-from dexasm.tools.helper import helper, positive, seconds, size
+from dexasm.tools.helper import Version, helper, positive, say, seconds, size
 from dexasm.tools.terminal import Line, is_colored
 from dexasm.tools.verdicts import ACCEPTED, GitHub, JUnit, Json, Sarif, Text, is_of_member, status_of
 
@@ -59,6 +70,7 @@ if TYPE_CHECKING:
     from dexasm.tools.check.checkers import Verdict
     from dexasm.tools.helper import Words
 
+NOTHING = "nothing was looked at: no .dex file, archive or listing is there (--allow-empty takes that)"
 FORMS: dict[str, type[Text]] = {"json": Json, "sarif": Sarif, "github": GitHub, "junit": JUnit}
 
 
@@ -68,6 +80,7 @@ class Told:
     def __init__(self, form: Text, is_quiet: bool, count: int) -> None:
         self.form, self.is_quiet, self.count = form, is_quiet, count
         self.status = self.done = self.bad = 0
+        self.has_looked = False  # at anything
         self.last: tuple[bytes, str] | None = None
         self.line = Line()
 
@@ -82,6 +95,7 @@ class Told:
             self.done, self.bad = self.done + 1, self.bad + is_bad
         self.last = file
         self.status = max(self.status, status_of(verdict))
+        self.has_looked = self.has_looked or verdict.status != "skipped"
         if is_bad or not self.is_quiet:
             self.print(self.form.lines(verdict))
         self.wait()
@@ -89,7 +103,26 @@ class Told:
     def print(self, lines: list[str]) -> None:
         if lines:
             self.line.draw()
-            print(*lines, sep="\n")
+            self.form.print(lines)
+
+    def end(self, is_empty_allowed: bool) -> int:
+        """Tells where nothing was looked at, and what comes last; answers the status."""
+        if not self.has_looked and not is_empty_allowed:
+            self.status = FAILED
+            self.print(self.form.nothing(NOTHING))
+        self.print(self.form.end(self.status))
+        if not self.has_looked and not is_empty_allowed:
+            sys.stdout.flush()
+            say(f"dexasm-check: {NOTHING}")
+        return self.status
+
+
+class Build(Version):
+    """Prints the version, and which build of dexasm answers."""
+
+    def told(self, prog: str) -> str:
+        lead()
+        return f"{super().told(prog)}\n{answering()}"
 
 
 def words_of(words: Words) -> Namespace:
@@ -99,10 +132,12 @@ def words_of(words: Words) -> Namespace:
     words.add_argument("--program", action="store_true")
     words.add_argument("--lint", action="store_true")
     words.add_argument("--quiet", action="store_true")
+    words.add_argument("--allow-empty", action="store_true")
     words.add_argument("--color", choices=("auto", "always", "never"), default="auto")
     words.add_argument("--jobs", type=positive, default=os.cpu_count())
     words.add_argument("--seconds", type=seconds, default=60)
     words.add_argument("--memory", type=size, default=2 << 30)
+    words.add_argument("--version", action=Build)
     words.add_argument("paths", nargs="+", metavar="PATH")
     asked = words.parse_args()
     if asked.program and asked.form != "json":
@@ -122,14 +157,15 @@ def main(words: Words) -> int:
     form = form_of(asked)
     found = [*inputs(asked.paths)]
     lead()
+    if form.tells_build or os.environ.get("DEXASM") == PROVED:
+        form.build = answering()
     told = Told(form, asked.quiet, len(found))
     try:
         for verdict in judge_all(found, asked, told.wait):
             told.take(verdict)
     finally:
         told.line.draw()
-    told.print(form.end(told.status))
-    return told.status
+    return told.end(asked.allow_empty)
 
 
 if __name__ == "__main__":

@@ -6,16 +6,20 @@ from __future__ import annotations
 import collections
 import contextlib
 import os
+import time
 from collections.abc import Callable, Generator, Iterable, Iterator
 from typing import Any, NamedTuple
 
 from dexasm.tools.asking import command
 from dexasm.tools.basis import Failed, reason
-from dexasm.tools.paths import named, walked
+from dexasm.tools.check.judge import NOTED
+from dexasm.tools.paths import begins_as_one, is_named_as_one, named, passed_over, walked
 from dexasm.tools.places import LIBRARY
 from dexasm.tools.workers import looker
-from dexasm.tools.workers.looker import ENDS, SAID, TRIES, Looker
+from dexasm.tools.workers.looker import ENDS, TRIES, Looker
+from dexasm.tools.workers.loop import SAID
 
+WORKERS = 8  # that may end at one archive
 MANY, MUCH = 1024, 4 << 20  # files and bytes that a worker is given at once
 AHEAD = 4  # times as much as the workers do is given out before
 # So many bytes are worth a further worker, which takes as long to begin as the first one takes for most of them; a file
@@ -27,8 +31,9 @@ SOON = 0.5  # seconds after which the one who waits looks up
 
 class Verdict(NamedTuple):
     """What is known of a file, or of an entry of an archive. The status is `ok`, `refused`, `empty` (an archive without
-    a .dex file), or why it wasn't looked at: `failed`, `time`, `memory`, `killed`. For dexasm-lint it is what is known
-    of a place of a program: `broken`, with the rule's word and the part of the page that it belongs to.
+    a .dex file), or why it wasn't looked at: `skipped` (and it needn't be), `failed`, `time`, `memory`, `killed`. For
+    dexasm-lint it is what is known of a place of a program: `broken`, with the rule's word and the part of the page
+    that it belongs to.
     """
 
     path: bytes
@@ -63,32 +68,48 @@ class Checker(Looker):
         super().__init__(asked.seconds, asked.memory, asked.program)
         self.is_linted = asked.lint
         self.broken = 0  # how many rules that the file breaks at which the worker is were told
+        self.begin_file()
+
+    def begin_file(self) -> None:
+        self.told: list[str] = []  # of an archive
+        self.left: tuple[float, float] | None = None  # of its time, when what is looked at now was begun
+        self.begun = 0.0
+        self.workers = 0  # that have ended at it
 
     def judge(self, paths: list[bytes]) -> Iterator[Verdict]:
         """Verdicts of the paths, in their order."""
-        skipped: list[str] = []
         killed = 0
         while paths:
             if self.worker is None:
                 self.start()
-            self.send((paths, tuple(skipped), self.is_linted))
-            done, entry = yield from self.hear_all(paths, skipped)
+            self.send((paths, self.told, self.left, self.is_linted))
+            done, entry = yield from self.hear_all(paths)
             if done:
                 paths, killed = paths[done:], 0
             if not paths:
                 return
             status, killed = ENDS.get(self.ended()), killed + 1
+            is_last = entry != "" and self.is_spent(status)
             # (what a worker held of files before counts as its memory, so that is tried in a new one)
-            if status is None and killed < TRIES or status == "memory" and self.jobs:
+            if not is_last and (status is None and killed < TRIES or status == "memory" and self.jobs):
                 continue
             killed, status, self.broken = 0, status or "killed", 0
-            yield Verdict(paths[0], entry, None, status, why=SAID[status])
-            if entry:
-                skipped.append(entry)
-            else:
-                paths, skipped = paths[1:], []
+            why = SAID[status] + (": nothing behind it in the archive is looked at" if is_last else "")
+            yield Verdict(paths[0], entry, None, status, why=why)
+            self.told.append(entry)
+            if is_last or not entry:
+                paths = paths[1:]
+                self.begin_file()
 
-    def hear_all(self, paths: list[bytes], skipped: list[str]) -> Generator[Verdict, None, tuple[int, str]]:
+    def is_spent(self, status: str | None) -> bool:
+        """Whether the archive at which a worker ended has had all that it may have."""
+        self.workers += 1
+        if self.left is not None:
+            taken = time.monotonic() - self.begun
+            self.left = self.left[0] - taken, self.left[1] - taken
+        return status == "time" or self.workers >= WORKERS or self.left is not None and min(self.left) <= 0
+
+    def hear_all(self, paths: list[bytes]) -> Generator[Verdict, None, tuple[int, str]]:
         """What the worker tells, and then how many paths are done, and in which entry of the next one it ended."""
         done, entry, broken = 0, "", 0
         while (said := self.said()) is not None and said[0] != "end":
@@ -99,17 +120,19 @@ class Checker(Looker):
                     self.broken = broken
                     yield Verdict(paths[done], entry, **said[2])
                 continue
+            if what == "begun":
+                self.left, self.begun = said[2], time.monotonic()
+                continue
+            if what == "note" or not broken and what == "verdict":
+                yield Verdict(paths[done], entry, **said[2])
+            self.told.append(f"{entry}{NOTED}" if what == "note" else entry)
             if what == "verdict":
-                if not broken:
-                    yield Verdict(paths[done], entry, **said[2])
                 self.jobs += 1
                 broken = self.broken = 0
-                skipped.append(entry)
             if what == "next" or what == "verdict" and not entry:
                 done += 1
-                skipped.clear()
-            if what != "begun":
-                entry = ""
+                self.begin_file()
+            entry = ""
         return done, entry
 
 
@@ -127,22 +150,40 @@ def lead() -> None:
 
 
 def inputs(words: list[str]) -> Iterator[tuple[bytes, int] | Verdict]:
-    """The files of the paths with their sizes; of a folder those that are called *.dex. What can't be read is a
-    verdict.
+    """The files of the paths with their sizes; of a folder those that are called as .dex files or archives are, or begin
+    as these do. What can't be read is a verdict, and so is what stands below a folder and is neither file nor folder.
     """
-    wrongs: list[Verdict] = []
+    told: list[Verdict] = []
 
     def wrong(path: bytes, error: OSError) -> None:
-        wrongs.append(Verdict(path, "", None, "failed", why=reason(error)))
+        told.append(Verdict(path, "", None, "failed", why=reason(error)))
+
+    def other(top: bytes, path: bytes) -> None:
+        try:
+            is_wrong, why = passed_over(top, path)
+        except OSError as error:
+            wrong(path, error)
+        else:
+            told.append(Verdict(path, "", None, "failed" if is_wrong else "skipped", why=why))
 
     for path in named(words):
-        for file, is_named, size in walked(path, wrong):
-            while wrongs:
-                yield wrongs.pop(0)
-            if is_named or file.lower().endswith(b".dex"):
+        for file, is_named, size in walked(path, wrong, other):
+            is_one = is_named or is_looked_at(file, wrong)
+            while told:
+                yield told.pop(0)
+            if is_one:
                 yield file, size
-        while wrongs:
-            yield wrongs.pop(0)
+        while told:
+            yield told.pop(0)
+
+
+def is_looked_at(path: bytes, wrong: Callable[[bytes, OSError], None]) -> bool:
+    """Whether a file below a folder is looked at."""
+    try:
+        return is_named_as_one(path) or begins_as_one(path)
+    except OSError as error:
+        wrong(path, error)
+        return False
 
 
 def batches(found: Iterable[tuple[bytes, int] | Verdict], is_linted: bool) -> Iterator[list[bytes] | Verdict]:

@@ -8,21 +8,23 @@ from __future__ import annotations
 
 import resource
 
-from dexasm.tools.basis import ZIP, Failed, reason
-from dexasm.tools.workers.loop import opened_file
+from dexasm.tools.basis import ZIP, Failed, is_archive_name, is_dex_name, reason
+from dexasm.tools.workers.loop import SAID, opened_file
 
 TYPE_CHECKING = False  # (as in typing, which takes as long to read as all else here)
 if TYPE_CHECKING:
     import io
     import zipfile
-    from collections.abc import Callable, Iterator
+    from collections.abc import Iterator
     from typing import Any
 
-ARCHIVES = (b".apk", b".jar", b".zip")
+    from dexasm.tools.workers.loop import Teller
+
+NOTED = "!"  # ends what stands for a note of an archive among what was told
 
 
 class Batch:
-    """Paths; of the first one the entries that aren't looked at again."""
+    """Paths; of the first one, where it is an archive, what was told of it already and the time that is left of it."""
 
     needs = ()
     # What archives and listings need, and the rules of dexasm-lint, read before the first of these so that it takes no
@@ -30,13 +32,16 @@ class Batch:
     more = "dexasm.tools.archives", "dexasm.tools.faults", "dexasm.faultline"
     rules = "dexasm.program", "dexasm.tools.lint.code"
 
-    def __init__(self, paths: list[bytes], skipped: tuple[str, ...], is_linted: bool) -> None:
-        self.paths, self.skipped, self.is_linted = paths, skipped, is_linted
+    def __init__(
+        self, paths: list[bytes], told: list[str], left: tuple[float, float] | None, is_linted: bool
+    ) -> None:
+        self.paths, self.told, self.left, self.is_linted = paths, set(told), left, is_linted
+        self.room = 0  # how many more bytes are taken out of the archive that is looked at
         are_files = all(path.lower().endswith(b".dex") for path in paths)
         for name in (() if are_files else self.more) + (self.rules if is_linted else ()):
             __import__(name)
 
-    def look(self, tell: Callable[..., None], is_hashed: bool) -> None:
+    def look(self, tell: Teller, is_hashed: bool) -> None:
         """Tells a verdict of each path that is a file. Of an archive it tells which entry it begins, a verdict of each,
         and `next` after the last one.
         """
@@ -46,47 +51,121 @@ class Batch:
                 with opened_file(path) as file:
                     kind = kind_of(path, file)
                     if kind == "archive":
-                        from dexasm.tools.archives import opened
-
-                        with opened("", file) as archive:
-                            self.look_into(path, archive, tell, is_hashed)
+                        self.look_at_archive(path, file, tell, is_hashed)
                     else:
                         self.judge("", file.read(), kind, tell, is_hashed)
             except Failed as failed:
+                tell.end_sum()
                 tell("verdict", "", unread(failed.line.removeprefix(": "), kind))
             except OSError as error:
+                tell.end_sum()
                 tell("verdict", "", unread(reason(error), kind))
-            self.skipped = ()
+            self.told, self.left = set(), None
 
-    def look_into(
-        self, path: bytes, archive: zipfile.ZipFile, tell: Callable[..., None], is_hashed: bool
-    ) -> None:
-        from dexasm.tools.archives import dex_files, taken_out
+    def look_at_archive(self, path: bytes, file: io.BufferedReader, tell: Teller, is_hashed: bool) -> None:
+        """All that is in it takes no more time and memory than one file may."""
+        from dexasm.tools.archives import opened
 
-        found = dex_files(archive)
-        if not found:
-            # (a .jar needn't have any, and each project of Gradle has one that hasn't)
-            is_apk = path.lower().endswith(b".apk")
-            why = "no classes*.dex in it"
-            tell("verdict", "", unread(why, "archive") if is_apk else told("archive", "empty", why=why))
+        tell.begin_sum(self.left)
+        self.room = resource.getrlimit(resource.RLIMIT_AS)[0]
+        with opened("", file) as archive:
+            file.seek(0)
+            self.note_front("", file.peek(len(ZIP)), tell)
+            count = self.look_into("", archive, tell, is_hashed)
+        tell.end_sum()
+        if count or self.told:
+            tell("next", None)
             return
-        for name, entries in found:
-            if name in self.skipped:
-                continue
-            tell("begun", name)
-            try:
-                # (as it says itself: zipfile reads no more of it, and copies it again and again)
-                if entries[0].file_size > resource.getrlimit(resource.RLIMIT_AS)[0]:
-                    raise MemoryError
-                given = taken_out(archive, entries)
-            except Failed as failed:
-                tell("verdict", name, unread(failed.line))
+        # (a .jar needn't have any, and each project of Gradle has one that hasn't)
+        why = "no .dex file in it"
+        is_apk = path.lower().endswith(b".apk")
+        tell("verdict", "", unread(why, "archive") if is_apk else told("archive", "empty", why=why))
+
+    def look_into(self, within: str, archive: zipfile.ZipFile, tell: Teller, is_hashed: bool) -> int:
+        """Looks at what an archive has; `within` is its name where it is one in another. Answers how many .dex files
+        there are.
+        """
+        from dexasm.tools.archives import all_files
+
+        count = 0
+        for name, entries in all_files(archive):
+            place = f"{within}!{name}" if within else name
+            if is_dex_name(name):
+                self.look_at_entry(place, archive, entries, tell, is_hashed)
+                count += 1
+            elif within:
+                self.note(place, told("archive", "skipped", why="an archive two archives deep"), tell)
             else:
-                self.judge(name, given, "dex", tell, is_hashed)
-        tell("next", None)
+                count += self.look_inside(place, archive, entries, tell, is_hashed)
+        return count
+
+    def look_at_entry(
+        self, place: str, archive: zipfile.ZipFile, entries: list[zipfile.ZipInfo], tell: Teller, is_hashed: bool
+    ) -> None:
+        """Tells of a .dex file of an archive, unless that was told."""
+        from dexasm.tools.archives import taken_out
+
+        has_room = self.has_room(entries)
+        if place in self.told:
+            return
+        if not has_room:
+            tell("verdict", place, told("dex", "memory", why=SAID["memory"]))
+            return
+        tell("begun", place, tell.left())
+        try:
+            given = taken_out(archive, entries)
+        except Failed as failed:
+            tell("verdict", place, unread(failed.line))
+        else:
+            self.judge(place, given, "dex", tell, is_hashed)
+
+    def look_inside(
+        self, place: str, archive: zipfile.ZipFile, entries: list[zipfile.ZipInfo], tell: Teller, is_hashed: bool
+    ) -> int:
+        """Looks into an archive in an archive. What is wrong with it as a whole is a verdict of it."""
+        import io
+
+        from dexasm.tools.archives import opened, taken_out
+
+        has_room = self.has_room(entries)
+        if place in self.told:
+            return 0
+        if not has_room:
+            self.note(place, told("archive", "memory", why=SAID["memory"]), tell)
+            return 0
+        tell("begun", place, tell.left())
+        try:
+            given = taken_out(archive, entries)
+            with opened("", io.BytesIO(given)) as inner:
+                self.note_front(place, given, tell)
+                return self.look_into(place, inner, tell, is_hashed)
+        except Failed as failed:
+            self.note(place, unread(failed.line.removeprefix(": "), "archive"), tell)
+            return 0
+
+    def has_room(self, entries: list[zipfile.ZipInfo]) -> bool:
+        """Whether an entry fits into what is left of the archive's memory, as it says itself, and takes that."""
+        size = entries[0].file_size
+        if size > self.room:
+            return False
+        self.room -= size
+        return True
+
+    def note(self, place: str, verdict: dict[str, object], tell: Teller) -> None:
+        """Tells of an archive, which may have more to be told of, what wasn't told yet."""
+        if place + NOTED not in self.told:
+            self.told.add(place + NOTED)
+            tell("note", place, verdict)
+
+    def note_front(self, place: str, first: bytes, tell: Teller) -> None:
+        from dexasm.tools.archives import wrong_front
+
+        why = wrong_front(first)
+        if why is not None:
+            self.note(place, unread(why, "archive"), tell)
 
     def judge(
-        self, entry: str, given: bytes, kind: str | None, tell: Callable[..., None], is_hashed: bool
+        self, entry: str, given: bytes, kind: str | None, tell: Teller, is_hashed: bool
     ) -> None:
         """Tells what is known of these bytes, and before it each rule of dexasm-lint that their program breaks."""
         made, verdict = judged(given, kind, is_hashed)
@@ -98,10 +177,10 @@ class Batch:
 
 def kind_of(path: bytes, file: io.BufferedReader) -> str | None:
     """What a file is, by its name, and of other names by its first bytes; None if all have to be read for that."""
-    name = path.lower()
-    if name.endswith(b".dex"):
+    name = path.decode("utf8", "surrogateescape")
+    if is_dex_name(name):
         return "dex"
-    return "archive" if name.endswith(ARCHIVES) or file.peek(len(ZIP)).startswith(ZIP) else None
+    return "archive" if is_archive_name(name) or file.peek(len(ZIP)).startswith(ZIP) else None
 
 
 def judged(given: bytes, kind: str | None, is_hashed: bool) -> tuple[bytes | None, dict[str, object]]:

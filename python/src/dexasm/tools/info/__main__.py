@@ -21,7 +21,8 @@ With --json all of that is one JSON object. --hex prints every byte, or those fr
 may be left out), each once, with what it is: fields, rows, strings, and each instruction behind its address in units of
 16 bits. Offsets are in hexadecimal. Of a refused file it tells what can be read, and the fault is marked.
 
-FILE is standard input where it is left out or `-`.
+FILE is standard input where it is left out or `-`. Of an archive each classes*.dex is told of, with a line before it that
+names it (in JSON a line with `entry` for each); app.apk!classes2.dex is one of them alone.
 
 Exit status: 0 the file is accepted, 1 it is refused, 2 wrong words, 3 something can't be read or written, 4 out of
 memory.
@@ -30,13 +31,14 @@ from __future__ import annotations
 
 import json
 import re
+import sys
 
 from dexasm.tools.asking import ask
 from dexasm.tools.basis import REFUSED, ZIP, Failed
-from dexasm.tools.files import get, name_of
 from dexasm.tools.helper import helper, say
 from dexasm.tools.info.dump import dump
 from dexasm.tools.info.tables import ROWS, as_text, hashes, header, line_of, map_entries, rows_read, sections, tables
+from dexasm.tools.inputs import inputs_of
 from dexasm.tools.layout import KINDS, Dex, sizes
 
 TYPE_CHECKING = False  # (as in typing)
@@ -46,6 +48,7 @@ if TYPE_CHECKING:
     from typing import Any
 
     from dexasm.tools.helper import Words
+    from dexasm.tools.inputs import Input
 
 RANGE = re.compile(r"(0x[0-9A-Fa-f]{1,16}|[0-9]{1,19})?\.\.(0x[0-9A-Fa-f]{1,16}|[0-9]{1,19})?")
 
@@ -144,10 +147,19 @@ def main(words: Words) -> int:
     words.add_argument("file", nargs="?")
     asked = words.parse_args()
     low, high = asked_range(words, asked) if asked.hex is not None else (0, None)
-    path = None if asked.file == "-" else asked.file
-    data, name = get(path), name_of(path)
+    path, statuses = None if asked.file == "-" else asked.file, [0]
+    for given in inputs_of(path):
+        if given.entry and not asked.json:
+            print(given.name)
+        statuses.append(tell(asked, given, words.prog, low, high))
+    return max(statuses)
+
+
+def tell(asked: Namespace, given: Input, prog: str, low: int, high: int | None) -> int:
+    """Prints what is in one file, and answers the status."""
+    data, name = given.data, given.name
     if data.startswith(ZIP):
-        raise Failed(f"{name}: a zip archive: dexasm-apk looks at the .dex files in it")
+        raise Failed(f"{name}: a zip archive, whose .dex files can be read where it is a file that is named")
     ended = ask("check", given=data)
     refusal = ended.refusal()
     if ended.status and not refusal:
@@ -155,12 +167,15 @@ def main(words: Words) -> int:
     if asked.hex is not None:
         found: Iterable[str] = dump(data, name, refusal, low, len(data) if high is None else high)
     else:
-        told = facts(data, refusal, words.prog, name)
+        told = facts(data, refusal, prog, name)
+        told |= {"entry": given.entry} if given.entry else {}
         found = [json.dumps(told)] if asked.json else refused_lines(told, data) if refusal else lines(told, data)
     for line in found:
         print(line)
     if refusal:
-        raise Failed(f"{name}: {ended.last()}", REFUSED)
+        sys.stdout.flush()
+        say(f"{prog}: {name}: {ended.last()}")
+        return REFUSED
     return 0
 
 

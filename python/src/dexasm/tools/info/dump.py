@@ -10,6 +10,7 @@ import struct
 from collections.abc import Callable, Iterable, Iterator
 from functools import partial
 
+from dexasm.flags import CLASS_FLAGS, FIELD_FLAGS, METHOD_FLAGS
 from dexasm.tools.asking import listed
 from dexasm.tools.escapes import shortened
 from dexasm.tools.info.tables import MAP_TYPES, ROWS, Readable, as_text, has_tables, header, map_place, quoted, spelled
@@ -39,7 +40,7 @@ from dexasm.tools.layout import (
     units_of,
     values,
 )
-from dexasm.tools.uses import CLASS_FLAGS, FIELD_FLAGS, METHOD_FLAGS, flag_words
+from dexasm.tools.uses import flag_words
 
 TYPE_CHECKING = False  # (as in typing)
 if TYPE_CHECKING:

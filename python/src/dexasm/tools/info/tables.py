@@ -8,9 +8,10 @@ import hashlib
 import struct
 from collections.abc import Iterator
 
+from dexasm.flags import CLASS_FLAGS
 from dexasm.tools.basis import DEX
 from dexasm.tools.layout import ABSENT, HEADER, MAP_OFF, NO_FILE, TABLES, Outside, Reader, Tables
-from dexasm.tools.uses import CLASS_FLAGS, flag_words
+from dexasm.tools.uses import flag_words
 
 TYPE_CHECKING = False  # (as in typing)
 if TYPE_CHECKING:

@@ -11,14 +11,16 @@
   const entries = [];
   let loaded = 0, due = 0;
 
-  const add = (owner, name, to) => entries.push([owner, name, to, owner.toLowerCase(), name.toLowerCase()]);
+  // (of several files each class has its own)
+  const add = (owner, name, to, file) =>
+    entries.push([owner, name, to, owner.toLowerCase(), name.toLowerCase(), file && ` of ${file}`]);
 
   window.dexasmIndex = (classes, strings) => {
-    for (const [owner, page, first, names] of classes) {
-      if (first === 0) add(owner, '', `class/${page}`);
-      names.forEach((name, at) => add(owner, name, `class/${page}#${first + at}`));
+    for (const [owner, page, first, names, file = ''] of classes) {
+      if (first === 0) add(owner, '', `class/${page}`, file);
+      names.forEach((name, at) => add(owner, name, `class/${page}#${first + at}`, file));
     }
-    for (const [text, place] of strings) add('', text, `strings/${place}`);
+    for (const [text, place] of strings) add('', text, `strings/${place}`, '');
     loaded += 1;
     search();
   };
@@ -56,12 +58,12 @@
     return isolated;
   });
 
-  const shown = (owner, name, to) => {
+  const shown = (owner, name, to, file) => {
     const item = document.createElement('li'), link = document.createElement('a');
     const more = document.createElement('small');
     link.href = root + to;
     link.append(...inOrder(name || owner));
-    more.append(...owner === '' ? [' (a string)'] : name === '' ? [' (a class)'] : [' in ', ...inOrder(owner)]);
+    more.append(...owner === '' ? [' (a string)'] : name === '' ? [' (a class)'] : [' in ', ...inOrder(owner)], file);
     item.append(link, more);
     return item;
   };
@@ -77,7 +79,7 @@
       if (near !== undefined) hits.push([near, entry]);
     }
     hits.sort((a, b) => a[0] - b[0]);
-    list.replaceChildren(...hits.slice(0, MOST).map(([, entry]) => shown(...entry)));
+    list.replaceChildren(...hits.slice(0, MOST).map(([, [owner, name, to, , , file]]) => shown(owner, name, to, file)));
     const count = hits.length > MOST ? `${MOST} of ${hits.length} found` : `${hits.length} found`;
     said.textContent = loaded < Number(shards) ? `${count}, still looking` : count;
   };

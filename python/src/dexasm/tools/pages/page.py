@@ -193,7 +193,7 @@ def sums(columns: Iterable[str], rows: dict[str, list[Any]]) -> Markup:
 
 def page_of(template: str, title: str, **given: object) -> str:
     """A page of dexasm-size that nothing of somebody else's making is obeyed on."""
-    return page(template, title=title, style=read("pages.css"), script=read("pages.js"), **given)
+    return str(page(template, title=title, style=read("pages.css"), script=read("pages.js"), **given))
 
 
 def html_page(

@@ -20,11 +20,6 @@ if TYPE_CHECKING:
     from typing import Any
 
 TRIES = 3  # how often a job is begun whose worker was killed by somebody
-SAID = {
-    "time": "it takes longer than --seconds",
-    "memory": "it takes more than --memory",
-    "killed": "its worker was killed",
-}
 ENDS = {-signal.SIGPROF: "time", -signal.SIGALRM: "time", MEMORY: "memory"}
 PROGRAM = os.path.join(os.path.dirname(os.path.realpath(__file__)), "__main__.py")
 everybody: weakref.WeakSet[Looker] = weakref.WeakSet()

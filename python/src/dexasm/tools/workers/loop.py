@@ -20,25 +20,48 @@ if TYPE_CHECKING:
     from typing import Any
 
 CLOCK = 10  # a file may take so many times its processor seconds by the clock
+WATCHING = 1 << 18  # bytes of stack for the one that waits for that
+SAID = {
+    "time": "it takes longer than --seconds",
+    "memory": "it takes more than --memory",
+    "killed": "its worker was killed",
+}
 
 
 class Teller:
-    """Writes what a worker found; time that this takes isn't the file's."""
+    """Writes what a worker found; time that this takes isn't the file's. Several files can have one sum of time."""
 
     def __init__(self, seconds: float) -> None:
         self.out, self.seconds = os.fdopen(os.dup(1), "wb"), seconds
+        self.is_sum = False
         os.dup2(2, 1)
 
-    def begin(self, seconds: float | None = None) -> None:
-        seconds = self.seconds if seconds is None else seconds
-        signal.setitimer(signal.ITIMER_PROF, seconds)
-        signal.setitimer(signal.ITIMER_REAL, CLOCK * seconds)
+    def begin(self, left: tuple[float, float] | None = None) -> None:
+        """Begins a file's time, by the processor and by the clock."""
+        processor, clock = left or (self.seconds, CLOCK * self.seconds)
+        signal.setitimer(signal.ITIMER_PROF, processor)
+        signal.setitimer(signal.ITIMER_REAL, clock)
 
-    def tell(self, *found: Any) -> None:
-        self.begin(0)
+    def left(self) -> tuple[float, float]:
+        return signal.getitimer(signal.ITIMER_PROF)[0], signal.getitimer(signal.ITIMER_REAL)[0]
+
+    def begin_sum(self, left: tuple[float, float] | None) -> None:
+        self.is_sum = True
+        self.begin(left)
+
+    def end_sum(self) -> None:
+        self.is_sum = False
+
+    def __call__(self, *found: Any) -> None:
+        left = self.left() if self.is_sum else None
+        self.stop()
         marshal.dump(found, self.out)
         self.out.flush()
-        self.begin()
+        self.begin(left)
+
+    def stop(self) -> None:
+        signal.setitimer(signal.ITIMER_PROF, 0)
+        signal.setitimer(signal.ITIMER_REAL, 0)
 
 
 def opened_file(path: bytes) -> io.BufferedReader:
@@ -50,36 +73,53 @@ def opened_file(path: bytes) -> io.BufferedReader:
     return os.fdopen(at, "rb")
 
 
+def watch(jobs: int) -> None:
+    """Ends this worker, with what it runs, as soon as nobody is left who could give it a job."""
+    import _thread
+    import select
+
+    def wait() -> None:
+        poll = select.poll()
+        poll.register(jobs, 0)
+        poll.poll()  # (for the other end to be closed, which is told in any case)
+        os.killpg(0, signal.SIGKILL)
+
+    _thread.stack_size(WATCHING)
+    _thread.start_new_thread(wait, ())
+    _thread.stack_size(0)
+
+
 def work(seconds: float, memory: int, kind: type[Any]) -> None:
     """The worker: begins with what all jobs need (the keys of the files that are in, and the modules that the kind of
     job names, which take no file's time), ends with its input or when memory ran out.
     """
     teller, jobs = Teller(seconds), sys.stdin.buffer
+    watch(jobs.fileno())
     known = marshal.load(jobs)
     try:
         import dexasm
 
         for name in kind.needs:
             __import__(name)
-        teller.tell("ready", dexasm.version())
+        teller("ready", dexasm.version())
     except (ImportError, OSError, AttributeError) as error:
-        teller.tell("not ready", str(error))
+        teller("not ready", str(error))
         return
     resource.setrlimit(resource.RLIMIT_AS, (memory, memory))
     resource.setrlimit(resource.RLIMIT_CORE, (0, 0))
     while True:
-        teller.begin(0)
+        teller.stop()
         try:
             job = kind(*marshal.load(jobs))
         except EOFError:
             return
         teller.begin()
         try:
-            job.look(teller.tell, known)
+            job.look(teller, known)
         except Failed as failed:
-            teller.tell("unread", "", "failed", failed.line.removeprefix(": "))
+            teller("unread", "", "failed", failed.line.removeprefix(": "))
         except OSError as error:
-            teller.tell("unread", "", "failed", reason(error))
+            teller("unread", "", "failed", reason(error))
         except MemoryError:
             os._exit(MEMORY)
-        teller.tell("end")
+        teller("end")

@@ -1,0 +1,92 @@
+"""What a helper is given: a .dex file or a listing, or the .dex files of an archive."""
+from __future__ import annotations
+
+import os
+import stat
+from typing import NamedTuple
+
+from dexasm.tools.basis import ARCHIVES_BEGIN, DEX, USAGE, Failed, is_dex_name
+from dexasm.tools.escapes import escaped
+from dexasm.tools.files import get, name_of
+
+TYPE_CHECKING = False  # (as in typing, which takes a while to read)
+if TYPE_CHECKING:
+    from collections.abc import Iterator
+
+    Path = str | bytes | None
+
+
+class Input(NamedTuple):
+    """One of them: its name in messages, the entry of an archive that it is or "", and its bytes."""
+
+    name: str
+    entry: str
+    data: bytes
+
+
+def inputs_of(path: Path, is_one: bool = False, is_empty_allowed: bool = False) -> Iterator[Input]:
+    """The file of a path, or each classes*.dex of the archive that it is; of APP.apk!classes2.dex that entry alone. With
+    is_one an archive of several is refused, since one of them has to be named.
+    """
+    archive, entry = parted(path)
+    if archive is None:
+        yield Input(name_of(path), "", get(path))
+        return
+    from dexasm.tools.archives import dex_files, files_by_name, opened, taken_out
+
+    with opened(archive) as zipped:
+        look_at_front(archive)
+        found = dex_files(zipped) if entry is None else files_by_name(zipped, lambda name: name == entry)
+        name = escaped(archive)
+        if not found and not is_empty_allowed:
+            others = files_by_name(zipped, is_dex_name) if entry is None else []
+            hint = f", but others: name one, as {name}!{escaped(others[0][0])}" if others else ""
+            raise Failed(f"{name}: no {'classes*.dex' if entry is None else escaped(entry)} in it{hint}")
+        if is_one and len(found) > 1:
+            raise Failed(f"{name}: it has {len(found)} .dex files: name one, as {name}!{found[0][0]}", USAGE)
+        for one, entries in found:
+            shown = f"{name}!{escaped(one)}"
+            try:
+                data = taken_out(zipped, entries)
+            except Failed as failed:
+                raise Failed(f"{shown}: {failed.line}") from None
+            yield Input(shown, one, data)
+
+
+def one_input(path: Path) -> Input:
+    """The file of a path, or the one .dex file of an archive."""
+    return next(inputs_of(path, is_one=True))
+
+
+def parted(path: Path) -> tuple[str | None, str | None]:
+    """The archive of a path, and the entry that the path names in it; None of each that there isn't."""
+    if path is None:
+        return None, None
+    name = os.fsdecode(path)
+    if is_archive(name):
+        return name, None
+    archive, _, entry = name.rpartition("!")
+    if not os.path.lexists(name) and is_archive(archive):
+        return archive, entry
+    return None, None
+
+
+def is_archive(path: str) -> bool:
+    """Whether a file begins as an archive does. What can't be read is told by who reads it."""
+    try:
+        if not stat.S_ISREG(os.stat(path).st_mode):
+            return False
+        with open(path, "rb") as file:
+            return file.read(len(DEX)) in ARCHIVES_BEGIN
+    except (OSError, ValueError):
+        return False
+
+
+def look_at_front(path: str) -> None:
+    """Refuses a file that begins as something else than an archive."""
+    from dexasm.tools.archives import wrong_front
+
+    with open(path, "rb") as file:
+        why = wrong_front(file.read(len(DEX)))
+    if why is not None:
+        raise Failed(f"{escaped(path)}: {why}")
