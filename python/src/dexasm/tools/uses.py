@@ -31,6 +31,21 @@ def classes_in(name: str) -> list[str]:
     return CLASS_IN.findall(owner + TYPES_BEHIND.split(signature, maxsplit=1)[1] if is_member else name)
 
 
+def unescaped(asked: str) -> str:
+    """A name of the command line, which may have the escapes of a listing."""
+    from dexasm.names import unspelled
+
+    try:
+        return unspelled(asked)
+    except ValueError:
+        return asked
+
+
+def descriptor_of(word: str) -> str:
+    """A class as FORMAT has it: `LA;` or `com.x.A`."""
+    return word if word.endswith(";") else f"L{word.replace('.', '/')};"
+
+
 def flag_words(flags: int, table: dict[int, str]) -> str:
     return " ".join(word for bit, word in table.items() if flags & bit)
 
@@ -172,13 +187,7 @@ def find(uses: Uses, asked: str) -> list[int]:
 
 def method_of(uses: Uses, asked: str, has_code: bool = False) -> int:
     """The method that a word of the command line names, which may have the escapes of a listing."""
-    from dexasm.names import unspelled
-
-    try:
-        name = unspelled(asked)
-    except ValueError:
-        name = asked
-    found = find(uses, name)
+    found = find(uses, unescaped(asked))
     said = escaped(asked)
     if len(found) != 1:
         count = f"{len(found)} methods" if found else "no method"

@@ -9,8 +9,8 @@ from typing import NamedTuple
 
 from dexasm.tools.basis import USAGE, Failed
 from dexasm.tools.escapes import escaped
-from dexasm.tools.query.show import PATTERN, pattern, unescaped
-from dexasm.tools.uses import Uses, classes_in
+from dexasm.tools.query.show import PATTERN, pattern
+from dexasm.tools.uses import Uses, classes_in, descriptor_of, unescaped
 
 TYPE_CHECKING = False  # (as in typing)
 if TYPE_CHECKING:
@@ -91,7 +91,7 @@ def matcher(program: Program, asked: str, is_text: bool) -> Callable[[str], bool
     if is_text:
         return functools.partial(named, asked)
     owner, is_member, wanted = unescaped(asked).partition("->")
-    owner = owner if owner.endswith(";") else f"L{owner.replace('.', '/')};"
+    owner = descriptor_of(owner)
     if is_member:
         return functools.lru_cache(None)(functools.partial(is_member_of, Uses(program), owner, wanted))
     return functools.lru_cache(None)(lambda name: any(named(owner, each) for each in classes_in(name)))

@@ -9,6 +9,7 @@ from collections.abc import Callable, Iterable, Iterator
 from dexasm.tools.basis import USAGE, Failed
 from dexasm.tools.escapes import escaped
 from dexasm.tools.layout import Tables, addresses
+from dexasm.tools.uses import descriptor_of, unescaped
 
 TYPE_CHECKING = False  # (as in typing)
 if TYPE_CHECKING:
@@ -59,19 +60,9 @@ def meant(program: Program, asked: str) -> Iterator[tuple[int, set[str] | None]]
                 yield place, members
 
 
-def unescaped(asked: str) -> str:
-    """A name of the command line, which may have the escapes of a listing."""
-    from dexasm.names import unspelled
-
-    try:
-        return unspelled(asked)
-    except ValueError:
-        return asked
-
-
 def places_of(program: Program, owner: str) -> Iterator[int]:
     """The places of the classes of a name."""
-    spelled = owner if owner.endswith(";") else f"L{owner.replace('.', '/')};"
+    spelled = descriptor_of(owner)
     if not PATTERN.search(owner):
         place = program.classes.place(spelled)
         if place is not None:

@@ -3,10 +3,10 @@ from __future__ import annotations
 
 from collections.abc import Callable, Iterator
 
-from dexasm.names import Type, member, unspelled
+from dexasm.names import Type, member
 from dexasm.tools.basis import REFUSED, USAGE, Failed
 from dexasm.tools.escapes import escaped
-from dexasm.tools.uses import Uses
+from dexasm.tools.uses import Uses, descriptor_of, unescaped
 
 TYPE_CHECKING = False  # (as in typing)
 if TYPE_CHECKING:
@@ -21,9 +21,8 @@ def refused(said: str) -> Failed:
 
 def class_name(asked: str) -> str:
     """A class's name, `com.x.A` or `Lcom/x/A;`, as FORMAT has it."""
-    name = asked if asked.endswith(";") else f"L{asked.replace('.', '/')};"
     try:
-        return str(Type(name))
+        return str(Type(descriptor_of(asked)))
     except ValueError:
         raise Failed(f"{escaped(asked)} is no name of a class", USAGE) from None
 
@@ -168,11 +167,3 @@ class Names:
         """A member's signature with the name that it gets; its types are as they were."""
         one = self.uses.member(number)
         return self.members.get(number, one.name) + one.signature[len(one.name) :]
-
-
-def unescaped(asked: str) -> str:
-    """A name of the command line, which may have the escapes of a listing."""
-    try:
-        return unspelled(asked)
-    except ValueError:
-        return asked
