@@ -1,7 +1,8 @@
 """What hatchling can't be told by pyproject.toml of the wheel: the library, the manual pages and the pages that helpers
 read stand in the repository around this folder; its tag is the platform's; and README is as `described` has it.
 
-The library is the file that the variable DEXASM_LIBRARY names, or the one that tools/build library has made.
+The library is the file that the variable DEXASM_LIBRARY names, or the one that tools/build library has made. A file
+PROVED-BY beside it, which tools/package writes, goes along: helpers know by it which build they have.
 """
 from __future__ import annotations
 
@@ -39,6 +40,9 @@ class Wheel(BuildHookInterface[Any]):
         named = f"dexasm-{self.metadata.version}"
         share = f"{named}.data/data/share"
         files = {library(): "dexasm/libdexasm.so", f"{TOP}/LICENSE": f"{named}.dist-info/LICENSE"}
+        proved_by = os.path.join(os.path.dirname(library()), "PROVED-BY")
+        if os.path.exists(proved_by):
+            files[proved_by] = f"{share}/doc/dexasm/PROVED-BY"
         files |= {f"{TOP}/docs/{name}.md": f"{share}/doc/dexasm/docs/{name}.md" for name in PAGES}
         for path in sorted(glob.glob(f"{TOP}/docs/man/*.[15]")):
             files[path] = f"{share}/man/man{path[-1]}/{os.path.basename(path)}"

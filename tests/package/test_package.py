@@ -299,29 +299,33 @@ class PackageTest(TestCase):
                 file.write(self.sample)
             env = {name: value for name, value in os.environ.items() if name not in ("PYTHONPATH", "DEXASM_LIBRARY")}
             with zipfile.ZipFile(wheel) as held:
-                told = held.read(next(name for name in held.namelist() if name.endswith("/METADATA"))).decode()
+                by_end = {name.rpartition("/")[2]: name for name in held.namelist()}
+                told = held.read(by_end["METADATA"]).decode()
+                proved_by = held.read(by_end["PROVED-BY"]).decode()
             links = re.findall(r"\]\((?!https?:|#)[^)]*\)", told)
             is_so = "## Programs as objects" in told and not links and not TOOLCHAIN.search(told)
             self.check("what the wheel says of itself", is_so, (links, TOOLCHAIN.findall(told)))
             by_backend = ["-m", "venv", "--system-site-packages"]
             from_folder = ["--no-build-isolation", "--no-deps", "--ignore-installed", f"{TOP}/python"]
-            for what, made, given, options in (
-                (os.path.basename(wheel), [sys.executable, "-m", "venv"], [wheel], env),
+            build = "proved" if proved_by.startswith("Proved and built of ") else "unknown"
+            for what, made, given, options, answers in (
+                (os.path.basename(wheel), [sys.executable, "-m", "venv"], [wheel], env, build),
                 (
                     "python",
                     [backend() or "", *by_backend],
                     from_folder,
                     {**env, "DEXASM_LIBRARY": f"{self.library}/libdexasm.so"},
+                    "unknown",  # (nothing beside the library says whether it was proved)
                 ),
             ):
                 place = f"{room}/{len(options)}"
                 self.runs(f"{what}: an environment", *made, place, env=env)
                 install = ["-m", "pip", "install", "--quiet", "--no-index", "--disable-pip-version-check", *given]
                 self.runs(f"{what}: by pip", f"{place}/bin/python", *install, env=options, cwd=room)
-                self.check_installed(what, place, room, env)
+                self.check_installed(what, place, room, env, answers)
 
-    def check_installed(self, what: str, place: str, room: str, env: dict[str, str]) -> None:
-        """What pip put into an environment: the module, the commands, their pages."""
+    def check_installed(self, what: str, place: str, room: str, env: dict[str, str], build: str) -> None:
+        """What pip put into an environment: the module, the commands, their pages; and which build answers there."""
         python = f"{place}/bin/python"
         self.runs(f"{what}: check", python, "-m", "dexasm", "check", "hello.dex", want="ok\n", env=env, cwd=room)
         self.runs(f"{what}: its command", f"{place}/bin/dexasm", "check", "hello.dex", want="ok\n", env=env, cwd=room)
@@ -343,9 +347,8 @@ class PackageTest(TestCase):
         number = sought(r'^version = "(.*)"$', get(f"{TOP}/python/pyproject.toml").decode(), re.M)[1].replace(
             ".dev0", "-dev"
         )
-        # (nothing of a wheel says whether its library was proved)
         sha = hashlib.sha256(get(f"{self.library}/libdexasm.so")).hexdigest()
-        answering = {"dexasm-check": f"answered by the unknown build with the SHA-256 {sha}\n"}
+        answering = {"dexasm-check": f"answered by the {build} build with the SHA-256 {sha}\n"}
         for name in HELPERS:
             want = f"{name} {number}\n{answering.get(name, '')}"
             self.runs(f"{what}: {name}", f"{place}/bin/{name}", "--version", want=want, env=env, cwd=room)

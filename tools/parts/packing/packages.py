@@ -37,11 +37,12 @@ def pack(program: str, library: str, folder: str) -> str:
         print(f"tools/package: {MISSING}: no wheel is made", file=sys.stderr)
         alone = jars
     else:
-        alone = dict([wheel_of(bytes_of(held, "lib/libdexasm.so.0"), time)]) | jars
-    for name, given in alone.items():
+        given = (bytes_of(held, place) for place in ("lib/libdexasm.so.0", "share/doc/dexasm/PROVED-BY"))
+        alone = dict([wheel_of(*given, time)]) | jars
+    for name, whole in alone.items():
         made.append(f"{folder}/{name}")
         with open(made[-1], "wb") as file:
-            file.write(given)
+            file.write(whole)
     sums = "".join(f"{hashlib.sha256(get(path)).hexdigest()}  {os.path.basename(path)}\n" for path in made)
     # (sha256sum --check passes over such lines)
     sums += "".join(f"# {hashlib.sha256(bytes_of(held, place)).hexdigest()}  {place}\n" for place in ("bin/dexasm", "lib/libdexasm.a", "lib/libdexasm.so.0"))
