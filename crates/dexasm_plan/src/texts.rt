@@ -1,10 +1,10 @@
 //! The words of the help. The manual page docs/man/dexasm.1 is made of them too, by tools/generate.
 
 /// The version of the tool, its crates and its manual pages; CHANGELOG.md has a section for it.
-pub(crate) const VERSION: &str = "0.5.0";
+pub(crate) const VERSION: &str = "0.6.0";
 
 /// What the help begins with: what `--version` prints.
-pub(crate) const HEAD: &str = "dexasm 0.5.0";
+pub(crate) const HEAD: &str = "dexasm 0.6.0";
 
 /// The tool: what it does.
 pub(crate) const TOOL: &str =
