@@ -2,7 +2,8 @@
 use Rattle.std.proofs.Common.{◌≡◌, ◌≢◌, ℕ, zero, suc, ◌+◌, Bool, true, ◌&&◌, ◌==◌, refl, get_or, List, [], ◌∷◌, sym, ◌∙◌, arith}
 use Rattle.std.proofs.lemmas.Bool.Decides.{nat_tests}
 use Rattle.dex_insn.specs.Mnemonics.{mnemonics, IsNamed}
-use Rattle.dex_insn.specs.inner.Named.{candidate}
+use Rattle.dex_base.specs.Fields.{u32_at}
+use Rattle.dex_insn.specs.inner.Named.{candidate, text_sum}
 use Rattle.std.proofs.lemmas.Bool.{and_parts}
 
 -- each text, the first of which is row n, has the slot of its row
@@ -12,7 +13,7 @@ slots_hold n ([] ∷ ts) = slots_hold (n + 1) ts
 slots_hold n ((c ∷ cs) ∷ ts) = (candidate (c ∷ cs) == n) && slots_hold (n + 1) ts
 
 all_hold : slots_hold 0 mnemonics ≡ true
-unfolding mnemonics candidate
+unfolding mnemonics candidate text_sum u32_at
 all_hold = refl
 
 pub equal : (a b : ℕ) → (a == b) ≡ true → a ≡ b

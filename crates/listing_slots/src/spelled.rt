@@ -14,10 +14,11 @@ use crate::name_parts::NameParts;
 use crate::read::read_encoded;
 use crate::slot::Slot;
 use bumpalo::Bump;
-use dex_base::{Fault, Seed, u32_at};
+use dex_base::{Fault, Seed};
 use program_rules::is_valid_name;
 use program_types::Name;
 use std::alloc::Global;
+use std::hash::{FoldHasher, Hasher};
 use std::marker::Model;
 
 /// A word that spelled a name in a slot.
@@ -70,27 +71,14 @@ fn is_same_slot(a: Slot, b: Slot) -> bool
     )
 }
 
-/// The factor of Fibonacci hashing, 2 to the 64th divided by the golden ratio: it spreads each byte over the bits above it.
-const GOLDEN: u64 = 0x9e37_79b9_7f4a_7c15;
-
-/// A number made of all bytes of a word.
-fn sum_of(text: &[u8]) -> u64 {
-    let mut sum = text.len() as u64;
-    for k in 0..text.len() / 4 {
-        sum = (sum ^ u64::from(u32_at(text, 4 * k))).wrapping_mul(GOLDEN);
-    }
-    for byte in &text[text.len() / 4 * 4..] {
-        sum = (sum ^ u64::from(*byte)).wrapping_mul(GOLDEN);
-    }
-    sum
-}
-
 /// The bucket of a word among so many; of none it means nothing.
 fn bucket_of(text: &[u8], buckets: usize) -> usize {
     if buckets == 0 {
         return 0;
     }
-    (sum_of(text) >> 32) as usize % buckets
+    let mut hasher = FoldHasher::default();
+    hasher.write(text);
+    (hasher.finish() >> 32) as usize % buckets
 }
 
 /// Whether a file can have what a word names.

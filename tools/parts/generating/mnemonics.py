@@ -1,10 +1,10 @@
 """The tables by which crates/dex_insn/src/named.rt finds the opcode of a mnemonic, from the rows of opcodes.rt beside it.
 
-A mnemonic has the slot (high + SHIFTS[low]) % 256, where low is its hash % 64 and high its hash / 64. Mnemonics of one low part share a
-shift. Of these groups the largest come first, of equally large ones that of the lowest opcode; each takes the least shift with which its
-mnemonics have slots of their own that no group before it has. A slot that stays free has the highest unused opcode.
+A mnemonic has the slot (high + SHIFTS[low]) % 256, where high are the bits of its sum from the 32nd on and low the six highest. Mnemonics
+of one low share a shift. Of these groups the largest come first, of equally large ones that of the lowest opcode; each takes the least
+shift with which its mnemonics have slots of their own that no group before it has. A slot that stays free has the highest unused opcode.
+A mnemonic of fewer than four bytes has none: nop is the only one, and the code says so.
 """
-import functools
 import re
 
 from .making import Made, Missing
@@ -13,16 +13,19 @@ OPCODES, NAMED = "crates/dex_insn/src/opcodes.rt", "crates/dex_insn/src/named.rt
 ROW = re.compile(r'^    (?:row!\("([^"]+)" [^)]+\)|None), // ([0-9a-f]{2})$', re.M)
 
 
-def hash_of(text: str) -> int:
-    return functools.reduce(lambda value, byte: (33 * value + byte) % 65536, text.encode(), 0)
+def sum_of(text: bytes) -> int:
+    end = len(text) - 4
+    first, middle, last = (int.from_bytes(text[at:at + 4], "little") for at in (0, end // 2, end))
+    return (first + 3 * middle + 9 * last + len(text)) * 0x9E3779B97F4A7C15 % 2**64
 
 
 def tables(mnemonics: list[str]) -> tuple[list[int], list[int]]:
     """SHIFTS and SLOTS of the mnemonics by opcode; that of an unused opcode is empty."""
     groups: dict[int, list[tuple[int, int]]] = {}
     for opcode, mnemonic in enumerate(mnemonics):
-        if mnemonic:
-            groups.setdefault(hash_of(mnemonic) % 64, []).append((hash_of(mnemonic) // 64, opcode))
+        if len(mnemonic) >= 4:
+            number = sum_of(mnemonic.encode())
+            groups.setdefault(number >> 58, []).append((number >> 32, opcode))
     free = max(opcode for opcode, mnemonic in enumerate(mnemonics) if not mnemonic)
     shifts, slots = [0] * 64, [free] * 256
     for low, group in sorted(groups.items(), key=lambda each: -len(each[1])):

@@ -1,12 +1,16 @@
 -- Where the opcode of a mnemonic is looked up.
-use Rattle.std.specs.Prelude.{ℕ, ◌+◌, ◌*◌, ◌/◌, ◌%◌, List, [], ◌∷◌, slice_index}
+use Rattle.std.specs.Prelude.{ℕ, ◌+◌, ◌-◌, ◌*◌, ◌/◌, ◌%◌, ◌^◌, List, length, slice_index, nat_lt, if◌then◌else◌}
+use Rattle.dex_base.specs.Fields.{u32_at}
 use Rattle.dex_insn.specs.declared.named.TheConstants.{SHIFTS, SLOTS}
 
--- Bernstein's hash of a text, in 16 bits, where that of what stands before it is h
-abbrev pub hash_from : ℕ → List ℕ → ℕ
-hash_from h [] = h
-hash_from h (b ∷ bs) = hash_from ((33 * h + b) % 65536) bs
+-- a number made of a text's length, and of the first, the middle and the last four of its bytes
+unfoldable pub text_sum : List ℕ → ℕ
+text_sum text =
+    (u32_at text 0 + 3 * u32_at text ((length text - 4) / 2) + 9 * u32_at text (length text - 4) + length text) * 0x9e3779b97f4a7c15 % 2 ^ 64
 
--- the one opcode that can have this mnemonic
+-- the one opcode that can have this mnemonic; of fewer than four bytes, nop
 unfoldable pub candidate : List ℕ → ℕ
-candidate text = slice_index SLOTS ((hash_from 0 text / 64 + slice_index SHIFTS (hash_from 0 text % 64)) % 256)
+candidate text =
+    if nat_lt (length text) 4
+    then 0
+    else slice_index SLOTS ((text_sum text / 2 ^ 32 + slice_index SHIFTS (text_sum text / 2 ^ 58)) % 256)
