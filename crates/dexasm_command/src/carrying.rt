@@ -9,7 +9,7 @@ ghost use Rattle.dexasm_command.specs.inner.Running.{BringsToOut, RunsOn, RunsOn
 use crate::file_source::FileSource;
 use dex_base::Seed;
 use dexasm_job::Job;
-use dexasm_run::{RunFault, Sink, Source, Watched, run_seeded};
+use dexasm_run::{InMemory, RunFault, Sink, Source, run_seeded};
 use dexasm_world::{Refusal, World, deliver};
 use std::alloc::Global;
 
@@ -61,16 +61,16 @@ fn run_on<I: Source, O: Sink>(
         (O.contents output.old) (O.contents output.new) (O.failed output.new) result }
     ensures blames { MatchRun result ⊤ (λ _. ⊤) (I.blames input.old input.new) ⊤ ⊤ }
 {
-    let mut made = Watched::new(Vec::new(alloc));
+    let mut made = InMemory::new(alloc);
     match out {
         None => run_seeded(alloc, seed, job, input, output)?,
         Some(_) => match run_seeded(alloc, seed, job, input, &mut made) {
-            // A vector takes no more only where memory runs out.
+            // It takes no more only where memory runs out.
             Err(RunFault::Output) => return Err(RunFault::Memory),
             done => done?,
         },
     }
-    Ok(made.into_inner())
+    Ok(made.into_vec())
 }
 
 /// Runs the job on what FILE holds.

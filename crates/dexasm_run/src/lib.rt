@@ -15,6 +15,7 @@ mod laws;
 
 // A job run over a reader and a writer, and how it ends.
 mod error;
+mod in_memory;
 mod running;
 mod sink;
 mod source;
@@ -22,6 +23,7 @@ mod watched;
 
 pub use answers::{answer, answer_seeded};
 pub use error::{Line, RunFault, line_text, status};
+pub use in_memory::InMemory;
 pub use laws::{listed_and_assembled_is_stripped, one_answer, one_outcome};
 pub use running::{run, run_seeded, write_all};
 pub use sink::{Sink, Writer};

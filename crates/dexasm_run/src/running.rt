@@ -97,7 +97,7 @@ pub fn run_seeded<R: Source, W: Sink>(
 {
     let given = read_all(alloc, input)?;
     let made = answer_owned(alloc, seed, job, given)?;
-    write_all(made.as_slice(), output)
+    output.put_answer(made)
 }
 
 /// Room for one `take`.
@@ -152,12 +152,5 @@ fn gather<R: Source>(alloc: Global, input: &mut R, piece: &mut [u8]) -> Result<V
 pub fn write_all<W: Sink>(made: &[u8], output: &mut W) -> Result<(), RunFault>
     ensures { WritesAll (W.contents output.old) (W.contents output.new) (W.failed output.new) made.now result }
 {
-    let mut done = 0;
-    while done < made.len() {
-        match output.put(&made[done..]) {
-            Ok(n) if n > 0 => done += n,
-            _ => return Err(RunFault::Output),
-        }
-    }
-    Ok(())
+    output.put_all(made)
 }

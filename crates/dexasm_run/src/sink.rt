@@ -3,8 +3,10 @@ ghost use Rattle.std.specs.Prelude.{◌≡◌, ◌||◌, ℕ, Bool, List, Option
 ghost use Rattle.std.specs.Io.{WritesAtMost};
 ghost use Rattle.std.specs.Io.KnownBytes.{WriteAppends};
 ghost use Rattle.dexasm_run.specs.Ends.{call_failed, moved_by, moved_none};
+ghost use Rattle.dexasm_run.specs.Runs.{WritesAll};
 ghost use Rattle.dexasm_run.specs.Watching.{watched_failed, watched_inner};
 
+use crate::error::RunFault;
 use crate::watched::Watched;
 use std::io;
 use std::io::Write;
@@ -23,6 +25,27 @@ pub trait Sink {
         ensures bound { WritesAtMost result piece.now }
         ensures bytes { WriteAppends (contents self.old) (contents self.new) result piece.now }
         ensures failed { failed self.new ≡ (failed self.old || (call_failed result || moved_none result piece.now)) };
+
+    /// Puts all the bytes, as many at a time as are taken.
+    fn put_all(&mut self, made: &[u8]) -> Result<(), RunFault>
+        ensures { WritesAll (contents self.old) (contents self.new) (failed self.new) made.now result }
+    {
+        let mut done = 0;
+        while done < made.len() {
+            match self.put(&made[done..]) {
+                Ok(n) if n > 0 => done += n,
+                _ => return Err(RunFault::Output),
+            }
+        }
+        Ok(())
+    }
+
+    /// Puts a whole answer, which is given away, so that a sink in memory can keep it as it is.
+    fn put_answer(&mut self, answer: Vec<u8>) -> Result<(), RunFault>
+        ensures { WritesAll (contents self.old) (contents self.new) (failed self.new) answer.items result }
+    {
+        self.put_all(answer.as_slice())
+    }
 
     /// Whether a `put` has answered an error, or taken no byte of a nonempty piece.
     fn failed(&self) -> bool
