@@ -70,7 +70,7 @@ impl<'a, 'b> Drop for Scratch<'a, 'b> {
 }
 
 /// What the words after the first ones say in the slots; else the fault of the first that says nothing there.
-fn read_says<'a, 'b>(
+fn read_slots<'a, 'b>(
     scratch: &mut Scratch<'a, 'b>,
     listing: &Reading<'a, 'b>,
     lead: usize,
@@ -105,7 +105,7 @@ fn read_says<'a, 'b>(
 
 /// Adds the line of this kind whose slots say this; false where it gives again what may be given once. Most lines are
 /// instructions: they are added without a line made of them.
-fn add_said<'a>(
+fn add_kind<'a>(
     arena: &'a Bump,
     draft: &mut Draft<'a>,
     kind: Kind,
@@ -125,7 +125,7 @@ fn add_said<'a>(
 }
 
 /// Adds a line that says something of the program; else refuses it.
-fn add_says<'a, 'b>(
+fn add_content<'a, 'b>(
     scratch: &mut Scratch<'a, 'b>,
     listing: &mut Reading<'a, 'b>,
     after: &'b [u8],
@@ -144,11 +144,11 @@ fn add_says<'a, 'b>(
     if !listing.may_be(found) {
         return Err(Fault::at(fault::LINE_ORDER, listing.draft.lines));
     }
-    if let Some(code) = read_says(scratch, listing, found.lead)? {
+    if let Some(code) = read_slots(scratch, listing, found.lead)? {
         return Err(Fault::at(code, listing.draft.lines));
     }
     let said = scratch.says.as_slice();
-    if !add_said(scratch.arena, &mut listing.draft, found.kind, said)? {
+    if !add_kind(scratch.arena, &mut listing.draft, found.kind, said)? {
         return Err(Fault::at(fault::LINE_TWICE, listing.draft.lines));
     }
     listing.find_labels(found.kind, after)
@@ -173,7 +173,7 @@ fn add_line<'a, 'b>(
         return Err(Fault::at(fault::LINE_WORD, listing.draft.lines));
     }
     match listing.line_of_form(scratch.words.as_slice()) {
-        FormLine::Nothing => add_says(scratch, listing, after),
+        FormLine::Nothing => add_content(scratch, listing, after),
         FormLine::Refused(code) => Err(Fault::at(code, listing.draft.lines)),
         FormLine::First => {
             listing.begin_second();

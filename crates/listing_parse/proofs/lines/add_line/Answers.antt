@@ -9,10 +9,10 @@ use Rattle.listing_parse.proofs.lines.add_line.Goals as goal
 
 pub returns-in-Nothing-clause-refused : goal.returns-in-Nothing-clause-refused
 returns-in-Nothing-clause-refused c =
-    IfErr-weaker c.add_says.result _ _
+    IfErr-weaker c.add_content.result _ _
     (λ e said ne. unsaid_refused (reading c.args.listing.now) c.args.line.now (map word c.read_words.new.words.items) e.code c.requires.says (rw c.if-not-branch.false at c.in_ok-read_words.ensures.read)
     (sym (rw c.as_slice.ensures.value at c.line_of_form.ensures) ∙ c.in-Nothing.is) (said ne))
-    c.add_says.ensures.refused
+    c.add_content.ensures.refused
 
 pub returns-in-First-clause-named : goal.returns-in-First-clause-named
 returns-in-First-clause-named c = second_named c.args.scratch.now.spelled (reading c.args.listing.now) (reading c.begin_second.new.self) c.begin_second.ensures.second

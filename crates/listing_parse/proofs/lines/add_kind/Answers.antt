@@ -1,5 +1,5 @@
 use Rattle.listing_lines.specs.Lines.{line_of}
-use Rattle.listing_parse.proofs.lines.add_said.Goals as goal
+use Rattle.listing_parse.proofs.lines.add_kind.Goals as goal
 
 pub returns-in-Plain-clause-added : goal.returns-in-Plain-clause-added
 unfolding line_of
