@@ -185,7 +185,8 @@ module _ (N : ℕ → Name → Type 0) (us : List ℕ) (count : ℕ) (marks : Li
   said = record {
     count = found.1;
     plain = λ k l. (p.looked k l).plain;
-    leads = λ k l. subst (BranchStays (length p.raws) k) (found.2 k l).symbol (stays (lead (starts p.raws) (address p.raws k)) _ (length p.raws) k (raw_at p.raws k) (IfSome_then (branch_offset (raw_at p.raws k)) {P = LeadIsMarked marks (address p.raws k)} {Q = λ o. (lead (starts p.raws) (address p.raws k) o < length p.raws) × (lead (starts p.raws) (address p.raws k) o ≢ k)} (p.leads k l) (lands k)));
+    leads = λ k l. subst (BranchStays (length p.raws) k) (found.2 k l).symbol
+        (stays (lead (starts p.raws) (address p.raws k)) _ (length p.raws) k (raw_at p.raws k) (IfSome_then (branch_offset (raw_at p.raws k)) {P = LeadIsMarked marks (address p.raws k)} {Q = λ o. (lead (starts p.raws) (address p.raws k) o < length p.raws) × (lead (starts p.raws) (address p.raws k) o ≢ k)} (p.leads k l) (lands k)));
     says = found.2;
   }
 

@@ -59,8 +59,12 @@ each-five P a b c d e p q r s t past (suc (suc (suc (suc (suc k))))) = past (suc
 named : (us : List ℕ) (n : ℕ) → AreRegisters n (registers us n)
 named us n = record {
   count = refl;
-  fit = λ k h. each-five (λ k r. r < 16) (register n 0 (field us 2 0 4)) (register n 1 (field us 2 4 4)) (register n 2 (field us 2 8 4)) (register n 3 (field us 2 12 4)) (register n 4 (field us 0 8 4)) (register-fits n 0 (field us 2 0 4) (omega arith)) (register-fits n 1 (field us 2 4 4) (omega arith)) (register-fits n 2 (field us 2 8 4) (omega arith)) (register-fits n 3 (field us 2 12 4) (omega arith)) (register-fits n 4 (field us 0 8 4) (omega arith)) (λ k. omega arith) k;
-  unused = λ k h. each-five (λ k r. n ≤ k → r ≡ 0) (register n 0 (field us 2 0 4)) (register n 1 (field us 2 4 4)) (register n 2 (field us 2 8 4)) (register n 3 (field us 2 12 4)) (register n 4 (field us 0 8 4)) (register-free n 0 (field us 2 0 4)) (register-free n 1 (field us 2 4 4)) (register-free n 2 (field us 2 8 4)) (register-free n 3 (field us 2 12 4)) (register-free n 4 (field us 0 8 4)) (λ k h. refl) k h;
+  fit = λ k h. each-five (λ k r. r < 16)
+      (register n 0 (field us 2 0 4)) (register n 1 (field us 2 4 4)) (register n 2 (field us 2 8 4)) (register n 3 (field us 2 12 4)) (register n 4 (field us 0 8 4))
+      (register-fits n 0 (field us 2 0 4) (omega arith)) (register-fits n 1 (field us 2 4 4) (omega arith)) (register-fits n 2 (field us 2 8 4) (omega arith)) (register-fits n 3 (field us 2 12 4) (omega arith)) (register-fits n 4 (field us 0 8 4) (omega arith)) (λ k. omega arith) k;
+  unused = λ k h. each-five (λ k r. n ≤ k → r ≡ 0)
+      (register n 0 (field us 2 0 4)) (register n 1 (field us 2 4 4)) (register n 2 (field us 2 8 4)) (register n 3 (field us 2 12 4)) (register n 4 (field us 0 8 4))
+      (register-free n 0 (field us 2 0 4)) (register-free n 1 (field us 2 4 4)) (register-free n 2 (field us 2 8 4)) (register-free n 3 (field us 2 12 4)) (register-free n 4 (field us 0 8 4)) (λ k h. refl) k h;
 }
 
 by-width : (n width : ℕ) → IsElementWidth width → ((n * width) % width ≡ 0) × ((n * width) / width ≡ n)

@@ -20,7 +20,8 @@ use Rattle.listing_lines.specs.Lines.{Line, first_line, open_class, end_class, s
 use Rattle.listing_lines.specs.Needs.{earliest}
 use Rattle.listing_lines.specs.Places.{is_start, is_top}
 use Rattle.listing_parse.specs.Members.{Given, given_key, is_held, put_in, with_member}
-use Rattle.listing_parse.specs.States.{Open, Owner, ClassPart, at_heads, at_members, after_method, OpenBody, CodePart, after_try, Block, at_top, in_class, in_code, State, stage_of, opened, closed, with_code, with_code_at, is_among, with_static, with_instance, with_direct, with_virtual, with_superclass, with_source, with_interface, at_part, class_line, begun, noted, with_tries, with_catch, is_in_try, whole_code, code_line, inside, class_of, owner_of, with_body, code_ended, late_in, with_block, add}
+use Rattle.listing_parse.specs.States.{Open, Owner, ClassPart, at_heads, at_members, after_method, OpenBody, CodePart, after_try, Block, at_top, in_class, in_code, State, stage_of, opened, closed, with_code, with_code_at, is_among, with_static, with_instance}
+use Rattle.listing_parse.specs.States.{with_direct, with_virtual, with_superclass, with_source, with_interface, at_part, class_line, begun, noted, with_tries, with_catch, is_in_try, whole_code, code_line, inside, class_of, owner_of, with_body, code_ended, late_in, with_block, add}
 use Rattle.listing_parse.specs.inner.Named.{MethodsAreNamed, OpenIsNamed, BlockIsNamed, StateIsNamed, ReadingIsNamed, StayNamed}
 use Rattle.listing_parse.specs.Text.{Reading, begin, in_second, line_counted}
 use Rattle.dex_base.proofs.OptionLaws.{IfSome-map}

@@ -195,7 +195,8 @@ names_are_closed b names framed are =
           let f = row.1 in
           let st = are.fields.each row.0 f row.2 in
           rw row.3 (record {
-            strings = sub.IsSubset-cons (text_key f.class) (text_key f.name ∷ text_key f.ty ∷ []) s.strings (has_string b names framed are (type_string b (member_class b 3 row.0)) f.class st.class.string) (sub.IsSubset-cons (text_key f.name) (text_key f.ty ∷ []) s.strings (has_string b names framed are (member_name b 3 row.0) f.name st.name) (sub.IsSubset-one (text_key f.ty) s.strings (has_string b names framed are (type_string b (member_kind b 3 row.0)) f.ty st.ty.string)));
+            strings = sub.IsSubset-cons (text_key f.class) (text_key f.name ∷ text_key f.ty ∷ []) s.strings (has_string b names framed are (type_string b (member_class b 3 row.0)) f.class st.class.string)
+                (sub.IsSubset-cons (text_key f.name) (text_key f.ty ∷ []) s.strings (has_string b names framed are (member_name b 3 row.0) f.name st.name) (sub.IsSubset-one (text_key f.ty) s.strings (has_string b names framed are (type_string b (member_kind b 3 row.0)) f.ty st.ty.string)));
             types = sub.IsSubset-cons (text_key f.class) (text_key f.ty ∷ []) s.types (has_type b names framed are (member_class b 3 row.0) f.class st.class) (sub.IsSubset-one (text_key f.ty) s.types (has_type b names framed are (member_kind b 3 row.0) f.ty st.ty));
             protos = sub.IsSubset-nil s.protos;
             fields = sub.IsSubset-one (field_ref_key f) s.fields (member_at s.fields row.0 (field_ref_key f) (field_at b names framed are row.0 f st));
@@ -207,7 +208,8 @@ names_are_closed b names framed are =
           let st = are.methods.each row.0 m row.2 in
           let p = proto_parts_there b names framed are (member_kind b 4 row.0) m.proto st.proto in
           rw row.3 (record {
-            strings = sub.IsSubset-cons (text_key m.class) (text_key m.name ∷ (proto_closure (proto_key m.proto)).strings) s.strings (has_string b names framed are (type_string b (member_class b 4 row.0)) m.class st.class.string) (sub.IsSubset-cons (text_key m.name) (proto_closure (proto_key m.proto)).strings s.strings (has_string b names framed are (member_name b 4 row.0) m.name st.name) p.strings);
+            strings = sub.IsSubset-cons (text_key m.class) (text_key m.name ∷ (proto_closure (proto_key m.proto)).strings) s.strings (has_string b names framed are (type_string b (member_class b 4 row.0)) m.class st.class.string)
+                (sub.IsSubset-cons (text_key m.name) (proto_closure (proto_key m.proto)).strings s.strings (has_string b names framed are (member_name b 4 row.0) m.name st.name) p.strings);
             types = sub.IsSubset-cons (text_key m.class) (proto_closure (proto_key m.proto)).types s.types (has_type b names framed are (member_class b 4 row.0) m.class st.class) p.types;
             protos = p.protos;
             fields = sub.IsSubset-nil s.fields;

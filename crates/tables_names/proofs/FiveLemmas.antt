@@ -32,7 +32,10 @@ join_grows s t u f = IsPart-join s t (join s u) (IsPart-left s u) (IsPart-trans 
 
 -- what is closed stays so where each new name has its parts
 module _ (s t : Five) (closed : IsClosed s) (grows : IsPart s t) where
-  pub closed_more : ((k : Key) → is_member t.types k ≡ true → IsPart (type_closure k) t ⊎ (is_member s.types k ≡ true)) → ((k : Key) → is_member t.protos k ≡ true → IsPart (proto_closure k) t ⊎ (is_member s.protos k ≡ true)) → ((k : Key) → is_member t.fields k ≡ true → IsPart (field_closure k) t ⊎ (is_member s.fields k ≡ true)) → ((k : Key) → is_member t.methods k ≡ true → IsPart (method_closure k) t ⊎ (is_member s.methods k ≡ true)) → IsClosed t
+  pub closed_more : ((k : Key) → is_member t.types k ≡ true → IsPart (type_closure k) t ⊎ (is_member s.types k ≡ true)) →
+      ((k : Key) → is_member t.protos k ≡ true → IsPart (proto_closure k) t ⊎ (is_member s.protos k ≡ true)) →
+      ((k : Key) → is_member t.fields k ≡ true → IsPart (field_closure k) t ⊎ (is_member s.fields k ≡ true)) →
+      ((k : Key) → is_member t.methods k ≡ true → IsPart (method_closure k) t ⊎ (is_member s.methods k ≡ true)) → IsClosed t
   closed_more types protos fields methods =
       record {
         of_types = λ k h. elim (types k h) [ inl p ↦ p | inr m ↦ IsPart-trans (type_closure k) s t (closed.of_types k m) grows ];

@@ -13,7 +13,8 @@ use Rattle.tables_rows.specs.RowFields.{string_place, type_string, proto_shorty,
 use Rattle.program_types.specs.Kinds.{void}
 use Rattle.program_types.specs.Shorty.{shorty}
 use Rattle.tables_rows.specs.Sorted.{StringHolds, TypeHolds, ProtoHolds, FieldHolds, MethodHolds, RowsHold}
-use Rattle.tables_rows.specs.TableFaults.{StringBreaks, StringPlace, StringSpelling, StringOrder, TypeBreaks, TypeIndex, TypeText, TypeOrder, ProtoBreaks, ProtoIndex, ParameterList, Shorty, ProtoOrder, FieldBreaks, FieldIndex, FieldKind, FieldOrder, MethodBreaks, MethodIndex, MethodKind, MethodOrder, IsNoDescriptor, ProtoIsOut, HasNoParameters, HasAnotherShorty, FieldIsOut, IsUnfitField, MethodIsOut, IsUnfitMethod, IsFirstRow}
+use Rattle.tables_rows.specs.TableFaults.{StringBreaks, StringPlace, StringSpelling, StringOrder, TypeBreaks, TypeIndex, TypeText, TypeOrder, ProtoBreaks, ProtoIndex, ParameterList, Shorty, ProtoOrder, FieldBreaks, FieldIndex}
+use Rattle.tables_rows.specs.TableFaults.{FieldKind, FieldOrder, MethodBreaks, MethodIndex, MethodKind, MethodOrder, IsNoDescriptor, ProtoIsOut, HasNoParameters, HasAnotherShorty, FieldIsOut, IsUnfitField, MethodIsOut, IsUnfitMethod, IsFirstRow}
 use Rattle.tables_rows.specs.Stands.{StringStands, TypeStands, ProtoStands, FieldStands, MethodStands}
 use Rattle.dex_container.proofs.Standing.{at_place}
 use Rattle.tables_rows.proofs.RowReading.{string_one}

@@ -15,7 +15,8 @@ returns-in_ok-read_keyed-in-Some-lead_key-clause-found c = made_all _ _ _ _ _ c.
 
 pub returns-in_ok-read_keyed-in-Some-lead_key-clause-none : goal.returns-in_ok-read_keyed-in-Some-lead_key-clause-none
 returns-in_ok-read_keyed-in-Some-lead_key-clause-none c = made_none _ _ _ _ _ c.found.ensures c.in_ok-read_keyed-in-Some-lead_key.ensures.none (λ refuse.
-    bare_keyed_only (map word c.args.words.now) (map word c.in-Some.after.now) c.in-Plain.text.now c.in-Some-lead_key.key (first_is c.args.words.now c.in-Some.after.now c.in-Some.first.now (plain_word c.in-Plain.text.now) c.in-Some.ensures.cases.0 (ap word c.in-Plain.is)) (sym c.in-Some-lead_key.is ∙ c.lead_key.ensures) (λ row. refuse c.in-Plain.text.now row (sym c.in-Some-lead_key.is ∙ c.lead_key.ensures)))
+    bare_keyed_only (map word c.args.words.now) (map word c.in-Some.after.now) c.in-Plain.text.now c.in-Some-lead_key.key (first_is c.args.words.now c.in-Some.after.now c.in-Some.first.now (plain_word c.in-Plain.text.now) c.in-Some.ensures.cases.0 (ap word c.in-Plain.is))
+    (sym c.in-Some-lead_key.is ∙ c.lead_key.ensures) (λ row. refuse c.in-Plain.text.now row (sym c.in-Some-lead_key.is ∙ c.lead_key.ensures)))
 
 pub returns-in_ok-read_keyed-in-Some-lead_key-clause-lengths : goal.returns-in_ok-read_keyed-in-Some-lead_key-clause-lengths
 returns-in_ok-read_keyed-in-Some-lead_key-clause-lengths c = made_all _ _ _ _ _ c.found.ensures c.in_ok-read_keyed-in-Some-lead_key.ensures.found (λ kind b.

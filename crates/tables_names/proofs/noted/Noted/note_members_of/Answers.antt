@@ -80,10 +80,12 @@ pub returns-in_err-note_methods-clause-partly : goal.returns-in_err-note_methods
 returns-in_err-note_methods-clause-partly c =
     let k = view.class c.args.class.now in
     refused c.from_residual-in_err-note_methods.result
-    (class_refused (sets c.args.self.now.names) c.add_class.new.self c.note_fields-2.new.self c.note_methods.new.self k.ty (statics k ++ instances k) (directs k) (virtuals k) (members_of k) c.in_ok-number.ensures.added (notes_both c.add_class.new.self c.note_fields.new.self c.note_fields-2.new.self (statics k) (instances k) c.in_ok-note_fields.ensures.added c.in_ok-note_fields-2.ensures.added) refl c.in_err-note_methods.ensures.partly)
+    (class_refused (sets c.args.self.now.names) c.add_class.new.self c.note_fields-2.new.self c.note_methods.new.self k.ty (statics k ++ instances k) (directs k) (virtuals k) (members_of k) c.in_ok-number.ensures.added
+    (notes_both c.add_class.new.self c.note_fields.new.self c.note_fields-2.new.self (statics k) (instances k) c.in_ok-note_fields.ensures.added c.in_ok-note_fields-2.ensures.added) refl c.in_err-note_methods.ensures.partly)
 
 pub returns-in_err-note_methods-clause-continues : goal.returns-in_err-note_methods-clause-continues
-returns-in_err-note_methods-clause-continues c = goes_on_both c.args.self.now c.note_fields-2.new.self c.note_methods.new.self (goes_on_both c.args.self.now c.note_fields.new.self c.note_fields-2.new.self (goes_on_both c.args.self.now c.add_class.new.self c.note_fields.new.self (goes_on_same c.args.self.now c.add_class.new.self c.add_class.ensures.grows c.add_class.ensures.same) c.note_fields.ensures.continues) c.note_fields-2.ensures.continues) c.note_methods.ensures.continues
+returns-in_err-note_methods-clause-continues c = goes_on_both c.args.self.now c.note_fields-2.new.self c.note_methods.new.self
+    (goes_on_both c.args.self.now c.note_fields.new.self c.note_fields-2.new.self (goes_on_both c.args.self.now c.add_class.new.self c.note_fields.new.self (goes_on_same c.args.self.now c.add_class.new.self c.add_class.ensures.grows c.add_class.ensures.same) c.note_fields.ensures.continues) c.note_fields-2.ensures.continues) c.note_methods.ensures.continues
 
 pub returns-clause-added : goal.returns-clause-added
 returns-clause-added c =
@@ -110,4 +112,5 @@ returns-clause-partly c =
     c.note_methods-2.ensures.partly
 
 pub returns-clause-continues : goal.returns-clause-continues
-returns-clause-continues c = goes_on_both c.args.self.now c.note_methods.new.self c.note_methods-2.new.self (goes_on_both c.args.self.now c.note_fields-2.new.self c.note_methods.new.self (goes_on_both c.args.self.now c.note_fields.new.self c.note_fields-2.new.self (goes_on_both c.args.self.now c.add_class.new.self c.note_fields.new.self (goes_on_same c.args.self.now c.add_class.new.self c.add_class.ensures.grows c.add_class.ensures.same) c.note_fields.ensures.continues) c.note_fields-2.ensures.continues) c.note_methods.ensures.continues) c.note_methods-2.ensures.continues
+returns-clause-continues c = goes_on_both c.args.self.now c.note_methods.new.self c.note_methods-2.new.self (goes_on_both c.args.self.now c.note_fields-2.new.self c.note_methods.new.self (goes_on_both c.args.self.now c.note_fields.new.self c.note_fields-2.new.self
+    (goes_on_both c.args.self.now c.add_class.new.self c.note_fields.new.self (goes_on_same c.args.self.now c.add_class.new.self c.add_class.ensures.grows c.add_class.ensures.same) c.note_fields.ensures.continues) c.note_fields-2.ensures.continues) c.note_methods.ensures.continues) c.note_methods-2.ensures.continues

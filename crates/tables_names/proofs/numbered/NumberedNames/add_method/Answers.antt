@@ -35,7 +35,8 @@ returns-clause-added c =
     let name = str c.args.name.now.name in
     let old = sets c.args.self.now.names in
     let whole = method_closure (key_of_method c.args.name.now) in
-    let part : IsPart (type_closure (text_key class)) whole = IsPart-trans (type_closure (text_key class)) (method_parts class name (key_of_proto c.args.name.now.proto.now)) whole (IsPart-trans (type_closure (text_key class)) (member_front class name) (method_parts class name (key_of_proto c.args.name.now.proto.now)) (class_in_front class name) (front_in_method class name _)) (parts_in_method class name _) in
+    let part : IsPart (type_closure (text_key class)) whole = IsPart-trans (type_closure (text_key class)) (method_parts class name (key_of_proto c.args.name.now.proto.now)) whole
+    (IsPart-trans (type_closure (text_key class)) (member_front class name) (method_parts class name (key_of_proto c.args.name.now.proto.now)) (class_in_front class name) (front_in_method class name _)) (parts_in_method class name _) in
     on_ok_weaker c.put_method.result (λ a. a ∙ ap (λ s. join s whole) c.in_ok-class.ensures.added ∙ absorbed old (type_closure (text_key class)) whole (sets_rise c.args.self.now.names) part) c.put_method.ensures.added
 
 pub returns-clause-partly : goal.returns-clause-partly
