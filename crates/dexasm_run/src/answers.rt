@@ -9,10 +9,11 @@ use bumpalo::Bump;
 use dex_base::{Fault, Seed};
 use dexasm_job::Job;
 use file_align::align_all;
-use file_read::{check, read};
+use file_read::{ClassReader, check};
 use file_write::{strip_seeded, write_seeded};
+use listing_lines::Form;
 use listing_parse::parse_seeded;
-use listing_print::print;
+use listing_print::{put_class, put_opening};
 use program_types::Program;
 use std::alloc::Global;
 
@@ -88,14 +89,23 @@ fn checked(alloc: Global, given: &[u8]) -> Result<Vec<u8>, Fault>
     Ok(Vec::from_slice(alloc, b"ok\n")?)
 }
 
-/// The listing of the file's program.
+/// The listing of the file's program. It is read and printed class by class: the code of one class is held at a time.
 fn list(alloc: Global, given: &[u8]) -> Result<Vec<u8>, Fault>
     ensures answered { IfOk result (λ made. Answer Job.List given.now made.items) }
     ensures refused { IfErr result (λ fault. fault ≢ memory → Refusal Job.List given.now fault) }
 {
     let arena = Bump::new(alloc);
-    let program = read(alloc, &arena, given)?;
-    print(alloc, &program)
+    let mut reader = ClassReader::begin(alloc, &arena, given)?;
+    let mut codes = Bump::new(alloc);
+    let mut text = Vec::new(alloc);
+    put_opening(&mut text, Form::Two)?;
+    while let Some(class) = reader.next_class(alloc, &codes)? {
+        put_class(alloc, &mut text, Form::Two, &class)?;
+        if codes.reset().is_err() {
+            return Err(Fault::MEMORY);
+        }
+    }
+    Ok(text)
 }
 
 /// The file of the listed program, with each code aligned if that is asked.

@@ -4,6 +4,7 @@
 //! let heads = read_heads(alloc, &arena, &scratch, &sections, &tables)?; // faults of class rows
 //! let statics = read_statics(alloc, &arena, &scratch, &sections, &tables, heads)?; // faults of values
 //! let classes = read_classes(alloc, &arena, &sections, &tables, heads, statics)?; // faults of code items
+//! let found = read_class_at(alloc, &arena, &sections, &tables, heads, statics, 0)?; // one of these classes
 //!
 //! check_statics(alloc, &sections, &tables, heads)?; // faults of values, where no program is asked for
 //! check_codes(alloc, &sections, &tables, heads)?; // faults of code items
@@ -39,5 +40,5 @@ pub use laws::{
     class_is_one, classes_are_clear, rows_break_one_rule, rows_that_hold_keep_the_rules,
 };
 pub use members::Bare;
-pub use methods::read_classes;
+pub use methods::{FoundClass, read_class_at, read_classes};
 pub use statics::{Statics, read_statics};

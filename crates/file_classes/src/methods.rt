@@ -42,9 +42,9 @@ struct Methods<'a> {
 
 /// The class of a row, and the first fault of its registers.
 #[derive(Clone, Copy)]
-struct FoundClass<'a> {
-    class: Class<'a>,
-    past: Option<Fault>,
+pub struct FoundClass<'a> {
+    pub class: Class<'a>,
+    pub past: Option<Fault>,
 }
 
 /// What classes are read with: into the arena.
@@ -176,6 +176,56 @@ fn statics_at<'a>(sections: &Sections<'_>, statics: &[Statics<'a>], i: u32) -> S
     ensures { AreStatics sections.now i result }
 {
     statics[i as usize]
+}
+
+/// The class of row i, one of those of `read_classes`: its code goes into the arena, and code that its methods share is read once.
+///
+/// ```
+/// use bumpalo::Bump;
+/// use dex_container::open;
+/// use dex_file::write;
+/// use dex_listing::parse;
+/// use file_classes::{read_class_at, read_heads, read_statics};
+/// use tables_rows::Tables;
+///
+/// let arena = Bump::new(alloc);
+/// let file = write(alloc, &parse(alloc, &arena, b"dex 035 listing 2\nclass LA; 0x1\nend class\n")?)?;
+/// let sections = open(&file)?;
+/// let tables = Tables::read(alloc, &arena, &sections)?;
+/// let heads = read_heads(alloc, &arena, &arena, &sections, &tables)?;
+/// let statics = read_statics(alloc, &arena, &arena, &sections, &tables, heads)?;
+/// let found = read_class_at(alloc, &arena, &sections, &tables, heads, statics, 0)?;
+/// assert_eq!(rt; found.class.flags, 1);
+/// assert!(rt; found.past.is_none());
+/// ```
+pub fn read_class_at<'a>(
+    alloc: Global,
+    arena: &'a Bump,
+    sections: &Sections<'_>,
+    tables: &Tables<'a>,
+    heads: &[Head<'a, '_>],
+    statics: &[Statics<'a>],
+    i: u32,
+) -> Result<FoundClass<'a>, Fault>
+    requires names { AreNamesOf sections.now tables.now }
+    requires heads { AreRows IsHead sections.now section.class_defs heads.now }
+    requires statics { AreRows AreStatics sections.now section.class_defs statics.now }
+    requires row { i < size_of sections.now section.class_defs }
+    ensures ok { IfOk result (λ x. SpellsBodies sections.now i (view.class x.class)) }
+    ensures hold { IfOk result (λ x. IfNone x.past (RowRegistersHold sections.now i)) }
+    ensures past { IfOk result (λ x. IfSome x.past (RowRegistersBreak sections.now i)) }
+    ensures err { IfErr result (λ e. e ≢ memory → BodiesBreak sections.now i e) }
+{
+    let reader = Reader {
+        alloc,
+        arena,
+        sections,
+        tables,
+    };
+    let head = head_at(sections, heads, i);
+    let values = statics_at(sections, statics, i);
+    let mut cached = IndexMap::new(alloc);
+    reader.read_class(&mut cached, i, head, values)
 }
 
 /// The classes of all rows; else the first fault of a body, or where there is none, the first of registers.

@@ -1,19 +1,24 @@
-//! Whole files, read: `read` answers the program that a file means, `check` whether it means one.
+//! Whole files, read: `read` answers the program that a file means, `check` whether it means one, and a `ClassReader` the classes of
+//! the program, one by one.
 //!
 //! ```
 //! let program = read(alloc, &arena, &bytes)?; // refused by the first fault
 //! check(alloc, &bytes)?; // the same fault, and no program is held
+//! let mut reader = ClassReader::begin(alloc, &arena, &bytes)?;
+//! let class = reader.next_class(alloc, &codes)?; // the same fault, maybe later; of a class that was let go nothing is held
 //! ```
 //!
 //! docs/MAP.md says where this crate stands among the others.
 #![tactic(auto)]
 
 mod checking;
+mod class_reader;
 mod deciding_laws;
 mod laws;
 mod reading;
 
 pub use checking::{check, check_framed};
+pub use class_reader::ClassReader;
 pub use deciding_laws::{
     classes_are_decided, framed_files_are_decided, meaning_is_decided, meanings_are_well_formed,
     meanings_have_rows, rows_are_decided,

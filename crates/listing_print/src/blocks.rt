@@ -255,8 +255,22 @@ fn put_methods(
     put_virtuals(alloc, out, form, one.virtuals)
 }
 
-/// Appends a class.
-fn put_class(
+/// Appends a class, in a form: what `print` has of it in the second, `print_1` in the first.
+///
+/// ```
+/// use bumpalo::Bump;
+/// use dex_listing::parse;
+/// use listing_lines::Form;
+/// use listing_print::{put_class, put_opening};
+///
+/// let arena = Bump::new(alloc);
+/// let listed = parse(alloc, &arena, b"dex 035 listing 2\nclass LA; 0x1\nend class\n")?;
+/// let mut text = Vec::new(alloc);
+/// put_opening(&mut text, Form::Two)?;
+/// put_class(alloc, &mut text, Form::Two, &listed.classes[0])?;
+/// assert!(rt; text.as_slice() == b"dex 035 listing 2\nclass LA; 0x1\nend class\n".as_slice());
+/// ```
+pub fn put_class(
     alloc: Global,
     out: &mut Vec<u8>,
     form: Form,
@@ -270,8 +284,17 @@ fn put_class(
     put_keys(out, Key::End, Key::Class)
 }
 
-/// Appends the first line.
-fn put_opening(out: &mut Vec<u8>, form: Form) -> Result<(), AllocError>
+/// Appends the first line of a listing in a form.
+///
+/// ```
+/// use listing_lines::Form;
+/// use listing_print::put_opening;
+///
+/// let mut text = Vec::new(alloc);
+/// put_opening(&mut text, Form::Two)?;
+/// assert!(rt; text.as_slice() == b"dex 035 listing 2\n".as_slice()); // the listing of a program without classes
+/// ```
+pub fn put_opening(out: &mut Vec<u8>, form: Form) -> Result<(), AllocError>
     ensures ok { OnOk result (out.new.items ≡ out.old.items ++ first_text form) }
 {
     match form {

@@ -3,6 +3,8 @@
 //! ```text
 //! print(alloc, &program)?   // `dex 035 listing 2`, a line feed, then a block for each class; targets are labels
 //! print_1(alloc, &program)? // `dex 035`, the same with a number before each instruction
+//! put_opening(&mut text, Form::Two)? // the first line alone, for whoever has one class at a time
+//! put_class(alloc, &mut text, Form::Two, &class)? // the block of a class
 //! ```
 //!
 //! docs/MAP.md says where this crate stands among the others.
@@ -15,7 +17,7 @@ mod marks;
 mod operands;
 mod values;
 
-pub use blocks::{print, print_1};
+pub use blocks::{print, print_1, put_class, put_opening};
 pub use laws::{
     printed_instructions_are_read_again, printed_lines_are_read_again,
     printed_values_are_read_again,

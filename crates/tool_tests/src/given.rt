@@ -1,6 +1,6 @@
 //! What the jobs are given and answer, by name.
 
-use crate::files::{LATER_SUPERCLASS, SPARE_NAMES};
+use crate::files::{LATER_SUPERCLASS, SPARE_NAMES, THREE_CLASSES};
 use crate::listings::{
     BARE_TRY, ESCAPED, EVEN_PAYLOAD, LATER_SUPERCLASS_LISTED, ODD_PAYLOAD, ONE_CLASS_LISTED,
     ONE_CLASS_NUMBERED,
@@ -21,6 +21,7 @@ pub enum Given {
     SpareNames,
     LaterSuperclass,
     LaterSuperclassListing,
+    ThreeClasses,
     BareTry,
     Escapes,
     OddPayload,
@@ -42,6 +43,7 @@ pub fn bytes_of(given: Given) -> &'static [u8] {
         Given::SpareNames => &SPARE_NAMES,
         Given::LaterSuperclass => &LATER_SUPERCLASS,
         Given::LaterSuperclassListing => LATER_SUPERCLASS_LISTED,
+        Given::ThreeClasses => &THREE_CLASSES,
         Given::BareTry => BARE_TRY,
         Given::Escapes => ESCAPED,
         Given::OddPayload => ODD_PAYLOAD,

@@ -64,7 +64,7 @@ fn each_job_gives_its_answer(rt: HostRuntime) -> Result<(), Fail> {
 #[rattlefmt::skip]
 #[test]
 fn each_job_tells_the_fault_of_its_call(rt: HostRuntime) -> Result<(), Fail> {
-    static CASES: [Ran; 10] = [
+    static CASES: [Ran; 12] = [
         Ran(
             "no bytes are no file",
             Run(Job::List, Input::Given(Given::Nothing), SOUND, SOUND, Told::Refused(fault::TOO_SHORT, 0)),
@@ -88,6 +88,14 @@ fn each_job_tells_the_fault_of_its_call(rt: HostRuntime) -> Result<(), Fail> {
         Ran(
             "a later superclass",
             Run(ASSEMBLE, Input::Given(Given::LaterSuperclassListing), SOUND, SOUND, Told::Refused(fault::PROGRAM_CLASS_ORDER, 0)),
+        ),
+        Ran(
+            "arguments past the registers of the second class",
+            Run(Job::List, Input::Given(Given::ThreeClasses), SOUND, SOUND, Told::Refused(fault::REGISTER, 300)),
+        ),
+        Ran(
+            "and an unused opcode in the third, which goes before them",
+            Run(Job::List, Input::Closed(Given::ThreeClasses, 336, 0x3e), SOUND, SOUND, Told::Refused(fault::OPCODE, 336)),
         ),
         Ran(
             "a try without handlers",

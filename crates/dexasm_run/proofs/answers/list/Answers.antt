@@ -1,0 +1,19 @@
+use Rattle.std.proofs.Common.{ℕ, List, ◌∷◌, [], ◌++◌, ap, ◌∙◌}
+use Rattle.std.proofs.lemmas.List.{flat_map_more}
+use Rattle.program_types.specs.View.{class}
+use Rattle.listing_lines.specs.declared.form.Form.TheVariants.{Two}
+use Rattle.listing_print.specs.Canon.{first_text, class_text}
+use Rattle.dexasm_run.proofs.answers.list.Goals as goal
+
+pub loop-text-preserved : goal.loop-text-preserved
+loop-text-preserved c =
+    let before = c.loop-text.invariant.printed in
+    record {
+      reader = c.in_ok-class.ensures.reader;
+      bytes = c.in_ok-class.ensures.bytes ∙ c.loop-text.invariant.bytes;
+      printed = (
+        before.0 ++ class c.in-Some.class ∷ [],
+        (rw c.in-Some.is at c.in_ok-class.ensures.next) before.0 before.1,
+        c.in_ok-put_class.ensures.ok ∙ ap (λ (t : List ℕ). t ++ class_text Two (class c.in-Some.class)) before.2 ∙ flat_map_more (class_text Two) (first_text Two) before.0 (class c.in-Some.class),
+      );
+    }
