@@ -5,10 +5,11 @@ use Rattle.std.proofs.lemmas.List.{length-map}
 use Rattle.dex_container.specs.Frame.{IsFramed}
 use Rattle.dex_container.specs.Layout.{size_of}
 use Rattle.program_types.specs.Content.{Units, Member, Method}
+use Rattle.tables_rows.proofs.Asked.{else_clear, else_one}
 use Rattle.tables_rows.proofs.NameLaws.{field_one, method_one}
 use Rattle.file_classes.specs.ClassData.{FieldEntry, MethodEntry, Entries, steps, index_of, FirstEntriesAre, EntriesAre}
 use Rattle.file_classes.specs.Classes.{IsField, IsMethod}
-use Rattle.file_classes.specs.ClassFaults.{FieldOwner, MethodOwner, MemberEntryHolds, EntryBreaks, MemberIndex, MemberOwner, MemberOrder, MemberEntriesHold, EntriesBreak, FieldEntriesHold, MethodEntriesHold, MembersBreak}
+use Rattle.file_classes.specs.ClassFaults.{FieldOwner, MethodOwner, MemberEntryHolds, EntryBreaks, MemberEntriesHold, EntriesBreak, FieldEntriesHold, MethodEntriesHold, MembersBreak}
 use Rattle.file_classes.specs.inner.ClassFaults.{MembersHold}
 use Rattle.file_classes.specs.inner.Reading.{IsBare}
 use Rattle.file_classes.specs.declared.members.Bare.{Bare}
@@ -47,22 +48,12 @@ module _ (b : List ℕ) (class : Units) where
 
 -- ---- an entry holds, or breaks one rule
 
-module _ (IsOwner : ℕ → Units → Type 0) (size : ℕ) (row : (k : ℕ) (t : Units) → IsOwner k t → k < size) (one : (k : ℕ) (s t : Units) → IsOwner k s → IsOwner k t → s ≡ t) (class : Units) (differences : List ℕ) where
+module _ (IsOwner : ℕ → Units → Type 0) (size : ℕ) (row : (k : ℕ) (t : Units) → IsOwner k t → k < size) (class : Units) (differences : List ℕ) where
   entry_clear : (k code : ℕ) → MemberEntryHolds IsOwner class differences k → EntryBreaks IsOwner size class differences k code → ⊥
-  entry_clear k code h (MemberIndex out) = let lt = row (index_of differences k) class h.owned in omega (arith, lt, out)
-  entry_clear k code h (MemberOwner f) = f.other (one (index_of differences k) f.owner class f.owned h.owned)
-  entry_clear k code h (MemberOrder r) = let up = h.rises r.after in let same = r.same in omega (arith, up, same)
+  entry_clear k code h = else_clear (row (index_of differences k) class h.owned) (else_clear h.owned (else_clear h.rises (λ none. none)))
 
   entry_number : (k m n : ℕ) → EntryBreaks IsOwner size class differences k m → EntryBreaks IsOwner size class differences k n → m ≡ n
-  entry_number k m n (MemberIndex p) (MemberIndex q) = refl
-  entry_number k m n (MemberIndex p) (MemberOwner q) = let lt = row (index_of differences k) q.owner q.owned in omega (arith, lt, p)
-  entry_number k m n (MemberIndex p) (MemberOrder q) = let lt = row (index_of differences k) class q.owned in omega (arith, lt, p)
-  entry_number k m n (MemberOwner p) (MemberIndex q) = let lt = row (index_of differences k) p.owner p.owned in omega (arith, lt, q)
-  entry_number k m n (MemberOwner p) (MemberOwner q) = refl
-  entry_number k m n (MemberOwner p) (MemberOrder q) = absurd (p.other (one (index_of differences k) p.owner class p.owned q.owned))
-  entry_number k m n (MemberOrder p) (MemberIndex q) = let lt = row (index_of differences k) class p.owned in omega (arith, lt, q)
-  entry_number k m n (MemberOrder p) (MemberOwner q) = absurd (q.other (one (index_of differences k) q.owner class q.owned p.owned))
-  entry_number k m n (MemberOrder p) (MemberOrder q) = refl
+  entry_number k m n = else_one (else_one (else_one (λ none _. absurd none)))
 
   entries_clear : (code : ℕ) → MemberEntriesHold IsOwner class differences → EntriesBreak IsOwner size class differences code → ⊥
   entries_clear code hold b = entry_clear b.entry code (hold b.entry b.within) b.breaks
@@ -79,20 +70,23 @@ module _ (IsOwner : ℕ → Units → Type 0) (size : ℕ) (row : (k : ℕ) (t :
     ]
   ]
 
--- ---- of the four lists the first
+-- ---- a member is of one class
 
 module _ (b : List ℕ) (framed : IsFramed b) where
+  pub field_owner_one : (k : ℕ) (s t : Units) → FieldOwner b k s → FieldOwner b k t → s ≡ t
+  field_owner_one k s t p q = sym p.2 ∙ ap (λ f. f.class) (field_one b framed k p.0 q.0 p.1 q.1) ∙ q.2
+
+  pub method_owner_one : (k : ℕ) (s t : Units) → MethodOwner b k s → MethodOwner b k t → s ≡ t
+  method_owner_one k s t p q = sym p.2 ∙ ap (λ m. m.class) (method_one b framed k p.0 q.0 p.1 q.1) ∙ q.2
+
+-- ---- of the four lists the first
+
+module _ (b : List ℕ) where
   field_row : (k : ℕ) (t : Units) → FieldOwner b k t → k < size_of b 3
   field_row k t o = o.1.row
 
-  field_owner_one : (k : ℕ) (s t : Units) → FieldOwner b k s → FieldOwner b k t → s ≡ t
-  field_owner_one k s t p q = sym p.2 ∙ ap (λ f. f.class) (field_one b framed k p.0 q.0 p.1 q.1) ∙ q.2
-
   method_row : (k : ℕ) (t : Units) → MethodOwner b k t → k < size_of b 4
   method_row k t o = o.1.row
-
-  method_owner_one : (k : ℕ) (s t : Units) → MethodOwner b k s → MethodOwner b k t → s ≡ t
-  method_owner_one k s t p q = sym p.2 ∙ ap (λ m. m.class) (method_one b framed k p.0 q.0 p.1 q.1) ∙ q.2
 
   module _ (class : Units) (e : Entries) where
     abbrev Fields : List FieldEntry → ℕ → Type 0
@@ -102,37 +96,31 @@ module _ (b : List ℕ) (framed : IsFramed b) where
     Methods es code = EntriesBreak (MethodOwner b) (size_of b 4) class (steps es) code
 
     fields_clear : (es : List FieldEntry) (code : ℕ) → FieldEntriesHold b class es → Fields es code → ⊥
-    fields_clear es code = entries_clear (FieldOwner b) (size_of b 3) field_row field_owner_one class (steps es) code
+    fields_clear es code = entries_clear (FieldOwner b) (size_of b 3) field_row class (steps es) code
 
     methods_clear : (es : List MethodEntry) (code : ℕ) → MethodEntriesHold b class es → Methods es code → ⊥
-    methods_clear es code = entries_clear (MethodOwner b) (size_of b 4) method_row method_owner_one class (steps es) code
+    methods_clear es code = entries_clear (MethodOwner b) (size_of b 4) method_row class (steps es) code
 
     fields_number : (es : List FieldEntry) (m n : ℕ) → Fields es m → Fields es n → m ≡ n
-    fields_number es m n = entries_number (FieldOwner b) (size_of b 3) field_row field_owner_one class (steps es) m n
+    fields_number es m n = entries_number (FieldOwner b) (size_of b 3) field_row class (steps es) m n
 
     methods_number : (es : List MethodEntry) (m n : ℕ) → Methods es m → Methods es n → m ≡ n
-    methods_number es m n = entries_number (MethodOwner b) (size_of b 4) method_row method_owner_one class (steps es) m n
+    methods_number es m n = entries_number (MethodOwner b) (size_of b 4) method_row class (steps es) m n
 
     pub members_clear : (code : ℕ) → MembersHold b class e → MembersBreak b class e code → ⊥
     members_clear code h (inl p) = fields_clear e.statics code h.statics p
-    members_clear code h (inr (inl p)) = fields_clear e.instances code h.instances p.1
-    members_clear code h (inr (inr (inl p))) = methods_clear e.directs code h.directs p.2
-    members_clear code h (inr (inr (inr p))) = methods_clear e.virtuals code h.virtuals p.3
+    members_clear code h (inr (_, inl p)) = fields_clear e.instances code h.instances p
+    members_clear code h (inr (_, inr (_, inl p))) = methods_clear e.directs code h.directs p
+    members_clear code h (inr (_, inr (_, inr (_, p)))) = methods_clear e.virtuals code h.virtuals p
 
     pub members_number : (m n : ℕ) → MembersBreak b class e m → MembersBreak b class e n → m ≡ n
     members_number m n (inl x) (inl y) = fields_number e.statics m n x y
-    members_number m n (inl x) (inr (inl y)) = absurd (fields_clear e.statics m y.0 x)
-    members_number m n (inl x) (inr (inr (inl y))) = absurd (fields_clear e.statics m y.0 x)
-    members_number m n (inl x) (inr (inr (inr y))) = absurd (fields_clear e.statics m y.0 x)
-    members_number m n (inr (inl x)) (inl y) = absurd (fields_clear e.statics n x.0 y)
-    members_number m n (inr (inl x)) (inr (inl y)) = fields_number e.instances m n x.1 y.1
-    members_number m n (inr (inl x)) (inr (inr (inl y))) = absurd (fields_clear e.instances m y.1 x.1)
-    members_number m n (inr (inl x)) (inr (inr (inr y))) = absurd (fields_clear e.instances m y.1 x.1)
-    members_number m n (inr (inr (inl x))) (inl y) = absurd (fields_clear e.statics n x.0 y)
-    members_number m n (inr (inr (inl x))) (inr (inl y)) = absurd (fields_clear e.instances n x.1 y.1)
-    members_number m n (inr (inr (inl x))) (inr (inr (inl y))) = methods_number e.directs m n x.2 y.2
-    members_number m n (inr (inr (inl x))) (inr (inr (inr y))) = absurd (methods_clear e.directs m y.2 x.2)
-    members_number m n (inr (inr (inr x))) (inl y) = absurd (fields_clear e.statics n x.0 y)
-    members_number m n (inr (inr (inr x))) (inr (inl y)) = absurd (fields_clear e.instances n x.1 y.1)
-    members_number m n (inr (inr (inr x))) (inr (inr (inl y))) = absurd (methods_clear e.directs n x.2 y.2)
-    members_number m n (inr (inr (inr x))) (inr (inr (inr y))) = methods_number e.virtuals m n x.3 y.3
+    members_number m n (inl x) (inr y) = absurd (fields_clear e.statics m y.0 x)
+    members_number m n (inr x) (inl y) = absurd (fields_clear e.statics n x.0 y)
+    members_number m n (inr (_, inl x)) (inr (_, inl y)) = fields_number e.instances m n x y
+    members_number m n (inr (_, inl x)) (inr (_, inr y)) = absurd (fields_clear e.instances m y.0 x)
+    members_number m n (inr (_, inr x)) (inr (_, inl y)) = absurd (fields_clear e.instances n x.0 y)
+    members_number m n (inr (_, inr (_, inl x))) (inr (_, inr (_, inl y))) = methods_number e.directs m n x y
+    members_number m n (inr (_, inr (_, inl x))) (inr (_, inr (_, inr y))) = absurd (methods_clear e.directs m y.0 x)
+    members_number m n (inr (_, inr (_, inr x))) (inr (_, inr (_, inl y))) = absurd (methods_clear e.directs n x.0 y)
+    members_number m n (inr (_, inr (_, inr x))) (inr (_, inr (_, inr y))) = methods_number e.virtuals m n x.1 y.1

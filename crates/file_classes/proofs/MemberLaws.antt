@@ -1,5 +1,5 @@
 -- Entries in memory, read one by one by their indices.
-use Rattle.std.proofs.Common.{◌≡◌, ℕ, zero, suc, ◌+◌, ◌<◌, List, [], ◌∷◌, length, map, take, get_or, Some, option_map, refl, sym, ap, ◌∙◌, subst, arith, slice_get}
+use Rattle.std.proofs.Common.{◌≡◌, ℕ, zero, suc, ◌+◌, ◌<◌, ◌≤◌, List, [], ◌∷◌, length, map, take, get_or, Option, Some, option_map, inl, inr, refl, sym, ap, ◌∙◌, subst, arith, slice_get}
 use Rattle.std.specs.Prelude.{slice_index, sum}
 use Rattle.std.proofs.lemmas.Grind.{common_steps}
 use Rattle.std.proofs.lemmas.List.{length-map}
@@ -9,12 +9,13 @@ use Rattle.program_types.specs.Content.{Units, FieldRef, Method}
 use Rattle.tables_rows.specs.Stands.{FieldStands, MethodStands}
 use Rattle.file_classes.specs.ClassData.{FieldEntry, MethodEntry, Entries, EntriesAt, steps, index_of, FirstEntriesAre, EntriesAre}
 use Rattle.tables_rows.specs.RowFields.{row_place}
-use Rattle.tables_rows.specs.TableFaults.{BreaksAt}
+use Rattle.tables_rows.specs.TableFaults.{or_else, BreaksAt}
 use Rattle.file_classes.specs.ClassRows.{class_word, InOrder}
-use Rattle.file_classes.specs.ClassFaults.{HasHead, MemberEntryHolds, IsForeign, EntryBreaks, MemberIndex, MemberOwner, MemberOrder, ClassRowBreaks, Member, ClassRowHolds}
+use Rattle.file_classes.specs.ClassFaults.{MemberEntryHolds, EntryBreaks, ClassRowBreaks, ClassRowHolds}
 use Rattle.file_classes.proofs.EntryLaws.{entry_at}
 use Rattle.file_classes.proofs.EntryFaults.{run_holds}
-use Rattle.file_classes.specs.inner.Reading.{bare, HaveCodes, IsBare, IndexBreaks, IndexIsOut, IndexIsForeign, IndexFails, EntriesFail, MembersFail, head, IsHead}
+use Rattle.file_classes.proofs.RowFaults.{member as member_entry}
+use Rattle.file_classes.specs.inner.Reading.{bare, HaveCodes, IsBare, IndexBreaks, IndexFails, EntriesFail, MembersFail, head, IsHead}
 use Rattle.file_classes.specs.declared.members.Bare.{Bare}
 use Rattle.file_classes.specs.Classes.{IsField, IsMethod, RowIs, InterfacesAt, HeadIs}
 use Rattle.file_classes.specs.declared.heads.Head.{Head}
@@ -22,8 +23,22 @@ use Rattle.program_types.specs.View.{desc, str, member, method_ref}
 
 -- what the row at the index of an entry breaks, the entry breaks
 entry_breaks : (IsOwner : ℕ → Units → Type 0) (size : ℕ) (class : Units) (differences : List ℕ) (k index code : ℕ) → index ≡ index_of differences k → IndexBreaks IsOwner size class index code → EntryBreaks IsOwner size class differences k code
-entry_breaks IsOwner size class differences k index code is (IndexIsOut out) = MemberIndex (omega (arith, out, is))
-entry_breaks IsOwner size class differences k index code is (IndexIsForeign f) = MemberOwner (subst (λ (i : ℕ). IsForeign IsOwner class i) is f)
+unfolding IndexBreaks
+entry_breaks IsOwner size class differences k index code is x = by (subst (λ (i : ℕ). or_else 45 code (i < size) (or_else 46 code (IsOwner i class) ⊥)) is x)
+  where
+    by : or_else 45 code (index_of differences k < size) (or_else 46 code (IsOwner (index_of differences k) class) ⊥) → EntryBreaks IsOwner size class differences k code
+    by (inl y) = inl y
+    by (inr (lt, inl y)) = inr (lt, inl y)
+    by (inr (lt, inr (_, none))) = absurd none
+
+module _ (IsOwner : ℕ → Units → Type 0) (size : ℕ) (class : Units) (index : ℕ) where
+  pub index_out : size ≤ index → IndexBreaks IsOwner size class index 45
+  unfolding IndexBreaks
+  index_out past = inl ((λ lt. omega (arith, lt, past)), refl)
+
+  pub index_foreign : index < size → (IsOwner index class → ⊥) → IndexBreaks IsOwner size class index 46
+  unfolding IndexBreaks
+  index_foreign lt other = inr (lt, inl (other, refl))
 
 module _ {E R : Type 0} (view : E → ℕ × R) where
   pub step_at : (es : List E) (k : ℕ) (d : E) → k < length es → get_or (steps (map view es)) k 0 ≡ (view (get_or es k d)).0
@@ -63,12 +78,15 @@ module _ {E R : Type 0} (view : E → ℕ × R) where
       }
 
       -- a difference of 0 after another entry is one
-      pub step_fails : IsOwner (index + step) class → 0 < k → (view (get_or es k d)).0 ≡ 0 → EntriesFail IsOwner size class (steps (map view es)) place (record { code = 47; place = place })
-      step_fails owned some zero_step = record {
+      pub step_fails : index + step < size → IsOwner (index + step) class → 0 < k → (view (get_or es k d)).0 ≡ 0 → EntriesFail IsOwner size class (steps (map view es)) place (record { code = 47; place = place })
+      step_fails row owned some zero_step = record {
         breaks = record {
           entry = k;
           within = inside;
-          breaks = MemberOrder (record { owned = subst (λ (i : ℕ). IsOwner i class) (next_index index step last at) owned; after = some; same = step_at es k d lt ∙ zero_step });
+          breaks = inr (
+            subst (λ (i : ℕ). i < size) (next_index index step last at) row,
+            inr (subst (λ (i : ℕ). IsOwner i class) (next_index index step last at) owned, inl ((λ rises. let up = rises some in let here = step_at es k d lt in omega (arith, up, here, zero_step)), refl)),
+          );
           before = before;
         };
         there = refl;
@@ -100,11 +118,9 @@ all_run M es n vs e r = subst (λ (k : ℕ). FirstEntriesAre M es k vs) e r
 -- ---- the members of a row
 
 -- what an entry breaks breaks in the row
-pub member_breaks : (b : List ℕ) (i : ℕ) (e : Entries) (class : Units) (fault : Fault) → HasHead b i class → InOrder b i → EntriesAt b (class_word b i 6) e → MembersFail b class e (row_place b 5 i) fault → BreaksAt ClassRowBreaks b 5 i fault
-member_breaks b i e class fault head order at fails = record {
-  breaks = Member (record { class = class; head = head; order = order; entries = e; class_data = at; breaks = fails.breaks });
-  place = fails.there;
-}
+pub member_breaks : (b : List ℕ) (i : ℕ) (e : Entries) (fault : Fault) (ts : List Units) {class : Units} {flags : ℕ} {superclass source : Option Units} → RowIs b i class flags superclass source → InterfacesAt b (class_word b i 3) ts → InOrder b i → EntriesAt b (class_word b i 6) e
+    → MembersFail b class e (row_place b 5 i) fault → BreaksAt ClassRowBreaks b 5 i fault
+member_breaks b i e fault ts row list order at fails = record { breaks = member_entry b i row list order e at fails.breaks; place = fails.there }
 
 -- methods before their code: as methods, and where the code stands
 pub bares_run : (b : List ℕ) (class : Units) (es : List MethodEntry) (ms : List Bare) → EntriesAre (IsBare b class) es ms → EntriesAre (IsMethod b class) es (map bare ms)

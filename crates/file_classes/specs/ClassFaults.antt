@@ -1,9 +1,8 @@
 -- The faults of class rows, static values, code and its registers. Each is stated so that it has a meaning for any file; it
--- is asked only where the groups before, and the rows before, hold. Of the rules of a row each says what is asked before it.
-use Rattle.std.specs.Prelude.{◌≡◌, ◌≢◌, ℕ, ◌<◌, ◌≤◌, ◌⊎◌, ◌==◌, ◌||◌, if◌then◌else◌, MatchBool, None, List, length, Option, Some, slice_index, IfSome}
+-- is asked only where the groups before, and the rows before, hold.
+use Rattle.std.specs.Prelude.{◌≡◌, ◌≢◌, ℕ, ◌<◌, ◌⊎◌, ◌==◌, ◌||◌, if◌then◌else◌, MatchBool, None, List, length, Option, Some, slice_index}
 use Rattle.std.specs.List.{slice_get}
 use Rattle.dex_base.specs.declared.fault.Fault.{Fault}
-use Rattle.dex_base.specs.Descriptor.{IsClass}
 use Rattle.dex_container.specs.Layout.{size_of}
 use Rattle.dex_container.specs.Frame.{IsFramed}
 use Rattle.dex_container.specs.Section as section
@@ -11,64 +10,26 @@ use Rattle.program_types.specs.Content.{Units, FieldRef, MethodRef, Value, Code,
 use Rattle.tables_rows.specs.RowFields.{row_place}
 use Rattle.tables_rows.specs.Names.{Names, AreNamesOf, NameIsAt}
 use Rattle.tables_rows.specs.Sorted.{RowsHold, TablesHold}
-use Rattle.tables_rows.specs.Stands.{StringStands, TypeStands, FieldStands, MethodStands, NameStands}
-use Rattle.tables_rows.specs.TableFaults.{IsFirstRow}
+use Rattle.tables_rows.specs.Stands.{TypeStands, FieldStands, MethodStands, NameStands}
+use Rattle.tables_rows.specs.TableFaults.{or_else, IsFirstRow}
 use Rattle.dex_value.specs.Faults.{ArrayBreaksAt}
 use Rattle.code_read.specs.Code.{BodyStands}
 use Rattle.code_read.specs.Faults.{CodeBreaks, CodeOverruns}
-use Rattle.file_classes.specs.ClassRows.{no_index, IndexOrNone, InOrder, class_data_off, class_idx, interfaces_off, source_file_idx, static_values_off, superclass_idx}
+use Rattle.file_classes.specs.ClassRows.{no_index, InOrder, class_data_off, class_idx, interfaces_off, source_file_idx, static_values_off, superclass_idx}
 use Rattle.file_classes.specs.ClassData.{FieldEntry, MethodEntry, Entries, EntriesAt, steps, index_of, code_off}
 use Rattle.file_classes.specs.Classes.{RowIs, InterfacesAt, HeadIs, StaticsAt, CodeAt}
 
 -- ---- class rows
 
--- 40: an index is out of its table.
-abbrev pub HasNoName : List ℕ → ℕ → Type 0
-HasNoName b i =
-    (size_of b section.type_ids ≤ class_idx b i)
-    ⊎ ((superclass_idx b i ≢ no_index) × (size_of b section.type_ids ≤ superclass_idx b i))
-    ⊎ ((source_file_idx b i ≢ no_index) × (size_of b section.string_ids ≤ source_file_idx b i))
+-- The indices of class, superclass and source file are in their tables.
+pub record NamesAreIn (b : List ℕ) (i : ℕ) : Type 0 where
+  pub class : class_idx b i < size_of b section.type_ids
+  pub superclass : superclass_idx b i ≢ no_index → superclass_idx b i < size_of b section.type_ids
+  pub source : source_file_idx b i ≢ no_index → source_file_idx b i < size_of b section.string_ids
 
--- 41: the three are there, and class or superclass is no class type.
-pub record IsOfOtherKind (b : List ℕ) (i : ℕ) : Type 0 where
-  pub class : Units
-  pub superclass : Option Units
-  pub source : Option Units
-  pub named : TypeStands b (class_idx b i) class
-  pub above : IndexOrNone (TypeStands b) (superclass_idx b i) superclass
-  pub written_in : IndexOrNone (StringStands b) (source_file_idx b i) source
-  pub other : (¬ IsClass class) ⊎ (¬ IfSome superclass IsClass)
-
--- 43: these are of their kinds, and no list of distinct class types stands at the offset.
-pub record HasNoInterfaces (b : List ℕ) (i : ℕ) : Type 0 where
-  pub class : Units
-  pub flags : ℕ
-  pub superclass : Option Units
-  pub source : Option Units
-  pub row : RowIs b i class flags superclass source
-  pub none : (ts : List Units) → ¬ InterfacesAt b (interfaces_off b i) ts
-
--- The row keeps the rules of its head: names and class types, and a list of interfaces.
-pub record HasHead (b : List ℕ) (i : ℕ) (class : Units) : Type 0 where
-  pub flags : ℕ
-  pub superclass : Option Units
-  pub source : Option Units
-  pub interfaces : List Units
-  pub row : RowIs b i class flags superclass source
-  pub list : InterfacesAt b (interfaces_off b i) interfaces
-
--- 42: it keeps these, and is out of order.
-pub record ComesTooEarly (b : List ℕ) (i : ℕ) : Type 0 where
-  pub class : Units
-  pub head : HasHead b i class
-  pub late : ¬ InOrder b i
-
--- 44: it is in order too, and no class_data_item stands at the offset.
-pub record HasNoClassData (b : List ℕ) (i : ℕ) : Type 0 where
-  pub class : Units
-  pub head : HasHead b i class
-  pub order : InOrder b i
-  pub none : (e : Entries) → ¬ EntriesAt b (class_data_off b i) e
+-- Class and superclass are class types.
+abbrev pub HasNames : List ℕ → ℕ → Type 0
+HasNames b i = (class : Units) × (flags : ℕ) × (superclass : Option Units) × (source : Option Units) × RowIs b i class flags superclass source
 
 -- ---- members, entry by entry
 
@@ -85,23 +46,12 @@ pub record MemberEntryHolds (IsOwner : ℕ → Units → Type 0) (class : Units)
   pub owned : IsOwner (index_of differences k) class
   pub rises : 0 < k → 0 < slice_index differences k
 
--- 46: the row of an index is of another class.
-pub record IsForeign (IsOwner : ℕ → Units → Type 0) (class : Units) (index : ℕ) : Type 0 where
-  pub owner : Units
-  pub owned : IsOwner index owner
-  pub other : owner ≢ class
-
--- 47: entry k is one of the class, and has the index of the entry before.
-pub record EntryRepeats (IsOwner : ℕ → Units → Type 0) (class : Units) (differences : List ℕ) (k : ℕ) : Type 0 where
-  pub owned : IsOwner (index_of differences k) class
-  pub after : 0 < k
-  pub same : slice_index differences k ≡ 0
-
 -- The rule that entry k breaks.
-pub data EntryBreaks (IsOwner : ℕ → Units → Type 0) (size : ℕ) (class : Units) (differences : List ℕ) (k : ℕ) : ℕ → Type 0 where
-  MemberIndex : size ≤ index_of differences k → EntryBreaks IsOwner size class differences k 45
-  MemberOwner : IsForeign IsOwner class (index_of differences k) → EntryBreaks IsOwner size class differences k 46
-  MemberOrder : EntryRepeats IsOwner class differences k → EntryBreaks IsOwner size class differences k 47
+abbrev pub EntryBreaks : (ℕ → Units → Type 0) → ℕ → Units → List ℕ → ℕ → ℕ → Type 0
+EntryBreaks IsOwner size class differences k code =
+    or_else 45 code (index_of differences k < size) (
+    or_else 46 code (IsOwner (index_of differences k) class) (
+    or_else 47 code (0 < k → 0 < slice_index differences k) ⊥))
 
 -- All entries of a list hold.
 abbrev pub MemberEntriesHold : (ℕ → Units → Type 0) → Units → List ℕ → Type 0
@@ -135,27 +85,27 @@ MethodEntriesBreak b class es code = EntriesBreak (MethodOwner b) (size_of b sec
 abbrev pub MembersBreak : List ℕ → Units → Entries → ℕ → Type 0
 MembersBreak b class e code =
     FieldEntriesBreak b class e.statics code
-    ⊎ (FieldEntriesHold b class e.statics × FieldEntriesBreak b class e.instances code)
-    ⊎ (FieldEntriesHold b class e.statics × FieldEntriesHold b class e.instances × MethodEntriesBreak b class e.directs code)
-    ⊎ (FieldEntriesHold b class e.statics × FieldEntriesHold b class e.instances × MethodEntriesHold b class e.directs × MethodEntriesBreak b class e.virtuals code)
+    ⊎ (FieldEntriesHold b class e.statics × (FieldEntriesBreak b class e.instances code
+    ⊎ (FieldEntriesHold b class e.instances × (MethodEntriesBreak b class e.directs code
+    ⊎ (MethodEntriesHold b class e.directs × MethodEntriesBreak b class e.virtuals code)))))
 
--- 45 to 47: class data stands there, and an entry breaks one.
+-- 45 to 47: an entry of the row's class data breaks one.
 pub record MemberBreaks (b : List ℕ) (i code : ℕ) : Type 0 where
   pub class : Units
-  pub head : HasHead b i class
-  pub order : InOrder b i
+  pub named : TypeStands b (class_idx b i) class
   pub entries : Entries
   pub class_data : EntriesAt b (class_data_off b i) entries
   pub breaks : MembersBreak b class entries code
 
 -- The rule that row i of class_defs breaks: the first, since each is asked only where those before it hold.
-pub data ClassRowBreaks (b : List ℕ) (i : ℕ) : ℕ → Type 0 where
-  ClassIndex : HasNoName b i → ClassRowBreaks b i 40
-  ClassKind : IsOfOtherKind b i → ClassRowBreaks b i 41
-  InterfaceList : HasNoInterfaces b i → ClassRowBreaks b i 43
-  ClassOrder : ComesTooEarly b i → ClassRowBreaks b i 42
-  ClassData : HasNoClassData b i → ClassRowBreaks b i 44
-  Member : {code : ℕ} → MemberBreaks b i code → ClassRowBreaks b i code
+unfoldable pub ClassRowBreaks : List ℕ → ℕ → ℕ → Type 0
+ClassRowBreaks b i code =
+    or_else 40 code (NamesAreIn b i) (
+    or_else 41 code (HasNames b i) (
+    or_else 43 code ((ts : List Units) × InterfacesAt b (interfaces_off b i) ts) (
+    or_else 42 code (InOrder b i) (
+    or_else 44 code ((e : Entries) × EntriesAt b (class_data_off b i) e) (
+    MemberBreaks b i code)))))
 
 -- Row i keeps the rules of class rows.
 pub record ClassRowHolds (b : List ℕ) (i : ℕ) : Type 0 where

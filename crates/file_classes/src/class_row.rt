@@ -115,7 +115,7 @@ fn is_class_or_none(superclass: Option<Desc<'_>>) -> bool
 }
 
 /// The names and flags of row i.
-#[tactic(auto, using(crate::specs::ClassFaults::ClassIndex))]
+#[tactic(auto, using(crate::proofs::RowFaults::class_index))]
 pub(crate) fn read_row<'a>(
     sections: &Sections<'_>,
     tables: &Tables<'a>,
@@ -126,6 +126,7 @@ pub(crate) fn read_row<'a>(
     ensures ok { IfOk result (λ r. RowIs sections.now i (desc r.ty) r.flags (option_map desc r.superclass) (option_map str r.source)) }
     ensures err { IfErr result (BreaksAt ClassRowBreaks sections.now section.class_defs i) }
 {
+    sections.framed();
     let place = class_place(sections, i);
     let Some(ty) = type_at(sections, tables, class_word(sections, i, word::CLASS_IDX)) else {
         return Err(Fault::at(fault::CLASS_INDEX, place));

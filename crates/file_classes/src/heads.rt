@@ -56,7 +56,6 @@ struct HeadReader<'a, 's, 'c> {
 
 impl<'a, 's> HeadReader<'a, 's, '_> {
     /// The head of row i.
-    #[tactic(auto, using(crate::specs::ClassFaults::InterfaceList, crate::specs::ClassFaults::ClassOrder, crate::specs::ClassFaults::ClassData))]
     fn read_head(
         &self,
         cached: &mut IndexMap<u32, &'a [Desc<'a>]>,
@@ -71,37 +70,23 @@ impl<'a, 's> HeadReader<'a, 's, '_> {
         ensures cached { OnOk result (AreCached (λ off list. InterfacesAt self.now.sections.now off (map desc list.now)) cached.new) }
         ensures err { IfErr result (λ e. e ≢ memory → BreaksAt ClassRowBreaks self.now.sections.now section.class_defs i e) }
     {
-        self.sections.framed();
-        let place = class_place(self.sections, i);
-        let row = read_row(self.sections, self.tables, i)?;
-        let list = class_word(self.sections, i, word::INTERFACES_OFF);
-        let Some(interfaces) = interfaces_at(
-            self.alloc,
-            self.arena,
-            self.sections,
-            self.tables,
-            cached,
-            list,
-        )?
+        let (arena, sections, tables) = (self.arena, self.sections, self.tables);
+        sections.framed();
+        let place = class_place(sections, i);
+        let row = read_row(sections, tables, i)?;
+        let list = class_word(sections, i, word::INTERFACES_OFF);
+        let Some(interfaces) = interfaces_at(self.alloc, arena, sections, tables, cached, list)?
         else {
             return Err(Fault::at(fault::INTERFACE_LIST, place));
         };
-        if !is_in_order(self.sections, self.places, i) {
+        if !is_in_order(sections, self.places, i) {
             return Err(Fault::at(fault::CLASS_ORDER, place));
         }
-        let data = class_word(self.sections, i, word::CLASS_DATA_OFF);
-        let Some(entries) = entries_at(self.alloc, self.sections, data)? else {
+        let data = class_word(sections, i, word::CLASS_DATA_OFF);
+        let Some(entries) = entries_at(self.alloc, sections, data)? else {
             return Err(Fault::at(fault::CLASS_DATA, place));
         };
-        let members = read_members(
-            self.arena,
-            self.scratch,
-            self.sections,
-            self.tables,
-            i,
-            row.ty,
-            &entries,
-        )?;
+        let members = read_members(arena, self.scratch, sections, tables, i, row.ty, &entries)?;
         Ok(Head {
             ty: row.ty,
             flags: row.flags,

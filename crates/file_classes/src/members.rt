@@ -51,7 +51,7 @@ struct Owner<'n> {
 }
 
 /// The field at an index, which is of this class.
-#[tactic(auto, using(crate::specs::inner::Reading::IndexIsOut))]
+#[tactic(auto, using(crate::proofs::MemberLaws::index_out))]
 fn field_at<'a>(
     sections: &Sections<'_>,
     tables: &Tables<'a>,
@@ -65,6 +65,7 @@ fn field_at<'a>(
     ensures small { IfOk result (λ _. index < 2 ^ 32) }
     ensures err { IfErr result (IndexFails (FieldOwner sections.now) (size_of sections.now section.field_ids) (desc owner.entry.class) index owner.entry.place) }
 {
+    sections.framed();
     let (count, _) = sections.table(kind::FIELD_ID_ITEM);
     if index >= u64::from(count) {
         return Err(Fault::at(fault::MEMBER_INDEX, owner.place));
@@ -80,7 +81,7 @@ fn field_at<'a>(
 }
 
 /// The method at an index, which is of this class.
-#[tactic(auto, using(crate::specs::inner::Reading::IndexIsOut))]
+#[tactic(auto, using(crate::proofs::MemberLaws::index_out))]
 fn method_at<'a>(
     sections: &Sections<'_>,
     tables: &Tables<'a>,
@@ -94,6 +95,7 @@ fn method_at<'a>(
     ensures small { IfOk result (λ _. index < 2 ^ 32) }
     ensures err { IfErr result (IndexFails (MethodOwner sections.now) (size_of sections.now section.method_ids) (desc owner.entry.class) index owner.entry.place) }
 {
+    sections.framed();
     let (count, _) = sections.table(kind::METHOD_ID_ITEM);
     if index >= u64::from(count) {
         return Err(Fault::at(fault::MEMBER_INDEX, owner.place));

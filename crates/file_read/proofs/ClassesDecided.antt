@@ -19,11 +19,12 @@ use Rattle.tables_rows.proofs.RowsBreak.{HoldsOrBreaks, first_break}
 use Rattle.file_classes.specs.ClassRows.{class_word, no_index, IndexOrNone, InterfaceIndexes, NoneDefines, InOrder}
 use Rattle.file_classes.specs.ClassData.{FieldEntry, MethodEntry, Entries, EntriesAt, steps, index_of, FirstEntriesAre, EntriesAre}
 use Rattle.file_classes.specs.Classes.{NoTypeTwice, InterfacesAt, RowIs, IsField, IsMethod}
-use Rattle.file_classes.specs.ClassFaults.{HasHead, FieldOwner, MethodOwner, EntryBreaks, MemberIndex, MemberOwner, MemberOrder, EntriesBreak, FieldEntriesBreak, MethodEntriesBreak, MembersBreak, ClassRowBreaks, ClassIndex, ClassKind, InterfaceList, ClassOrder, ClassData, Member, ClassRowHolds, ClassRowsHold, IsClassFault}
-use Rattle.file_classes.proofs.EntryFaults.{run_holds, field_owned, method_owned, fields_hold, methods_hold}
+use Rattle.file_classes.specs.ClassFaults.{FieldOwner, MethodOwner, EntryBreaks, EntriesBreak, FieldEntriesBreak, MethodEntriesBreak, MembersBreak, ClassRowBreaks, ClassRowHolds, ClassRowsHold, IsClassFault}
+use Rattle.file_classes.proofs.EntryFaults.{run_holds, field_owned, method_owned, field_owner_one, method_owner_one, fields_hold, methods_hold}
 use Rattle.file_classes.proofs.EntryLaws.{entry_at, runs_none, runs_more}
 use Rattle.file_classes.proofs.HeadLaws.{to_each, no_classes, not_distinct}
 use Rattle.file_classes.proofs.MemberLaws.{field_stands}
+use Rattle.file_classes.proofs.RowFaults.{class_index, class_kind, interface_list, class_order, class_data, member}
 use Rattle.code_read.proofs.Deciding.{decide-all-below, decide-implied}
 use Rattle.file_read.proofs.DataDecided.{decide_entries_at}
 
@@ -102,15 +103,15 @@ module _ (b : List ℕ) where
 -- ---- members
 
 module _ {R V : Type 0} (M : ℕ → ℕ × R → V → Type 0) (IsOwner : ℕ → Units → Type 0) (size : ℕ) (class : Units)
-    (row : (k : ℕ) (e : ℕ × R) → k < size → ((v : V) × M k e v) ⊎ ((t : Units) × IsOwner k t × (t ≢ class))) (owns : (k : ℕ) (e : ℕ × R) (v : V) → M k e v → IsOwner k class) (es : List (ℕ × R)) where
+    (row : (k : ℕ) (e : ℕ × R) → k < size → ((v : V) × M k e v) ⊎ (IsOwner k class → ⊥)) (owns : (k : ℕ) (e : ℕ × R) (v : V) → M k e v → IsOwner k class) (es : List (ℕ × R)) where
   -- the first n entries stand for members of the class, or an entry breaks a rule
   abbrev RunOrBreaks : ℕ → Type 0
   RunOrBreaks n = ((vs : List V) × FirstEntriesAre M es n vs) ⊎ ((code : ℕ) × EntriesBreak IsOwner size class (steps es) code)
 
-  step_up : (n : ℕ) → (0 < n → 0 < slice_index (steps es) n) ⊎ ((0 < n) × (slice_index (steps es) n ≡ 0))
+  step_up : (n : ℕ) → Decided (0 < n → 0 < slice_index (steps es) n)
   step_up n = elim (cases_lt 0 n) [
     | inl some ↦ elim (cases_eq (slice_index (steps es) n) 0) [
-      | inl same ↦ inr (some, same)
+      | inl same ↦ inr (λ rises. let up = rises some in omega (arith, up, same))
       | inr other ↦ inl (λ _. omega (arith, other))
     ]
     | inr none ↦ inl (λ some. absurd (omega (arith, none, some)))
@@ -135,11 +136,11 @@ module _ {R V : Type 0} (M : ℕ → ℕ × R → V → Type 0) (IsOwner : ℕ �
                   let more = runs_more M es n x.0 at.0 v.0 x.1 at.1 v.1 up in
                   let next : n + 1 ≡ suc n = omega arith in
                   inl (x.0 ++ v.0 ∷ [], subst (λ (k : ℕ). FirstEntriesAre M es k (x.0 ++ v.0 ∷ [])) next more)
-              | inr flat ↦ inr (47, first n x.0 47 le x.1 (MemberOrder (record { owned = owns (index_of (steps es) n) at.0 v.0 v.1; after = flat.0; same = flat.1 })))
+              | inr flat ↦ inr (47, first n x.0 47 le x.1 (inr (lt, inr (owns (index_of (steps es) n) at.0 v.0 v.1, inl (flat, refl)))))
             ]
-            | inr f ↦ inr (46, first n x.0 46 le x.1 (MemberOwner (record { owner = f.0; owned = f.1; other = f.2 })))
+            | inr f ↦ inr (46, first n x.0 46 le x.1 (inr (lt, inl (f, refl))))
           ]
-          | inr ge ↦ inr (45, first n x.0 45 le x.1 (MemberIndex ge))
+          | inr ge ↦ inr (45, first n x.0 45 le x.1 (inl ((λ lt. omega (arith, lt, ge)), refl)))
         ]
     | inr f ↦ inr f
   ]
@@ -147,16 +148,16 @@ module _ {R V : Type 0} (M : ℕ → ℕ × R → V → Type 0) (IsOwner : ℕ �
   pub all_or_breaks : ((vs : List V) × EntriesAre M es vs) ⊎ ((code : ℕ) × EntriesBreak IsOwner size class (steps es) code)
   all_or_breaks = run_or_breaks (length es) (omega arith)
 
-module _ (b : List ℕ) (tables : TablesHold b) (class : Units) where
-  field_row_of : (k : ℕ) (e : FieldEntry) → k < size_of b 3 → ((v : content.Member) × IsField b class k e v) ⊎ ((t : Units) × FieldOwner b k t × (t ≢ class))
+module _ (b : List ℕ) (framed : IsFramed b) (tables : TablesHold b) (class : Units) where
+  field_row_of : (k : ℕ) (e : FieldEntry) → k < size_of b 3 → ((v : content.Member) × IsField b class k e v) ⊎ (FieldOwner b k class → ⊥)
   field_row_of k e lt =
       let row = tables.fields k lt in
       elim (decide_list row.name.class class) [
         | inl same ↦ inl (record { name = row.name.name; ty = row.name.ty; flags = e.1 }, field_stands b k k row.name class e refl same row.stands)
-        | inr nay ↦ inr (row.name.class, (row.name, row.stands, refl), nay)
+        | inr nay ↦ inr (λ o. nay (field_owner_one b framed k row.name.class class (row.name, row.stands, refl) o))
       ]
 
-  method_row_of : (k : ℕ) (e : MethodEntry) → k < size_of b 4 → ((v : Method) × IsMethod b class k e v) ⊎ ((t : Units) × MethodOwner b k t × (t ≢ class))
+  method_row_of : (k : ℕ) (e : MethodEntry) → k < size_of b 4 → ((v : Method) × IsMethod b class k e v) ⊎ (MethodOwner b k class → ⊥)
   method_row_of k e lt =
       let row = tables.methods k lt in
       elim (decide_list row.name.class class) [
@@ -164,7 +165,7 @@ module _ (b : List ℕ) (tables : TablesHold b) (class : Units) where
           record { name = row.name.name; proto = row.name.proto; flags = e.1.0; code = None },
           record { method = subst (λ (t : Units). MethodStands b k (record { class = t; name = row.name.name; proto = row.name.proto })) same row.stands; flags = refl },
         )
-        | inr nay ↦ inr (row.name.class, (row.name, row.stands, refl), nay)
+        | inr nay ↦ inr (λ o. nay (method_owner_one b framed k row.name.class class (row.name, row.stands, refl) o))
       ]
 
   pub fields_or_breaks : (es : List FieldEntry) → ((vs : List content.Member) × EntriesAre (IsField b class) es vs) ⊎ ((code : ℕ) × FieldEntriesBreak b class es code)
@@ -195,28 +196,25 @@ module _ (b : List ℕ) (framed : IsFramed b) (tables : TablesHold b) (i : ℕ) 
   -- what is asked after the row's names and kinds: interfaces, order, class data, members
   module _ (class : Units) (superclass source : Option Units) (row : RowIs b i class (class_word b i 1) superclass source) where
     module _ (interfaces : List Units) (list : InterfacesAt b (class_word b i 3) interfaces) where
-      head : HasHead b i class
-      head = record { flags = class_word b i 1; superclass = superclass; source = source; interfaces = interfaces; row = row; list = list }
-
       module _ (order : InOrder b i) (e : Entries) (data_at : EntriesAt b (class_word b i 6) e) where
         broken : (code : ℕ) → MembersBreak b class e code → HoldsOrBreaks ClassRowHolds ClassRowBreaks b i
         unfolding HoldsOrBreaks
-        broken code breaks = inr (code, Member (record { class = class; head = head; order = order; entries = e; class_data = data_at; breaks = breaks }))
+        broken code breaks = inr (code, member b i row list order e data_at breaks)
 
         members_row : HoldsOrBreaks ClassRowHolds ClassRowBreaks b i
         unfolding HoldsOrBreaks
-        members_row = elim (fields_or_breaks b tables class e.statics) [
+        members_row = elim (fields_or_breaks b framed tables class e.statics) [
           | inr f ↦ broken f.0 (inl f.1)
           | inl s ↦
               let statics = fields_hold b class e.statics s.0 s.1 in
-              elim (fields_or_breaks b tables class e.instances) [
-                | inr f ↦ broken f.0 (inr (inl (statics, f.1)))
+              elim (fields_or_breaks b framed tables class e.instances) [
+                | inr f ↦ broken f.0 (inr (statics, inl f.1))
                 | inl n ↦
                     let instances = fields_hold b class e.instances n.0 n.1 in
-                    elim (methods_or_breaks b tables class e.directs) [
-                      | inr f ↦ broken f.0 (inr (inr (inl (statics, instances, f.1))))
-                      | inl d ↦ elim (methods_or_breaks b tables class e.virtuals) [
-                        | inr f ↦ broken f.0 (inr (inr (inr (statics, instances, methods_hold b class e.directs d.0 d.1, f.1))))
+                    elim (methods_or_breaks b framed tables class e.directs) [
+                      | inr f ↦ broken f.0 (inr (statics, inr (instances, inl f.1)))
+                      | inl d ↦ elim (methods_or_breaks b framed tables class e.virtuals) [
+                        | inr f ↦ broken f.0 (inr (statics, inr (instances, inr (methods_hold b class e.directs d.0 d.1, f.1))))
                         | inl v ↦ inl (record {
                           entries = e;
                           class = record { ty = class; flags = class_word b i 1; superclass = superclass; interfaces = interfaces; source = source; statics = s.0; values = []; instances = n.0; directs = d.0; virtuals = v.0 };
@@ -231,11 +229,11 @@ module _ (b : List ℕ) (framed : IsFramed b) (tables : TablesHold b) (i : ℕ) 
     after_names : HoldsOrBreaks ClassRowHolds ClassRowBreaks b i
     unfolding HoldsOrBreaks
     after_names = elim (decide_interfaces b framed tables (class_word b i 3)) [
-      | inr none ↦ inr (43, InterfaceList (record { class = class; flags = class_word b i 1; superclass = superclass; source = source; row = row; none = λ ts at. none (ts, at) }))
+      | inr none ↦ inr (43, interface_list b i row (λ ts at. none (ts, at)))
       | inl list ↦ elim (decide_order b framed i) [
-        | inr nay ↦ inr (42, ClassOrder (record { class = class; head = head list.0 list.1; late = nay }))
+        | inr nay ↦ inr (42, class_order b i row list.1 nay)
         | inl order ↦ elim (decide_entries_at b framed (class_word b i 6)) [
-          | inr none ↦ inr (44, ClassData (record { class = class; head = head list.0 list.1; order = order; none = λ e at. none (e, at) }))
+          | inr none ↦ inr (44, class_data b i row list.1 order (λ e at. none (e, at)))
           | inl e ↦ members_row list.0 list.1 order e.0 e.1
         ]
       ]
@@ -244,17 +242,17 @@ module _ (b : List ℕ) (framed : IsFramed b) (tables : TablesHold b) (i : ℕ) 
   pub class_row : i < size_of b 5 → HoldsOrBreaks ClassRowHolds ClassRowBreaks b i
   unfolding HoldsOrBreaks
   class_row lt = elim (cases_lt (class_word b i 0) (size_of b 1)) [
-    | inr ge ↦ inr (40, ClassIndex (inl ge))
+    | inr ge ↦ inr (40, class_index b i (inl ge))
     | inl c_in ↦ elim (optional (TypeStands b) (size_of b 1) (λ k l. let t = tables.types k l in (t.name, t.stands)) (class_word b i 2)) [
-      | inr p ↦ inr (40, ClassIndex (inr (inl p)))
+      | inr p ↦ inr (40, class_index b i (inr (inl p)))
       | inl above ↦ elim (optional (StringStands b) (size_of b 0) (λ k l. let s = tables.strings k l in (s.name, s.stands)) (class_word b i 4)) [
-        | inr p ↦ inr (40, ClassIndex (inr (inr p)))
+        | inr p ↦ inr (40, class_index b i (inr (inr p)))
         | inl source ↦
             let c = tables.types (class_word b i 0) c_in in
             elim (decide_class c.name) [
-              | inr nay ↦ inr (41, ClassKind (record { class = c.name; superclass = above.0; source = source.0; named = c.stands; above = above.1; written_in = source.1; other = inl nay }))
+              | inr nay ↦ inr (41, class_kind b i c.name above.0 source.0 c.stands above.1 source.1 framed (inl nay))
               | inl is_class ↦ elim (class_above above.0) [
-                | inr nay ↦ inr (41, ClassKind (record { class = c.name; superclass = above.0; source = source.0; named = c.stands; above = above.1; written_in = source.1; other = inr nay }))
+                | inr nay ↦ inr (41, class_kind b i c.name above.0 source.0 c.stands above.1 source.1 framed (inr nay))
                 | inl above_class ↦
                     after_names c.name above.0 source.0 (record { named = c.stands; class = is_class; flagged = refl; above = above.1; above_class = above_class; written_in = source.1 })
               ]

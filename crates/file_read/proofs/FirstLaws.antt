@@ -34,10 +34,10 @@ GroupHolds Registers b = RowsHold RowRegistersHold b (size_of b 5)
 clear : (b : List ℕ) (g : Group) (f : Fault) → IsFramed b → GroupHolds g b → GroupBreaks g b f → ⊥
 clear b Frame f framed hold x = framed_clear b framed f.code f.place x
 clear b Strings f framed hold x = string_clear b x.0 f.code (hold x.0 x.1) x.2.breaks
-clear b Types f framed hold x = type_clear b framed x.0 f.code (hold x.0 x.1) x.2.breaks
-clear b Protos f framed hold x = proto_clear b framed x.0 f.code (hold x.0 x.1) x.2.breaks
-clear b Fields f framed hold x = field_clear b framed x.0 f.code (hold x.0 x.1) x.2.breaks
-clear b Methods f framed hold x = method_clear b framed x.0 f.code (hold x.0 x.1) x.2.breaks
+clear b Types f framed hold x = type_clear b x.0 f.code (hold x.0 x.1) x.2.breaks
+clear b Protos f framed hold x = proto_clear b x.0 f.code (hold x.0 x.1) x.2.breaks
+clear b Fields f framed hold x = field_clear b x.0 f.code (hold x.0 x.1) x.2.breaks
+clear b Methods f framed hold x = method_clear b x.0 f.code (hold x.0 x.1) x.2.breaks
 clear b Classes f framed hold x = class_clear b framed x.0 f.code (hold x.0 x.1) x.2.breaks
 clear b Values f framed hold x = values_clear b framed x.0 f (hold x.0 x.1) x.2
 clear b Codes f framed hold x = bodies_clear b framed x.0 f (hold x.0 x.1) x.2

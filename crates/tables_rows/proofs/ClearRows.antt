@@ -1,5 +1,5 @@
--- A row that holds breaks no rule, and a name has one meaning.
-use Rattle.std.proofs.Common.{◌≡◌, ◌≢◌, ℕ, ◌<◌, ◌⊎◌, inl, inr, List, [], length, drop, ap, ◌∙◌, subst, arith, length-take, length-append, ◌∷◌}
+-- Which rule a row breaks, and that one that holds breaks none.
+use Rattle.std.proofs.Common.{◌≡◌, ◌≢◌, ℕ, ◌<◌, ◌≤◌, ◌⊎◌, refl, inl, inr, List, [], length, drop, ap, ◌∙◌, subst, arith, length-take, length-append, ◌∷◌}
 use Rattle.std.proofs.lemmas.Bool.{cases_lt}
 use Rattle.dex_base.specs.declared.fault.Fault.{Fault}
 use Rattle.dex_base.specs.Fault.{memory}
@@ -12,11 +12,11 @@ use Rattle.dex_container.specs.Where.{slice, At, IsInSection}
 use Rattle.tables_rows.specs.RowFields.{string_place, type_string, proto_shorty, proto_return, proto_parameters, member_class, member_kind, member_name}
 use Rattle.program_types.specs.Kinds.{void}
 use Rattle.program_types.specs.Shorty.{shorty}
-use Rattle.tables_rows.specs.Sorted.{StringHolds, TypeHolds, ProtoHolds, FieldHolds, MethodHolds, RowsHold}
-use Rattle.tables_rows.specs.TableFaults.{StringBreaks, StringPlace, StringSpelling, StringOrder, TypeBreaks, TypeIndex, TypeText, TypeOrder, ProtoBreaks, ProtoIndex, ParameterList, Shorty, ProtoOrder, FieldBreaks, FieldIndex}
-use Rattle.tables_rows.specs.TableFaults.{FieldKind, FieldOrder, MethodBreaks, MethodIndex, MethodKind, MethodOrder, IsNoDescriptor, ProtoIsOut, HasNoParameters, HasAnotherShorty, FieldIsOut, IsUnfitField, MethodIsOut, IsUnfitMethod, IsFirstRow}
+use Rattle.tables_rows.specs.Sorted.{RowRises, StringIsBelow, TypeIsBelow, ProtoIsBelow, MemberIsBelow, StringHolds, TypeHolds, ProtoHolds, FieldHolds, MethodHolds, RowsHold}
+use Rattle.tables_rows.specs.TableFaults.{StringBreaks, TypeBreaks, ProtoBreaks, FieldBreaks, MethodBreaks, ParametersAt, MemberIsIn, IsFirstRow}
 use Rattle.tables_rows.specs.Stands.{StringStands, TypeStands, ProtoStands, FieldStands, MethodStands}
 use Rattle.dex_container.proofs.Standing.{at_place}
+use Rattle.tables_rows.proofs.Asked.{else_clear}
 use Rattle.tables_rows.proofs.RowReading.{string_one}
 use Rattle.tables_rows.proofs.TypeLists.{type_one, types_one}
 
@@ -29,82 +29,126 @@ text_placed b place s a =
     let short = length-take a.size (drop place b) in
     at_place SpellsText b 0x2002 1 place s a (omega (arith, n, front, short))
 
--- a type that stands is a descriptor
-pub text_clear : (b : List ℕ) → IsFramed b → (i : ℕ) (t : Units) → TypeStands b i t → IsNoDescriptor b i → ⊥
-text_clear b framed i t s flaw = flaw.other (subst (λ u. IsDescriptor u) (string_one b (type_string b i) t flaw.text framed s.string flaw.string) s.descriptor)
+-- a proto that stands has its own shorty
+pub shorty_same : (b : List ℕ) → IsFramed b → (i : ℕ) (p q : Proto) (found : Units) → ProtoStands b i p → TypeStands b (proto_return b i) q.ret → ParametersAt b (proto_parameters b i) q.params → StringStands b (proto_shorty b i) found → found ≡ shorty q
+shorty_same b framed i p q found s ret params string =
+    let same : p ≡ q = (λ k. record { ret = type_one b (proto_return b i) p.ret q.ret framed s.ret ret k; params = types_one b (proto_parameters b i) p.params q.params framed s.params params.types k }) in
+    string_one b (proto_shorty b i) found (shorty p) framed string s.shorty ∙ ap shorty same
 
--- the indices of a proto whose parts stand are in their tables
-pub proto_placed : (b : List ℕ) (i : ℕ) → ProtoIsOut b i → proto_shorty b i < size_of b 0 → proto_return b i < size_of b 1 → ⊥
-proto_placed b i (inl past) shorty ret = omega (arith, shorty, past)
-proto_placed b i (inr past) shorty ret = omega (arith, ret, past)
+-- an index of a member is out of its table
+pub member_out : {b : List ℕ} {k kinds i : ℕ} → (size_of b 1 ≤ member_class b k i) ⊎ (size_of b kinds ≤ member_kind b k i) ⊎ (size_of b 0 ≤ member_name b k i) → MemberIsIn b k kinds i → ⊥
+member_out (inl past) x = let lt = x.class in omega (arith, lt, past)
+member_out (inr (inl past)) x = let lt = x.kind in omega (arith, lt, past)
+member_out (inr (inr past)) x = let lt = x.name in omega (arith, lt, past)
 
--- a proto that stands has parameters
-pub list_clear : (b : List ℕ) (i : ℕ) (p : Proto) → ProtoStands b i p → HasNoParameters b i → ⊥
-list_clear b i p s flaw = flaw.none p.params (record { types = s.params; values = s.values })
+-- ---- the rule that a row breaks
 
--- and its own shorty
-pub shorty_clear : (b : List ℕ) → IsFramed b → (i : ℕ) (p : Proto) → ProtoStands b i p → HasAnotherShorty b i → ⊥
-shorty_clear b framed i p s other =
-    let ret = type_one b (proto_return b i) p.ret other.proto.ret framed s.ret other.ret in
-    let params = types_one b (proto_parameters b i) p.params other.proto.params framed s.params other.params.types in
-    let same : p ≡ other.proto = (λ k. record { ret = ret k; params = params k }) in
-    other.differs (string_one b (proto_shorty b i) other.found (shorty p) framed other.string s.shorty ∙ ap shorty same)
+module _ (b : List ℕ) (i : ℕ) where
+  pub string_unplaced : (IsInSection b 0x2002 (string_place b i) → ⊥) → StringBreaks b i 20
+  unfolding StringBreaks
+  string_unplaced out = inl (out, refl)
 
--- the indices of a field whose parts stand are in their tables
-pub field_placed : {class ty name : Units} (b : List ℕ) (i : ℕ) → FieldIsOut b i → TypeStands b (member_class b 3 i) class → TypeStands b (member_kind b 3 i) ty → StringStands b (member_name b 3 i) name → ⊥
-field_placed b i (inl past) class ty name = let row = class.row in omega (arith, row, past)
-field_placed b i (inr (inl past)) class ty name = let row = ty.row in omega (arith, row, past)
-field_placed b i (inr (inr past)) class ty name = let row = name.row in omega (arith, row, past)
+  pub string_spelling : IsInSection b 0x2002 (string_place b i) → ((s : Units) → StringStands b i s → ⊥) → StringBreaks b i 21
+  unfolding StringBreaks
+  string_spelling inside none = inr (inside, inl ((λ x. none x.0 x.1), refl))
 
--- and a field that stands is of the right kinds
-pub field_fits : (b : List ℕ) → IsFramed b → (i : ℕ) (f : FieldRef) → FieldStands b i f → IsUnfitField b i → ⊥
-field_fits b framed i f s flaw = by flaw.unfit
-  where
-    by : (¬ IsClass flaw.field.class) ⊎ (flaw.field.ty ≡ void) ⊎ (¬ IsMemberName flaw.field.name) → ⊥
-    by (inl not) = not (subst (λ t. IsClass t) (type_one b (member_class b 3 i) f.class flaw.field.class framed s.class flaw.class) s.of_class)
-    by (inr (inl is)) = s.value (type_one b (member_kind b 3 i) f.ty flaw.field.ty framed s.ty flaw.ty ∙ is)
-    by (inr (inr not)) = not (subst (λ t. IsMemberName t) (string_one b (member_name b 3 i) f.name flaw.field.name framed s.name flaw.name) s.named)
+  pub string_order : {s : Units} → StringStands b i s → (RowRises StringIsBelow b i → ⊥) → StringBreaks b i 22
+  unfolding StringBreaks
+  string_order {s} stands falls = inr (text_placed b (string_place b i) s stands.text, inr ((s, stands), inl (falls, refl)))
 
--- the same of a method
-pub method_placed : {class name : Units} {proto : Proto} (b : List ℕ) (i : ℕ) → MethodIsOut b i → TypeStands b (member_class b 4 i) class → ProtoStands b (member_kind b 4 i) proto → StringStands b (member_name b 4 i) name → ⊥
-method_placed b i (inl past) class proto name = let row = class.row in omega (arith, row, past)
-method_placed b i (inr (inl past)) class proto name = let row = proto.row in omega (arith, row, past)
-method_placed b i (inr (inr past)) class proto name = let row = name.row in omega (arith, row, past)
+  pub type_index : size_of b 0 ≤ type_string b i → TypeBreaks b i 23
+  unfolding TypeBreaks
+  type_index past = inl ((λ lt. omega (arith, lt, past)), refl)
 
-pub method_fits : (b : List ℕ) → IsFramed b → (i : ℕ) (m : MethodRef) → MethodStands b i m → IsUnfitMethod b i → ⊥
-method_fits b framed i m s flaw = by flaw.unfit
-  where
-    by : (¬ (IsClass flaw.method.class ⊎ IsArray flaw.method.class)) ⊎ (¬ IsMemberName flaw.method.name) → ⊥
-    by (inl not) = not (subst (λ t. IsClass t ⊎ IsArray t) (type_one b (member_class b 4 i) m.class flaw.method.class framed s.class flaw.class) s.of_class)
-    by (inr not) = not (subst (λ t. IsMemberName t) (string_one b (member_name b 4 i) m.name flaw.method.name framed s.name flaw.name) s.named)
+  pub type_text : IsFramed b → (s : Units) → StringStands b (type_string b i) s → (IsDescriptor s → ⊥) → TypeBreaks b i 24
+  unfolding TypeBreaks
+  type_text framed s stands not = inr (stands.row, inl ((λ x. not (subst (λ u. IsDescriptor u) (string_one b (type_string b i) x.0 s framed x.1.string stands) x.1.descriptor)), refl))
+
+  pub type_order : {t : Units} → TypeStands b i t → (RowRises TypeIsBelow b i → ⊥) → TypeBreaks b i 25
+  unfolding TypeBreaks
+  type_order {t} stands falls = inr (stands.string.row, inr ((t, stands), inl (falls, refl)))
+
+  pub proto_index : (size_of b 0 ≤ proto_shorty b i) ⊎ (size_of b 1 ≤ proto_return b i) → ProtoBreaks b i 26
+  unfolding ProtoBreaks
+  proto_index (inl past) = inl ((λ x. let lt = x.0 in omega (arith, lt, past)), refl)
+  proto_index (inr past) = inl ((λ x. let lt = x.1 in omega (arith, lt, past)), refl)
+
+  pub parameter_list : proto_shorty b i < size_of b 0 → proto_return b i < size_of b 1 → ((ts : List Units) → ParametersAt b (proto_parameters b i) ts → ⊥) → ProtoBreaks b i 28
+  unfolding ProtoBreaks
+  parameter_list s r none = inr ((s, r), inl ((λ x. none x.0 x.1), refl))
+
+  pub other_shorty : IsFramed b → (p : Proto) (found : Units) → TypeStands b (proto_return b i) p.ret → ParametersAt b (proto_parameters b i) p.params → StringStands b (proto_shorty b i) found → (found ≡ shorty p → ⊥) → ProtoBreaks b i 27
+  unfolding ProtoBreaks
+  other_shorty framed p found ret params string differs =
+      inr ((string.row, ret.row), inr ((p.params, params), inl ((λ x. differs (shorty_same b framed i x.0 p found x.1 ret params string)), refl)))
+
+  pub proto_order : {p : Proto} → ProtoStands b i p → (RowRises ProtoIsBelow b i → ⊥) → ProtoBreaks b i 29
+  unfolding ProtoBreaks
+  proto_order {p} s falls = inr ((s.shorty.row, s.ret.row), inr ((p.params, record { types = s.params; values = s.values }), inr ((p, s), inl (falls, refl))))
+
+  pub field_index : (size_of b 1 ≤ member_class b 3 i) ⊎ (size_of b 1 ≤ member_kind b 3 i) ⊎ (size_of b 0 ≤ member_name b 3 i) → FieldBreaks b i 30
+  unfolding FieldBreaks
+  field_index past = inl (member_out past, refl)
+
+  pub field_kind : IsFramed b → (f : FieldRef) → TypeStands b (member_class b 3 i) f.class → TypeStands b (member_kind b 3 i) f.ty → StringStands b (member_name b 3 i) f.name
+      → (IsClass f.class → ⊥) ⊎ (f.ty ≡ void) ⊎ (IsMemberName f.name → ⊥) → FieldBreaks b i 31
+  unfolding FieldBreaks
+  field_kind framed f class ty name unfit = inr (record { class = class.row; kind = ty.row; name = name.row }, inl ((λ x. by x.0 x.1 unfit), refl))
+    where
+      by : (g : FieldRef) → FieldStands b i g → (IsClass f.class → ⊥) ⊎ (f.ty ≡ void) ⊎ (IsMemberName f.name → ⊥) → ⊥
+      by g s (inl not) = not (subst (λ t. IsClass t) (type_one b (member_class b 3 i) g.class f.class framed s.class class) s.of_class)
+      by g s (inr (inl is)) = s.value (type_one b (member_kind b 3 i) g.ty f.ty framed s.ty ty ∙ is)
+      by g s (inr (inr not)) = not (subst (λ t. IsMemberName t) (string_one b (member_name b 3 i) g.name f.name framed s.name name) s.named)
+
+  pub field_order : {f : FieldRef} → FieldStands b i f → (RowRises (MemberIsBelow 3) b i → ⊥) → FieldBreaks b i 32
+  unfolding FieldBreaks
+  field_order {f} s falls = inr (record { class = s.class.row; kind = s.ty.row; name = s.name.row }, inr ((f, s), inl (falls, refl)))
+
+  pub method_index : (size_of b 1 ≤ member_class b 4 i) ⊎ (size_of b 2 ≤ member_kind b 4 i) ⊎ (size_of b 0 ≤ member_name b 4 i) → MethodBreaks b i 33
+  unfolding MethodBreaks
+  method_index past = inl (member_out past, refl)
+
+  pub method_kind : IsFramed b → (m : MethodRef) → TypeStands b (member_class b 4 i) m.class → ProtoStands b (member_kind b 4 i) m.proto → StringStands b (member_name b 4 i) m.name
+      → (IsClass m.class ⊎ IsArray m.class → ⊥) ⊎ (IsMemberName m.name → ⊥) → MethodBreaks b i 34
+  unfolding MethodBreaks
+  method_kind framed m class proto name unfit = inr (record { class = class.row; kind = proto.row; name = name.row }, inl ((λ x. by x.0 x.1 unfit), refl))
+    where
+      by : (n : MethodRef) → MethodStands b i n → (IsClass m.class ⊎ IsArray m.class → ⊥) ⊎ (IsMemberName m.name → ⊥) → ⊥
+      by n s (inl not) = not (subst (λ t. IsClass t ⊎ IsArray t) (type_one b (member_class b 4 i) n.class m.class framed s.class class) s.of_class)
+      by n s (inr not) = not (subst (λ t. IsMemberName t) (string_one b (member_name b 4 i) n.name m.name framed s.name name) s.named)
+
+  pub method_order : {m : MethodRef} → MethodStands b i m → (RowRises (MemberIsBelow 4) b i → ⊥) → MethodBreaks b i 35
+  unfolding MethodBreaks
+  method_order {m} s falls = inr (record { class = s.class.row; kind = s.proto.row; name = s.name.row }, inr ((m, s), inl (falls, refl)))
 
 -- ---- rows that hold are clear
 
-pub string_clear : (b : List ℕ) → (i code : ℕ) → StringHolds b i → StringBreaks b i code → ⊥
-string_clear b i code h (StringPlace out) = out (text_placed b (string_place b i) h.name h.stands.text)
-string_clear b i code h (StringSpelling flaw) = flaw.none h.name h.stands
-string_clear b i code h (StringOrder flaw) = flaw.falls h.rises
+module _ (b : List ℕ) (i code : ℕ) where
+  pub string_clear : StringHolds b i → StringBreaks b i code → ⊥
+  unfolding StringBreaks
+  string_clear h = else_clear (text_placed b (string_place b i) h.name h.stands.text) (else_clear (h.name, h.stands) (else_clear h.rises (λ none. none)))
 
-pub type_clear : (b : List ℕ) → IsFramed b → (i code : ℕ) → TypeHolds b i → TypeBreaks b i code → ⊥
-type_clear b framed i code h (TypeIndex past) = let row = h.stands.string.row in omega (arith, row, past)
-type_clear b framed i code h (TypeText flaw) = text_clear b framed i h.name h.stands flaw
-type_clear b framed i code h (TypeOrder flaw) = flaw.falls h.rises
+  pub type_clear : TypeHolds b i → TypeBreaks b i code → ⊥
+  unfolding TypeBreaks
+  type_clear h = else_clear h.stands.string.row (else_clear (h.name, h.stands) (else_clear h.rises (λ none. none)))
 
-pub proto_clear : (b : List ℕ) → IsFramed b → (i code : ℕ) → ProtoHolds b i → ProtoBreaks b i code → ⊥
-proto_clear b framed i code h (ProtoIndex past) = proto_placed b i past h.stands.shorty.row h.stands.ret.row
-proto_clear b framed i code h (ParameterList flaw) = list_clear b i h.name h.stands flaw
-proto_clear b framed i code h (Shorty other) = shorty_clear b framed i h.name h.stands other
-proto_clear b framed i code h (ProtoOrder flaw) = flaw.falls h.rises
+  pub proto_clear : ProtoHolds b i → ProtoBreaks b i code → ⊥
+  unfolding ProtoBreaks
+  proto_clear h =
+      let s = h.stands in
+      else_clear (s.shorty.row, s.ret.row) (else_clear (h.name.params, record { types = s.params; values = s.values }) (else_clear (h.name, s) (else_clear h.rises (λ none. none))))
 
-pub field_clear : (b : List ℕ) → IsFramed b → (i code : ℕ) → FieldHolds b i → FieldBreaks b i code → ⊥
-field_clear b framed i code h (FieldIndex past) = field_placed b i past h.stands.class h.stands.ty h.stands.name
-field_clear b framed i code h (FieldKind flaw) = field_fits b framed i h.name h.stands flaw
-field_clear b framed i code h (FieldOrder flaw) = flaw.falls h.rises
+  pub field_clear : FieldHolds b i → FieldBreaks b i code → ⊥
+  unfolding FieldBreaks
+  field_clear h =
+      let s = h.stands in
+      else_clear (record { class = s.class.row; kind = s.ty.row; name = s.name.row }) (else_clear (h.name, s) (else_clear h.rises (λ none. none)))
 
-pub method_clear : (b : List ℕ) → IsFramed b → (i code : ℕ) → MethodHolds b i → MethodBreaks b i code → ⊥
-method_clear b framed i code h (MethodIndex past) = method_placed b i past h.stands.class h.stands.proto h.stands.name
-method_clear b framed i code h (MethodKind flaw) = method_fits b framed i h.name h.stands flaw
-method_clear b framed i code h (MethodOrder flaw) = flaw.falls h.rises
+  pub method_clear : MethodHolds b i → MethodBreaks b i code → ⊥
+  unfolding MethodBreaks
+  method_clear h =
+      let s = h.stands in
+      else_clear (record { class = s.class.row; kind = s.proto.row; name = s.name.row }) (else_clear (h.name, s) (else_clear h.rises (λ none. none)))
 
 -- a table whose rows hold has no first fault
 pub no_first : (Breaks : List ℕ → ℕ → ℕ → Type 0) (Holds : List ℕ → ℕ → Type 0) (b : List ℕ) (k : ℕ) (e : Fault) → ((i code : ℕ) → Holds b i → Breaks b i code → ⊥) → RowsHold Holds b (size_of b k) → IsFirstRow Breaks Holds b k e → ⊥

@@ -37,12 +37,12 @@ pub with_tables : (b : List ℕ) → IsFramed b → TablesHold b → (e : Fault)
 with_tables b framed hold e fault = elim fault [
   | inl f ↦ no_first StringBreaks StringHolds b 0 e (string_clear b) hold.strings f.first
   | inr g ↦ elim g [
-    | inl f ↦ no_first TypeBreaks TypeHolds b 1 e (type_clear b framed) hold.types f.first
+    | inl f ↦ no_first TypeBreaks TypeHolds b 1 e (type_clear b) hold.types f.first
     | inr h ↦ elim h [
-      | inl f ↦ no_first ProtoBreaks ProtoHolds b 2 e (proto_clear b framed) hold.protos f.first
+      | inl f ↦ no_first ProtoBreaks ProtoHolds b 2 e (proto_clear b) hold.protos f.first
       | inr k ↦ elim k [
-        | inl f ↦ no_first FieldBreaks FieldHolds b 3 e (field_clear b framed) hold.fields f.first
-        | inr f ↦ no_first MethodBreaks MethodHolds b 4 e (method_clear b framed) hold.methods f.first
+        | inl f ↦ no_first FieldBreaks FieldHolds b 3 e (field_clear b) hold.fields f.first
+        | inr f ↦ no_first MethodBreaks MethodHolds b 4 e (method_clear b) hold.methods f.first
       ]
     ]
   ]

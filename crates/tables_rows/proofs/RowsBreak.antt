@@ -13,7 +13,8 @@ use Rattle.tables_rows.specs.RowFields.{row_place, string_place, type_string, pr
 use Rattle.tables_rows.specs.Sorted.{IsBelow, RowRises, StringIsBelow, TypeIsBelow, ProtoIsBelow, MemberIsBelow, StringHolds, TypeHolds, ProtoHolds, FieldHolds, MethodHolds, RowsHold, StringsHold, TypesHold, ProtosHold, TablesHold}
 use Rattle.program_types.specs.Kinds.{void}
 use Rattle.tables_rows.specs.Stands.{TypeStands, ProtoStands, FieldStands, MethodStands}
-use Rattle.tables_rows.specs.TableFaults.{StringBreaks, StringPlace, StringSpelling, StringOrder, TypeBreaks, TypeIndex, TypeText, TypeOrder, ProtoBreaks, ProtoIndex, ParameterList, Shorty, ProtoOrder, FieldBreaks, FieldIndex, FieldKind, FieldOrder, MethodBreaks, MethodIndex, MethodKind, MethodOrder, IsFirstRow, IsTableFault}
+use Rattle.tables_rows.specs.TableFaults.{StringBreaks, TypeBreaks, ProtoBreaks, FieldBreaks, MethodBreaks, IsFirstRow, IsTableFault}
+use Rattle.tables_rows.proofs.ClearRows.{string_unplaced, string_spelling, string_order, type_index, type_text, type_order, proto_index, parameter_list, other_shorty, proto_order, field_index, field_kind, field_order, method_index, method_kind, method_order}
 use Rattle.tables_rows.proofs.RowReading.{string_one}
 use Rattle.tables_rows.proofs.TypeLists.{protos_below, below_protos, protos_below_none, protos_none_below}
 use Rattle.dex_base.specs.Deciding.{Decided}
@@ -73,11 +74,11 @@ module _ (b : List ℕ) (framed : IsFramed b) (i : ℕ) where
     | inl in_section ↦ elim (decide_string b framed i) [
       | inl x ↦ elim (decide_rises StringIsBelow b i (λ j. decide_strings b framed j i)) [
         | inl up ↦ inl (record { name = x.0; stands = x.1; rises = up })
-        | inr down ↦ inr (22, StringOrder (record { name = x.0; stands = x.1; falls = down }))
+        | inr down ↦ inr (22, string_order b i x.1 down)
       ]
-      | inr none ↦ inr (21, StringSpelling (record { inside = in_section; none = λ s st. none (s, st) }))
+      | inr none ↦ inr (21, string_spelling b i in_section (λ s st. none (s, st)))
     ]
-    | inr out ↦ inr (20, StringPlace out)
+    | inr out ↦ inr (20, string_unplaced b i out)
   ]
 
   pub type_row : StringsHold b → i < size_of b 1 → HoldsOrBreaks TypeHolds TypeBreaks b i
@@ -90,11 +91,11 @@ module _ (b : List ℕ) (framed : IsFramed b) (i : ℕ) where
               let stands : TypeStands b i s.name = record { row = lt; string = s.stands; descriptor = is } in
               elim (decide_rises TypeIsBelow b i (λ j. decide_lt (type_string b j) (type_string b i))) [
                 | inl up ↦ inl (record { name = s.name; stands = stands; rises = up })
-                | inr down ↦ inr (25, TypeOrder (record { name = s.name; stands = stands; falls = down }))
+                | inr down ↦ inr (25, type_order b i stands down)
               ]
-          | inr nay ↦ inr (24, TypeText (record { text = s.name; string = s.stands; other = nay }))
+          | inr nay ↦ inr (24, type_text b i framed s.name s.stands nay)
         ]
-    | inr past ↦ inr (23, TypeIndex past)
+    | inr past ↦ inr (23, type_index b i past)
   ]
 
   pub proto_row : StringsHold b → TypesHold b → i < size_of b 2 → HoldsOrBreaks ProtoHolds ProtoBreaks b i
@@ -112,15 +113,15 @@ module _ (b : List ℕ) (framed : IsFramed b) (i : ℕ) where
                       let stands : ProtoStands b i p = record { row = lt; ret = t.stands; params = x.1.types; values = x.1.values; shorty = rw same at s.stands } in
                       elim (decide_rises ProtoIsBelow b i (λ j. decide_protos b framed j i)) [
                         | inl up ↦ inl (record { name = p; stands = stands; rises = up })
-                        | inr down ↦ inr (29, ProtoOrder (record { name = p; stands = stands; falls = down }))
+                        | inr down ↦ inr (29, proto_order b i stands down)
                       ]
-                  | inr nay ↦ inr (27, Shorty (record { proto = p; ret = t.stands; params = x.1; found = s.name; string = s.stands; differs = nay }))
+                  | inr nay ↦ inr (27, other_shorty b i framed p s.name t.stands x.1 s.stands nay)
                 ]
-            | inr none ↦ inr (28, ParameterList (record { shorty = s_in; ret = t_in; none = λ ts at. none (ts, at) }))
+            | inr none ↦ inr (28, parameter_list b i s_in t_in (λ ts at. none (ts, at)))
           ]
-      | inr past ↦ inr (26, ProtoIndex (inr past))
+      | inr past ↦ inr (26, proto_index b i (inr past))
     ]
-    | inr past ↦ inr (26, ProtoIndex (inl past))
+    | inr past ↦ inr (26, proto_index b i (inl past))
   ]
 
   pub field_row : StringsHold b → TypesHold b → i < size_of b 3 → HoldsOrBreaks FieldHolds FieldBreaks b i
@@ -135,24 +136,24 @@ module _ (b : List ℕ) (framed : IsFramed b) (i : ℕ) where
             let f : FieldRef = record { class = c.name; name = n.name; ty = t.name } in
             elim (decide_class c.name) [
               | inl is_class ↦ elim (decide_list t.name void) [
-                | inl is_void ↦ inr (31, FieldKind (record { field = f; class = c.stands; ty = t.stands; name = n.stands; unfit = inr (inl is_void) }))
+                | inl is_void ↦ inr (31, field_kind b i framed f c.stands t.stands n.stands (inr (inl is_void)))
                 | inr value ↦ elim (decide_member n.name) [
                   | inl named ↦
                       let stands : FieldStands b i f = record { row = lt; class = c.stands; ty = t.stands; name = n.stands; of_class = is_class; value = value; named = named } in
                       elim (decide_rises (MemberIsBelow 3) b i (λ j. decide_less (slice_cmp nat_cmp (member_indices b 3 j) (member_indices b 3 i)))) [
                         | inl up ↦ inl (record { name = f; stands = stands; rises = up })
-                        | inr down ↦ inr (32, FieldOrder (record { name = f; stands = stands; falls = down }))
+                        | inr down ↦ inr (32, field_order b i stands down)
                       ]
-                  | inr nay ↦ inr (31, FieldKind (record { field = f; class = c.stands; ty = t.stands; name = n.stands; unfit = inr (inr nay) }))
+                  | inr nay ↦ inr (31, field_kind b i framed f c.stands t.stands n.stands (inr (inr nay)))
                 ]
               ]
-              | inr nay ↦ inr (31, FieldKind (record { field = f; class = c.stands; ty = t.stands; name = n.stands; unfit = inl nay }))
+              | inr nay ↦ inr (31, field_kind b i framed f c.stands t.stands n.stands (inl nay))
             ]
-        | inr past ↦ inr (30, FieldIndex (inr (inr past)))
+        | inr past ↦ inr (30, field_index b i (inr (inr past)))
       ]
-      | inr past ↦ inr (30, FieldIndex (inr (inl past)))
+      | inr past ↦ inr (30, field_index b i (inr (inl past)))
     ]
-    | inr past ↦ inr (30, FieldIndex (inl past))
+    | inr past ↦ inr (30, field_index b i (inl past))
   ]
 
   pub method_row : StringsHold b → TypesHold b → ProtosHold b → i < size_of b 4 → HoldsOrBreaks MethodHolds MethodBreaks b i
@@ -171,17 +172,17 @@ module _ (b : List ℕ) (framed : IsFramed b) (i : ℕ) where
                     let stands : MethodStands b i m = record { row = lt; class = c.stands; proto = p.stands; name = n.stands; of_class = of_class; named = named } in
                     elim (decide_rises (MemberIsBelow 4) b i (λ j. decide_less (slice_cmp nat_cmp (member_indices b 4 j) (member_indices b 4 i)))) [
                       | inl up ↦ inl (record { name = m; stands = stands; rises = up })
-                      | inr down ↦ inr (35, MethodOrder (record { name = m; stands = stands; falls = down }))
+                      | inr down ↦ inr (35, method_order b i stands down)
                     ]
-                | inr nay ↦ inr (34, MethodKind (record { method = m; class = c.stands; proto = p.stands; name = n.stands; unfit = inr nay }))
+                | inr nay ↦ inr (34, method_kind b i framed m c.stands p.stands n.stands (inr nay))
               ]
-              | inr nay ↦ inr (34, MethodKind (record { method = m; class = c.stands; proto = p.stands; name = n.stands; unfit = inl nay }))
+              | inr nay ↦ inr (34, method_kind b i framed m c.stands p.stands n.stands (inl nay))
             ]
-        | inr past ↦ inr (33, MethodIndex (inr (inr past)))
+        | inr past ↦ inr (33, method_index b i (inr (inr past)))
       ]
-      | inr past ↦ inr (33, MethodIndex (inr (inl past)))
+      | inr past ↦ inr (33, method_index b i (inr (inl past)))
     ]
-    | inr past ↦ inr (33, MethodIndex (inl past))
+    | inr past ↦ inr (33, method_index b i (inl past))
   ]
 
 -- ---- tables

@@ -1,14 +1,11 @@
--- The faults of the five tables: for each table the rules of a row, in the order in which they are asked, each with what
--- is asked before it. Each has a meaning for any file; it is asked only where header, map and checksums, the tables before, and the
--- rows before hold.
-use Rattle.std.specs.Prelude.{◌≡◌, ◌≢◌, ℕ, ◌<◌, ◌≤◌, ◌⊎◌, List}
+-- The faults of the five tables: for each table the rules of a row, in the order in which they are asked. Each has a meaning for
+-- any file; it is asked only where header, map and checksums, the tables before, and the rows before hold.
+use Rattle.std.specs.Prelude.{◌≡◌, ◌≢◌, ℕ, ◌<◌, ◌⊎◌, List}
 use Rattle.std.specs.List.{AllByRecursion}
 use Rattle.dex_base.specs.declared.fault.Fault.{Fault}
-use Rattle.dex_base.specs.Descriptor.{IsDescriptor, IsClass, IsArray, IsMemberName}
 use Rattle.dex_container.specs.Layout.{size_of}
 use Rattle.dex_container.specs.Frame.{IsFramed}
 use Rattle.program_types.specs.Content.{Units, Proto, FieldRef, MethodRef}
-use Rattle.program_types.specs.Shorty.{shorty}
 use Rattle.dex_container.specs.Where.{IsInSection}
 use Rattle.dex_container.specs.Section as section
 use Rattle.tables_rows.specs.RowFields.{row_place, string_place, type_string, proto_shorty, proto_return, proto_parameters, member_class, member_kind, member_name}
@@ -16,103 +13,56 @@ use Rattle.program_types.specs.Kinds.{void}
 use Rattle.tables_rows.specs.Stands.{StringStands, TypeStands, TypesAt, ProtoStands, FieldStands, MethodStands}
 use Rattle.tables_rows.specs.Sorted.{RowRises, StringIsBelow, TypeIsBelow, ProtoIsBelow, MemberIsBelow, StringHolds, TypeHolds, ProtoHolds, FieldHolds, MethodHolds, RowsHold, StringsHold, TypesHold, ProtosHold, FieldsHold}
 
--- Row i denotes a name, and the row before it is not below it.
-pub record IsOutOfOrder {V : Type 0} (Stands : List ℕ → ℕ → V → Type 0) (Below : List ℕ → ℕ → ℕ → Type 0) (b : List ℕ) (i : ℕ) : Type 0 where
-  pub name : V
-  pub stands : Stands b i name
-  pub falls : ¬ RowRises Below b i
-
--- Row i names a place among the texts, and no text stands there.
-pub record HasNoText (b : List ℕ) (i : ℕ) : Type 0 where
-  pub inside : IsInSection b 0x2002 (string_place b i)
-  pub none : (s : Units) → ¬ StringStands b i s
+-- The rule of this number is broken, or else what comes after it.
+abbrev pub or_else : ℕ → ℕ → Type 0 → Type 0 → Type 0
+or_else number code rule after = ((¬ rule) × (code ≡ number)) ⊎ (rule × after)
 
 -- The rule that row i of string_ids breaks: the first, since each is asked only where those before it hold.
-pub data StringBreaks (b : List ℕ) (i : ℕ) : ℕ → Type 0 where
-  StringPlace : ¬ IsInSection b 0x2002 (string_place b i) → StringBreaks b i 20
-  StringSpelling : HasNoText b i → StringBreaks b i 21
-  StringOrder : IsOutOfOrder StringStands StringIsBelow b i → StringBreaks b i 22
+unfoldable pub StringBreaks : List ℕ → ℕ → ℕ → Type 0
+StringBreaks b i code =
+    or_else 20 code (IsInSection b 0x2002 (string_place b i)) (
+    or_else 21 code ((s : Units) × StringStands b i s) (
+    or_else 22 code (RowRises StringIsBelow b i) ⊥))
 
--- Row i has a string, and that is no descriptor.
-pub record IsNoDescriptor (b : List ℕ) (i : ℕ) : Type 0 where
-  pub text : Units
-  pub string : StringStands b (type_string b i) text
-  pub other : ¬ IsDescriptor text
-
--- The rule that row i of type_ids breaks.
-pub data TypeBreaks (b : List ℕ) (i : ℕ) : ℕ → Type 0 where
-  TypeIndex : size_of b section.string_ids ≤ type_string b i → TypeBreaks b i 23
-  TypeText : IsNoDescriptor b i → TypeBreaks b i 24
-  TypeOrder : IsOutOfOrder TypeStands TypeIsBelow b i → TypeBreaks b i 25
+-- The rule that row i of type_ids breaks. It denotes a type where its string is a descriptor.
+unfoldable pub TypeBreaks : List ℕ → ℕ → ℕ → Type 0
+TypeBreaks b i code =
+    or_else 23 code (type_string b i < size_of b section.string_ids) (
+    or_else 24 code ((t : Units) × TypeStands b i t) (
+    or_else 25 code (RowRises TypeIsBelow b i) ⊥))
 
 -- a list of parameters: types, and none of them void
 pub record ParametersAt (b : List ℕ) (place : ℕ) (ts : List Units) : Type 0 where
   pub types : TypesAt b place ts
   pub values : AllByRecursion (λ t. t ≢ void) ts
 
--- The shorty's index or the return type's is out of its table.
-abbrev pub ProtoIsOut : List ℕ → ℕ → Type 0
-ProtoIsOut b i = (size_of b section.string_ids ≤ proto_shorty b i) ⊎ (size_of b section.type_ids ≤ proto_return b i)
+-- The rule that row i of proto_ids breaks. It denotes a proto where its shorty is that of these types.
+unfoldable pub ProtoBreaks : List ℕ → ℕ → ℕ → Type 0
+ProtoBreaks b i code =
+    or_else 26 code ((proto_shorty b i < size_of b section.string_ids) × (proto_return b i < size_of b section.type_ids)) (
+    or_else 28 code ((ts : List Units) × ParametersAt b (proto_parameters b i) ts) (
+    or_else 27 code ((p : Proto) × ProtoStands b i p) (
+    or_else 29 code (RowRises ProtoIsBelow b i) ⊥)))
 
--- The indices of shorty and return type are in their tables, and no list of parameters stands.
-pub record HasNoParameters (b : List ℕ) (i : ℕ) : Type 0 where
-  pub shorty : proto_shorty b i < size_of b section.string_ids
-  pub ret : proto_return b i < size_of b section.type_ids
-  pub none : (ts : List Units) → ¬ ParametersAt b (proto_parameters b i) ts
+-- The three indices of row i of fields (k = 3) and methods (k = 4) are in their tables: class, type or proto, name.
+pub record MemberIsIn (b : List ℕ) (k kinds i : ℕ) : Type 0 where
+  pub class : member_class b k i < size_of b section.type_ids
+  pub kind : member_kind b k i < size_of b kinds
+  pub name : member_name b k i < size_of b section.string_ids
 
--- A proto's row has a return type and parameters, and a string that is not their shorty.
-pub record HasAnotherShorty (b : List ℕ) (i : ℕ) : Type 0 where
-  pub proto : Proto
-  pub ret : TypeStands b (proto_return b i) proto.ret
-  pub params : ParametersAt b (proto_parameters b i) proto.params
-  pub found : Units
-  pub string : StringStands b (proto_shorty b i) found
-  pub differs : found ≢ shorty proto
+-- The rule that row i of field_ids breaks. It denotes a field where class, type and name are of their kinds.
+unfoldable pub FieldBreaks : List ℕ → ℕ → ℕ → Type 0
+FieldBreaks b i code =
+    or_else 30 code (MemberIsIn b section.field_ids section.type_ids i) (
+    or_else 31 code ((f : FieldRef) × FieldStands b i f) (
+    or_else 32 code (RowRises (MemberIsBelow 3) b i) ⊥))
 
--- The rule that row i of proto_ids breaks.
-pub data ProtoBreaks (b : List ℕ) (i : ℕ) : ℕ → Type 0 where
-  ProtoIndex : ProtoIsOut b i → ProtoBreaks b i 26
-  ParameterList : HasNoParameters b i → ProtoBreaks b i 28
-  Shorty : HasAnotherShorty b i → ProtoBreaks b i 27
-  ProtoOrder : IsOutOfOrder ProtoStands ProtoIsBelow b i → ProtoBreaks b i 29
-
--- An index of row i is out of its table: the class, the type, or the name.
-abbrev pub FieldIsOut : List ℕ → ℕ → Type 0
-FieldIsOut b i =
-    (size_of b section.type_ids ≤ member_class b section.field_ids i) ⊎ (size_of b section.type_ids ≤ member_kind b section.field_ids i) ⊎ (size_of b section.string_ids ≤ member_name b section.field_ids i)
-
--- Row i has a class, a type and a name, and one is of a wrong kind.
-pub record IsUnfitField (b : List ℕ) (i : ℕ) : Type 0 where
-  pub field : FieldRef
-  pub class : TypeStands b (member_class b section.field_ids i) field.class
-  pub ty : TypeStands b (member_kind b section.field_ids i) field.ty
-  pub name : StringStands b (member_name b section.field_ids i) field.name
-  pub unfit : (¬ IsClass field.class) ⊎ (field.ty ≡ void) ⊎ (¬ IsMemberName field.name)
-
--- The rule that row i of field_ids breaks.
-pub data FieldBreaks (b : List ℕ) (i : ℕ) : ℕ → Type 0 where
-  FieldIndex : FieldIsOut b i → FieldBreaks b i 30
-  FieldKind : IsUnfitField b i → FieldBreaks b i 31
-  FieldOrder : IsOutOfOrder FieldStands (MemberIsBelow 3) b i → FieldBreaks b i 32
-
--- An index of row i is out of its table: the class, the proto, or the name.
-abbrev pub MethodIsOut : List ℕ → ℕ → Type 0
-MethodIsOut b i =
-    (size_of b section.type_ids ≤ member_class b section.method_ids i) ⊎ (size_of b section.proto_ids ≤ member_kind b section.method_ids i) ⊎ (size_of b section.string_ids ≤ member_name b section.method_ids i)
-
--- Row i has a class, a proto and a name, and class or name is of a wrong kind.
-pub record IsUnfitMethod (b : List ℕ) (i : ℕ) : Type 0 where
-  pub method : MethodRef
-  pub class : TypeStands b (member_class b section.method_ids i) method.class
-  pub proto : ProtoStands b (member_kind b section.method_ids i) method.proto
-  pub name : StringStands b (member_name b section.method_ids i) method.name
-  pub unfit : (¬ (IsClass method.class ⊎ IsArray method.class)) ⊎ (¬ IsMemberName method.name)
-
--- The rule that row i of method_ids breaks.
-pub data MethodBreaks (b : List ℕ) (i : ℕ) : ℕ → Type 0 where
-  MethodIndex : MethodIsOut b i → MethodBreaks b i 33
-  MethodKind : IsUnfitMethod b i → MethodBreaks b i 34
-  MethodOrder : IsOutOfOrder MethodStands (MemberIsBelow 4) b i → MethodBreaks b i 35
+-- The rule that row i of method_ids breaks. It denotes a method where class and name are of their kinds.
+unfoldable pub MethodBreaks : List ℕ → ℕ → ℕ → Type 0
+MethodBreaks b i code =
+    or_else 33 code (MemberIsIn b section.method_ids section.proto_ids i) (
+    or_else 34 code ((m : MethodRef) × MethodStands b i m) (
+    or_else 35 code (RowRises (MemberIsBelow 4) b i) ⊥))
 
 -- Row i of table k breaks a rule, and this is the fault, at the row.
 pub record BreaksAt (Breaks : List ℕ → ℕ → ℕ → Type 0) (b : List ℕ) (k i : ℕ) (fault : Fault) : Type 0 where

@@ -48,7 +48,6 @@ pub(crate) fn read_fields<'a>(
 }
 
 /// The field of row i, which is above the row before it.
-#[tactic(auto, using(crate::specs::TableFaults::FieldOrder))]
 fn next_field<'a>(
     sections: &Sections<'_>,
     strings: &[Str<'a>],
@@ -72,7 +71,7 @@ fn next_field<'a>(
 }
 
 /// The field of row i.
-#[tactic(auto, using(crate::specs::TableFaults::FieldIndex, crate::specs::TableFaults::FieldKind))]
+#[tactic(auto, using(crate::proofs::ClearRows::field_index))]
 fn read_field<'a>(
     sections: &Sections<'_>,
     strings: &[Str<'a>],
@@ -87,6 +86,7 @@ fn read_field<'a>(
     ensures ok { IfOk result (λ f. FieldStands sections.now i (field_ref f)) }
     ensures err { IfErr result (BreaksAt FieldBreaks sections.now section.field_ids i) }
 {
+    sections.framed();
     let row = member_row(sections, TABLE, i);
     let missing = Fault::at(fault::FIELD_INDEX, row);
     let unfit = Fault::at(fault::FIELD_KIND, row);

@@ -51,7 +51,6 @@ pub(crate) fn read_methods<'a>(
 }
 
 /// The method of row i, which is above the row before it.
-#[tactic(auto, using(crate::specs::TableFaults::MethodOrder))]
 fn next_method<'a>(
     sections: &Sections<'_>,
     strings: &[Str<'a>],
@@ -77,7 +76,7 @@ fn next_method<'a>(
 }
 
 /// The method of row i.
-#[tactic(auto, using(crate::specs::TableFaults::MethodIndex, crate::specs::TableFaults::MethodKind))]
+#[tactic(auto, using(crate::proofs::ClearRows::method_index))]
 fn read_method<'a>(
     sections: &Sections<'_>,
     strings: &[Str<'a>],
@@ -94,6 +93,7 @@ fn read_method<'a>(
     ensures ok { IfOk result (λ f. MethodStands sections.now i (method_ref f)) }
     ensures err { IfErr result (BreaksAt MethodBreaks sections.now section.method_ids i) }
 {
+    sections.framed();
     let row = member_row(sections, TABLE, i);
     let missing = Fault::at(fault::METHOD_INDEX, row);
     let unfit = Fault::at(fault::METHOD_KIND, row);

@@ -65,7 +65,6 @@ pub(crate) fn read_protos<'a>(
 }
 
 /// The proto of row i, which is above the row before it.
-#[tactic(auto, using(crate::specs::TableFaults::ProtoOrder))]
 fn next_proto<'a>(
     arena: &'a Bump,
     sections: &Sections<'_>,
@@ -94,7 +93,7 @@ fn next_proto<'a>(
 }
 
 /// The proto of row i.
-#[tactic(auto, using(crate::specs::TableFaults::ProtoIndex, crate::specs::TableFaults::ParameterList, crate::specs::TableFaults::Shorty))]
+#[tactic(auto, using(crate::proofs::ClearRows::proto_index))]
 fn read_proto<'a>(
     arena: &'a Bump,
     sections: &Sections<'_>,

@@ -1,18 +1,19 @@
 //! Laws of rows and of the five tables of a file, each the contract of a function that does nothing.
 
 ghost use Rattle.std.specs.Prelude.{◌≡◌, ℕ, ◌<◌, ◌⊎◌, List};
-ghost use Rattle.program_types.specs.Content.{Units, OfText, OfDesc, OfField, OfMethod};
+ghost use Rattle.program_types.specs.Content.{Units, Proto, OfText, OfDesc, OfField, OfMethod};
 ghost use Rattle.tables_rows.specs.Stands.{StringStands, TypeStands, ProtoStands, NameStands};
 ghost use Rattle.dex_base.specs.declared.fault.Fault.{Fault};
 ghost use Rattle.dex_base.specs.Descriptor.{IsDescriptor, IsClass, IsArray, IsMemberName};
 ghost use Rattle.dex_container.specs.Frame.{IsFramed};
 ghost use Rattle.dex_container.specs.Where.{IsInSection};
 ghost use Rattle.program_types.specs.Kinds.{void};
+ghost use Rattle.program_types.specs.Shorty.{shorty};
 ghost use Rattle.dex_container.specs.Layout.{size_of};
 ghost use Rattle.dex_container.specs.Section as section;
-ghost use Rattle.tables_rows.specs.RowFields.{string_place, type_string, proto_parameters, member_class, member_kind, member_name};
+ghost use Rattle.tables_rows.specs.RowFields.{string_place, type_string, proto_shorty, proto_return, proto_parameters, member_class, member_kind, member_name};
 ghost use Rattle.tables_rows.specs.Sorted.{RowRises, StringIsBelow, TypeIsBelow, ProtoIsBelow, MemberIsBelow, StringHolds, TypeHolds, ProtoHolds, FieldHolds, MethodHolds, StringsHold, TypesHold, ProtosHold, TablesHold};
-ghost use Rattle.tables_rows.specs.TableFaults.{ParametersAt, ProtoIsOut, HasAnotherShorty, FieldIsOut, MethodIsOut, StringBreaks, TypeBreaks, ProtoBreaks, FieldBreaks, MethodBreaks, IsTableFault};
+ghost use Rattle.tables_rows.specs.TableFaults.{ParametersAt, MemberIsIn, StringBreaks, TypeBreaks, ProtoBreaks, FieldBreaks, MethodBreaks, IsTableFault};
 
 /// A row denotes one name.
 pub fn row_denotes_one_name()
@@ -26,10 +27,10 @@ pub fn row_denotes_one_name()
 /// A row that holds breaks no rule.
 pub fn rows_that_hold_are_clear()
     ensures string { (b : List ℕ) (i code : ℕ) → StringHolds b i → ¬ StringBreaks b i code }
-    ensures ty { (b : List ℕ) → IsFramed b → (i code : ℕ) → TypeHolds b i → ¬ TypeBreaks b i code }
-    ensures proto { (b : List ℕ) → IsFramed b → (i code : ℕ) → ProtoHolds b i → ¬ ProtoBreaks b i code }
-    ensures field { (b : List ℕ) → IsFramed b → (i code : ℕ) → FieldHolds b i → ¬ FieldBreaks b i code }
-    ensures method { (b : List ℕ) → IsFramed b → (i code : ℕ) → MethodHolds b i → ¬ MethodBreaks b i code }
+    ensures ty { (b : List ℕ) (i code : ℕ) → TypeHolds b i → ¬ TypeBreaks b i code }
+    ensures proto { (b : List ℕ) (i code : ℕ) → ProtoHolds b i → ¬ ProtoBreaks b i code }
+    ensures field { (b : List ℕ) (i code : ℕ) → FieldHolds b i → ¬ FieldBreaks b i code }
+    ensures method { (b : List ℕ) (i code : ℕ) → MethodHolds b i → ¬ MethodBreaks b i code }
 {}
 
 /// A row that holds keeps each rule of its table, also asked alone.
@@ -38,22 +39,24 @@ pub fn rows_that_hold_keep_the_rules()
     ensures ty { (b : List ℕ) → IsFramed b → (i : ℕ) → TypeHolds b i
         → (type_string b i < size_of b section.string_ids) × ((t : Units) → StringStands b (type_string b i) t → IsDescriptor t) × RowRises TypeIsBelow b i }
     ensures proto { (b : List ℕ) → IsFramed b → (i : ℕ) → ProtoHolds b i
-        → (¬ ProtoIsOut b i) × ((ts : List Units) × ParametersAt b (proto_parameters b i) ts) × (¬ HasAnotherShorty b i) × RowRises ProtoIsBelow b i }
+        → (proto_shorty b i < size_of b section.string_ids) × (proto_return b i < size_of b section.type_ids) × ((ts : List Units) × ParametersAt b (proto_parameters b i) ts)
+        × ((p : Proto) (found : Units) → TypeStands b (proto_return b i) p.ret → ParametersAt b (proto_parameters b i) p.params → StringStands b (proto_shorty b i) found → found ≡ shorty p)
+        × RowRises ProtoIsBelow b i }
     ensures field { (b : List ℕ) → IsFramed b → (i : ℕ) → FieldHolds b i
-        → (¬ FieldIsOut b i) × ((t : Units) → TypeStands b (member_class b section.field_ids i) t → IsClass t) × (¬ TypeStands b (member_kind b section.field_ids i) void)
+        → MemberIsIn b section.field_ids section.type_ids i × ((t : Units) → TypeStands b (member_class b section.field_ids i) t → IsClass t) × (¬ TypeStands b (member_kind b section.field_ids i) void)
         × ((s : Units) → StringStands b (member_name b section.field_ids i) s → IsMemberName s) × RowRises (MemberIsBelow 3) b i }
     ensures method { (b : List ℕ) → IsFramed b → (i : ℕ) → MethodHolds b i
-        → (¬ MethodIsOut b i) × ((t : Units) → TypeStands b (member_class b section.method_ids i) t → IsClass t ⊎ IsArray t)
+        → MemberIsIn b section.method_ids section.proto_ids i × ((t : Units) → TypeStands b (member_class b section.method_ids i) t → IsClass t ⊎ IsArray t)
         × ((s : Units) → StringStands b (member_name b section.method_ids i) s → IsMemberName s) × RowRises (MemberIsBelow 4) b i }
 {}
 
 /// A row breaks one rule of its table.
 pub fn rows_break_one_rule()
     ensures string { (b : List ℕ) (i m n : ℕ) → StringBreaks b i m → StringBreaks b i n → m ≡ n }
-    ensures ty { (b : List ℕ) → IsFramed b → (i m n : ℕ) → TypeBreaks b i m → TypeBreaks b i n → m ≡ n }
-    ensures proto { (b : List ℕ) → IsFramed b → (i m n : ℕ) → ProtoBreaks b i m → ProtoBreaks b i n → m ≡ n }
-    ensures field { (b : List ℕ) → IsFramed b → (i m n : ℕ) → FieldBreaks b i m → FieldBreaks b i n → m ≡ n }
-    ensures method { (b : List ℕ) → IsFramed b → (i m n : ℕ) → MethodBreaks b i m → MethodBreaks b i n → m ≡ n }
+    ensures ty { (b : List ℕ) (i m n : ℕ) → TypeBreaks b i m → TypeBreaks b i n → m ≡ n }
+    ensures proto { (b : List ℕ) (i m n : ℕ) → ProtoBreaks b i m → ProtoBreaks b i n → m ≡ n }
+    ensures field { (b : List ℕ) (i m n : ℕ) → FieldBreaks b i m → FieldBreaks b i n → m ≡ n }
+    ensures method { (b : List ℕ) (i m n : ℕ) → MethodBreaks b i m → MethodBreaks b i n → m ≡ n }
 {}
 
 /// The tables of a framed file hold exactly if no fault of tables stands.

@@ -43,7 +43,6 @@ pub(crate) fn read_strings<'a>(
 }
 
 /// The string of row i, which is above the last one before it.
-#[tactic(auto, using(crate::specs::TableFaults::StringOrder))]
 fn next_string<'a>(
     alloc: Global,
     arena: &'a Bump,
@@ -68,7 +67,7 @@ fn next_string<'a>(
 }
 
 /// The string of row i.
-#[tactic(auto, using(crate::specs::TableFaults::StringPlace, crate::specs::TableFaults::StringSpelling))]
+#[tactic(auto, using(crate::proofs::ClearRows::string_unplaced))]
 fn read_string<'a>(
     alloc: Global,
     arena: &'a Bump,

@@ -38,7 +38,7 @@ pub(crate) fn read_types<'a>(
 }
 
 /// The type of row i, which is above the row before it.
-#[tactic(auto, using(crate::specs::TableFaults::TypeOrder))]
+#[tactic(auto, using(crate::proofs::ClearRows::type_order))]
 fn next_type<'a>(sections: &Sections<'_>, strings: &[Str<'a>], i: u32) -> Result<Desc<'a>, Fault>
     requires strings { AreRows StringStands sections.now section.string_ids (map str strings.now) }
     requires row { i < size_of sections.now section.type_ids }
@@ -54,13 +54,14 @@ fn next_type<'a>(sections: &Sections<'_>, strings: &[Str<'a>], i: u32) -> Result
 }
 
 /// The type of row i.
-#[tactic(auto, using(crate::specs::TableFaults::TypeIndex, crate::specs::TableFaults::TypeText))]
+#[tactic(auto, using(crate::proofs::ClearRows::type_index))]
 fn read_type<'a>(sections: &Sections<'_>, strings: &[Str<'a>], i: u32) -> Result<Desc<'a>, Fault>
     requires strings { AreRows StringStands sections.now section.string_ids (map str strings.now) }
     requires row { i < size_of sections.now section.type_ids }
     ensures ok { IfOk result (λ t. TypeStands sections.now i (desc t)) }
     ensures err { IfErr result (BreaksAt TypeBreaks sections.now section.type_ids i) }
 {
+    sections.framed();
     let row = type_row(sections, i);
     let Some(text) = string_at(sections, strings, type_string(sections, i)) else {
         return Err(Fault::at(fault::TYPE_INDEX, row));

@@ -6,7 +6,7 @@ use Rattle.tables_rows.specs.Stands.{TypeStands}
 use Rattle.file_classes.specs.ClassRows.{no_index, InOrder, class_data_off, class_idx, interfaces_off, superclass_idx}
 use Rattle.file_classes.specs.ClassData.{Entries, EntriesAt}
 use Rattle.file_classes.specs.Classes.{InterfacesAt}
-use Rattle.file_classes.specs.ClassFaults.{FieldEntriesHold, HasNoName, MethodEntriesHold}
+use Rattle.file_classes.specs.ClassFaults.{FieldEntriesHold, MethodEntriesHold, NamesAreIn}
 
 -- All four lists hold.
 pub record MembersHold (b : List ℕ) (class : Units) (e : Entries) : Type 0 where
@@ -17,7 +17,7 @@ pub record MembersHold (b : List ℕ) (class : Units) (e : Entries) : Type 0 whe
 
 -- Each of these rules is kept, asked alone.
 pub record ClassRowKeeps (b : List ℕ) (i : ℕ) : Type 0 where
-  pub names : ¬ HasNoName b i
+  pub names : NamesAreIn b i
   pub class : (t : Units) → TypeStands b (class_idx b i) t → IsClass t
   pub superclass : superclass_idx b i ≢ no_index → (t : Units) → TypeStands b (superclass_idx b i) t → IsClass t
   pub interfaces : (ts : List Units) × InterfacesAt b (interfaces_off b i) ts

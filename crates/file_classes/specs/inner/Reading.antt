@@ -1,5 +1,5 @@
 -- What the private functions of reading say.
-use Rattle.std.specs.Prelude.{◌≡◌, ◌≢◌, ℕ, ◌<◌, ◌≤◌, List, [], length, map, option_map, Option, Some, None, IfSome, IfNone}
+use Rattle.std.specs.Prelude.{◌≡◌, ◌≢◌, ℕ, ◌<◌, List, [], length, map, option_map, Option, Some, None, IfSome, IfNone}
 use Rattle.std.specs.List.{slice_get}
 use Rattle.dex_base.specs.declared.fault.Fault.{Fault}
 use Rattle.program_types.specs.Content as content
@@ -12,12 +12,13 @@ use Rattle.file_classes.specs.declared.members.Bare.{Bare}
 use Rattle.file_classes.specs.declared.heads.Head.{Head}
 use Rattle.file_classes.specs.declared.members.Members.{Members}
 use Rattle.file_classes.specs.declared.methods.FoundCode.{FoundCode}
+use Rattle.tables_rows.specs.TableFaults.{or_else}
 use Rattle.file_classes.specs.ClassData.{EntriesAre}
 use Rattle.file_classes.specs.declared.statics.Statics.{Statics}
 use Rattle.file_classes.specs.ClassData as numbers
 use Rattle.file_classes.specs.ClassRows.{static_values_off}
 use Rattle.file_classes.specs.Classes.{IsField, IsMethod, HeadIs, StaticsAt}
-use Rattle.file_classes.specs.ClassFaults.{IsForeign, EntriesBreak, MembersBreak, ValuesStand, BodyAt, BodyHolds, CodeHolds, RegistersFail}
+use Rattle.file_classes.specs.ClassFaults.{EntriesBreak, MembersBreak, ValuesStand, BodyAt, BodyHolds, CodeHolds, RegistersFail}
 
 -- what entries in memory say
 abbrev pub field_entry : FieldEntry → numbers.FieldEntry
@@ -89,9 +90,8 @@ pub record MembersStand (b : List ℕ) (class : content.Units) (e : numbers.Entr
 -- ---- refusals
 
 -- The rule that the row of an index breaks: it is out of its table, or of another class.
-pub data IndexBreaks (IsOwner : ℕ → content.Units → Type 0) (size : ℕ) (class : content.Units) (index : ℕ) : ℕ → Type 0 where
-  IndexIsOut : size ≤ index → IndexBreaks IsOwner size class index 45
-  IndexIsForeign : IsForeign IsOwner class index → IndexBreaks IsOwner size class index 46
+unfoldable pub IndexBreaks : (ℕ → content.Units → Type 0) → ℕ → content.Units → ℕ → ℕ → Type 0
+IndexBreaks IsOwner size class index code = or_else 45 code (index < size) (or_else 46 code (IsOwner index class) ⊥)
 
 -- The row of an index breaks one, and this is the fault.
 pub record IndexFails (IsOwner : ℕ → content.Units → Type 0) (size : ℕ) (class : content.Units) (index place : ℕ) (fault : Fault) : Type 0 where

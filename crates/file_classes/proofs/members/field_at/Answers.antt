@@ -1,15 +1,14 @@
 use Rattle.std.proofs.Common.{refl, sym, true≢false}
-use Rattle.program_types.specs.View.{desc, field_ref}
-use Rattle.file_classes.specs.inner.Reading.{IndexIsForeign}
+use Rattle.program_types.specs.View.{field_ref}
+use Rattle.file_classes.proofs.EntryFaults.{field_owner_one}
+use Rattle.file_classes.proofs.MemberLaws.{index_foreign}
 use Rattle.file_classes.proofs.members.field_at.Goals as goal
 
 pub returns-then-not-is_member_of-clause-err : goal.returns-then-not-is_member_of-clause-err
 returns-then-not-is_member_of-clause-err c = rw c.at-then-not-is_member_of.ensures (record {
-  breaks = IndexIsForeign (record {
-    owner = desc c.in-Some.field.now.class;
-    owned = (field_ref c.in-Some.field.now, c.requires.names.fields.each c.args.index (field_ref c.in-Some.field.now) (sym c.in-Some.ensures), refl);
-    other = λ e. true≢false (sym (c.if-not-is_member_of.ensures.1 e));
-  });
+  breaks =
+      let stands = c.requires.names.fields.each c.args.index (field_ref c.in-Some.field.now) (sym c.in-Some.ensures) in
+      index_foreign _ _ _ _ stands.row (λ o. true≢false (sym (c.if-not-is_member_of.ensures.1 (field_owner_one c.args.sections.now c.framed.ensures c.args.index _ _ (field_ref c.in-Some.field.now, stands, refl) o))));
   there = refl;
 })
 

@@ -27,8 +27,10 @@ loop-entry-preserved c =
       | else-entry-eq0-via-else-entry-eq0 w ↦ λ some. omega (arith, w.if-entry-eq0.false)
     ] in
     record {
-      runs = rw c.in_ok-push.ensures.items (runs_more (IsBare c.args.sections.now (desc c.args.owner.class)) (map method_entry es) k c.loop-entry.bares.items (method_entry (get_or es k d)) (record { method = c.in_ok-method.method; flags = (get_or c.args.entries.now c.loop-entry.entry-index (record { step = 0; flags = 0; code = 0 })).flags; code = (get_or c.args.entries.now c.loop-entry.entry-index (record { step = 0; flags = 0; code = 0 })).code }) c.loop-entry.invariant.runs (there method_entry es k d lt)
-          (bare_stands c.args.sections.now (c.loop-entry.index + c.from-index.result) (index_of (steps (map method_entry es)) k) (record { method = c.in_ok-method.method; flags = (get_or es k d).flags; code = (get_or es k d).code }) (desc c.args.owner.class) (method_entry (get_or es k d)) is c.in_ok-method.ensures.class refl refl c.in_ok-method.ensures.stands) (step_rises method_entry es k d lt up));
+      runs = rw c.in_ok-push.ensures.items (runs_more (IsBare c.args.sections.now (desc c.args.owner.class)) (map method_entry es) k c.loop-entry.bares.items (method_entry (get_or es k d))
+          (record { method = c.in_ok-method.method; flags = (get_or c.args.entries.now c.loop-entry.entry-index (record { step = 0; flags = 0; code = 0 })).flags; code = (get_or c.args.entries.now c.loop-entry.entry-index (record { step = 0; flags = 0; code = 0 })).code }) c.loop-entry.invariant.runs (there method_entry es k d lt)
+          (bare_stands c.args.sections.now (c.loop-entry.index + c.from-index.result) (index_of (steps (map method_entry es)) k) (record { method = c.in_ok-method.method; flags = (get_or es k d).flags; code = (get_or es k d).code }) (desc c.args.owner.class) (method_entry (get_or es k d)) is c.in_ok-method.ensures.class refl refl c.in_ok-method.ensures.stands)
+          (step_rises method_entry es k d lt up));
       summed = is;
       small = c.in_ok-method.ensures.small;
     }
@@ -45,7 +47,7 @@ returns-then-len-gt0-clause-err c =
     let n = c.loop-entry.invariant.runs.count in
     let v = c.loop-entry.bares.ok.0 in
     λ _. rw c.at.ensures (step_fails method_entry c.args.entries.now c.loop-entry.entry-index (record { step = 0; flags = 0; code = 0 }) c.loop-entry-test.true (IsBare b (desc c.args.owner.class)) (MethodOwner b) (desc c.args.owner.class) (bare_owned b (desc c.args.owner.class)) _ c.loop-entry.invariant.runs (size_of b 4) c.loop-entry.index c.from-index.result
-    c.args.owner.place c.loop-entry.invariant.summed c.from-index.ensures (method_ref c.in_ok-method.method.now, c.in_ok-method.ensures.stands, c.in_ok-method.ensures.class) (omega (arith, n, v, c.len.ensures, c.if-len-gt0.true)) c.if-entry-eq0.true)
+    c.args.owner.place c.loop-entry.invariant.summed c.from-index.ensures c.in_ok-method.ensures.stands.row (method_ref c.in_ok-method.method.now, c.in_ok-method.ensures.stands, c.in_ok-method.ensures.class) (omega (arith, n, v, c.len.ensures, c.if-len-gt0.true)) c.if-entry-eq0.true)
 
 pub returns-in_err-method-clause-err : goal.returns-in_err-method-clause-err
 returns-in_err-method-clause-err c =

@@ -29,7 +29,8 @@ loop-entry-preserved c =
       | else-entry-eq0-via-else-entry-eq0 w ↦ λ some. omega (arith, w.if-entry-eq0.false)
     ] in
     record {
-      runs = rw (c.in_ok-push.ensures.items, map-append) (runs_more (IsField c.args.sections.now (desc c.args.owner.class)) (map field_entry es) k (map member c.loop-entry.fields.items) (field_entry (get_or es k d)) (record { name = str c.in_ok-field.field.now.name; ty = desc c.in_ok-field.field.now.ty; flags = (get_or c.args.entries.now c.loop-entry.entry-index (record { step = 0; flags = 0 })).flags }) c.loop-entry.invariant.runs (there field_entry es k d lt)
+      runs = rw (c.in_ok-push.ensures.items, map-append) (runs_more (IsField c.args.sections.now (desc c.args.owner.class)) (map field_entry es) k (map member c.loop-entry.fields.items) (field_entry (get_or es k d))
+          (record { name = str c.in_ok-field.field.now.name; ty = desc c.in_ok-field.field.now.ty; flags = (get_or c.args.entries.now c.loop-entry.entry-index (record { step = 0; flags = 0 })).flags }) c.loop-entry.invariant.runs (there field_entry es k d lt)
           (field_stands c.args.sections.now (c.loop-entry.index + c.from-index.result) (index_of (steps (map field_entry es)) k) (field_ref c.in_ok-field.field.now) (desc c.args.owner.class) (field_entry (get_or es k d)) is c.in_ok-field.ensures.class c.in_ok-field.ensures.stands) (step_rises field_entry es k d lt up));
       summed = is;
       small = c.in_ok-field.ensures.small;
@@ -48,7 +49,7 @@ returns-then-len-gt0-clause-err c =
     let v = c.loop-entry.fields.ok.0 in
     let l = length-map c.loop-entry.fields.items member in
     λ _. rw c.at.ensures (step_fails field_entry c.args.entries.now c.loop-entry.entry-index (record { step = 0; flags = 0 }) c.loop-entry-test.true (IsField b (desc c.args.owner.class)) (FieldOwner b) (desc c.args.owner.class) (field_owned b (desc c.args.owner.class)) _ c.loop-entry.invariant.runs (size_of b 3) c.loop-entry.index c.from-index.result
-    c.args.owner.place c.loop-entry.invariant.summed c.from-index.ensures (field_ref c.in_ok-field.field.now, c.in_ok-field.ensures.stands, c.in_ok-field.ensures.class) (omega (arith, n, v, l, c.len.ensures, c.if-len-gt0.true)) c.if-entry-eq0.true)
+    c.args.owner.place c.loop-entry.invariant.summed c.from-index.ensures c.in_ok-field.ensures.stands.row (field_ref c.in_ok-field.field.now, c.in_ok-field.ensures.stands, c.in_ok-field.ensures.class) (omega (arith, n, v, l, c.len.ensures, c.if-len-gt0.true)) c.if-entry-eq0.true)
 
 pub returns-in_err-field-clause-err : goal.returns-in_err-field-clause-err
 returns-in_err-field-clause-err c =

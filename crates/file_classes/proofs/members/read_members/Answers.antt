@@ -14,7 +14,7 @@ returns-in_err-instances-clause-err c =
     let b = c.args.sections.now in
     let e = entries c.args.entries.now in
     let statics = fields_hold b (desc c.args.class) e.statics _ (rw c.deref.ensures.value at c.in_ok-statics.ensures.ok) in
-    passed _ _ _ c.from_residual-in_err-instances.ensures.1 (λ ne. let f = rw c.deref-2.ensures.value at (c.in_err-instances.ensures.err ne) in record { breaks = inr (inl (statics, f.breaks)); there = f.there ∙ c.class_place.ensures })
+    passed _ _ _ c.from_residual-in_err-instances.ensures.1 (λ ne. let f = rw c.deref-2.ensures.value at (c.in_err-instances.ensures.err ne) in record { breaks = inr (statics, inl f.breaks); there = f.there ∙ c.class_place.ensures })
 
 pub returns-in_err-directs-clause-err : goal.returns-in_err-directs-clause-err
 returns-in_err-directs-clause-err c =
@@ -23,7 +23,7 @@ returns-in_err-directs-clause-err c =
     let statics = fields_hold b (desc c.args.class) e.statics _ (rw c.deref.ensures.value at c.in_ok-statics.ensures.ok) in
     let instances = fields_hold b (desc c.args.class) e.instances _ (rw c.deref-2.ensures.value at c.in_ok-instances.ensures.ok) in
     passed _ _ _ c.from_residual-in_err-directs.ensures.1 (λ ne. let f = rw c.deref-3.ensures.value at (c.in_err-directs.ensures.err ne) in
-    record { breaks = inr (inr (inl (statics, instances, f.breaks))); there = f.there ∙ c.class_place.ensures })
+    record { breaks = inr (statics, inr (instances, inl f.breaks)); there = f.there ∙ c.class_place.ensures })
 
 pub returns-in_err-virtuals-clause-err : goal.returns-in_err-virtuals-clause-err
 returns-in_err-virtuals-clause-err c =
@@ -33,4 +33,4 @@ returns-in_err-virtuals-clause-err c =
     let instances = fields_hold b (desc c.args.class) e.instances _ (rw c.deref-2.ensures.value at c.in_ok-instances.ensures.ok) in
     let directs = bares_hold b (desc c.args.class) e.directs _ (rw c.deref-3.ensures.value at c.in_ok-directs.ensures.ok) in
     passed _ _ _ c.from_residual-in_err-virtuals.ensures.1 (λ ne. let f = rw c.deref-4.ensures.value at (c.in_err-virtuals.ensures.err ne) in
-    record { breaks = inr (inr (inr (statics, instances, directs, f.breaks))); there = f.there ∙ c.class_place.ensures })
+    record { breaks = inr (statics, inr (instances, inr (directs, f.breaks))); there = f.there ∙ c.class_place.ensures })

@@ -2,20 +2,16 @@ use Rattle.std.proofs.Common.{refl, sym, ◌∙◌, ◌≡◌, ◌⊎◌, true�
 use Rattle.dex_base.specs.Descriptor.{IsClass, IsMemberName}
 use Rattle.program_types.specs.Kinds.{void}
 use Rattle.program_types.specs.View.{str, desc}
-use Rattle.tables_rows.specs.TableFaults.{BreaksAt, FieldBreaks, FieldKind}
+use Rattle.tables_rows.specs.TableFaults.{BreaksAt, FieldBreaks}
+use Rattle.tables_rows.proofs.ClearRows.{field_kind}
 use Rattle.tables_rows.proofs.field_ids.read_field.Goals as goal
 use Rattle.tables_rows.proofs.field_ids.read_field.Goals.{In-Some-string_at}
 
 -- where the row has a class, a type and a name, and one is of a wrong kind
 unfit : (c : In-Some-string_at) → (¬ IsClass (desc c.in-Some.class)) ⊎ (desc c.in-Some-type_at.ty ≡ void) ⊎ (¬ IsMemberName (str c.in-Some-string_at.name)) → BreaksAt FieldBreaks c.args.sections.now 3 c.args.i c.at-unfit.result
 unfit c why = rw c.at-unfit.ensures (record {
-  breaks = FieldKind (record {
-    field = _;
-    class = rw (c.from.ensures ∙ c.member_class.ensures) at c.in-Some.ensures.some;
-    ty = rw (c.from-2.ensures ∙ c.member_kind.ensures) at c.in-Some-type_at.ensures.some;
-    name = rw c.member_name-index.ensures at c.in-Some-string_at.ensures.some;
-    unfit = why;
-  });
+  breaks = field_kind _ _ c.framed.ensures (record { class = desc c.in-Some.class; name = str c.in-Some-string_at.name; ty = desc c.in-Some-type_at.ty }) (rw (c.from.ensures ∙ c.member_class.ensures) at c.in-Some.ensures.some)
+      (rw (c.from-2.ensures ∙ c.member_kind.ensures) at c.in-Some-type_at.ensures.some) (rw c.member_name-index.ensures at c.in-Some-string_at.ensures.some) why;
   place = c.member_row-row.ensures;
 })
 

@@ -1,20 +1,16 @@
 use Rattle.std.proofs.Common.{refl, sym, ◌∙◌, ◌⊎◌, true≢false, inl, inr}
 use Rattle.dex_base.specs.Descriptor.{IsArray, IsClass, IsMemberName}
-use Rattle.program_types.specs.View.{str, desc}
-use Rattle.tables_rows.specs.TableFaults.{BreaksAt, MethodBreaks, MethodKind}
+use Rattle.program_types.specs.View.{str, desc, proto}
+use Rattle.tables_rows.specs.TableFaults.{BreaksAt, MethodBreaks}
+use Rattle.tables_rows.proofs.ClearRows.{method_kind}
 use Rattle.tables_rows.proofs.method_ids.read_method.Goals as goal
 use Rattle.tables_rows.proofs.method_ids.read_method.Goals.{In-Some-string_at}
 
 -- where the row has a class, a proto and a name, and class or name is of a wrong kind
 unfit : (c : In-Some-string_at) → (¬ (IsClass (desc c.in-Some.class) ⊎ IsArray (desc c.in-Some.class))) ⊎ (¬ IsMemberName (str c.in-Some-string_at.name)) → BreaksAt MethodBreaks c.args.sections.now 4 c.args.i c.at-unfit.result
 unfit c why = rw c.at-unfit.ensures (record {
-  breaks = MethodKind (record {
-    method = _;
-    class = rw (c.from.ensures ∙ c.member_class.ensures) at c.in-Some.ensures.some;
-    proto = rw (c.from-2.ensures ∙ c.member_kind.ensures) at c.in-Some-proto_at.ensures.some;
-    name = rw c.member_name-index.ensures at c.in-Some-string_at.ensures.some;
-    unfit = why;
-  });
+  breaks = method_kind _ _ c.framed.ensures (record { class = desc c.in-Some.class; name = str c.in-Some-string_at.name; proto = proto c.in-Some-proto_at.proto.now }) (rw (c.from.ensures ∙ c.member_class.ensures) at c.in-Some.ensures.some)
+      (rw (c.from-2.ensures ∙ c.member_kind.ensures) at c.in-Some-proto_at.ensures.some) (rw c.member_name-index.ensures at c.in-Some-string_at.ensures.some) why;
   place = c.member_row-row.ensures;
 })
 

@@ -3,32 +3,24 @@ use Rattle.program_types.specs.Shorty.{letter_of}
 use Rattle.program_types.specs.View.{str, desc}
 use Rattle.tables_rows.specs.inner.Known.{IsKnown}
 use Rattle.tables_rows.specs.Stands.{StringStands}
-use Rattle.tables_rows.specs.TableFaults.{ParametersAt, ParameterList, Shorty}
+use Rattle.tables_rows.specs.TableFaults.{ParametersAt}
 use Rattle.tables_rows.proofs.CachedLaws.{cached_more}
+use Rattle.tables_rows.proofs.ClearRows.{parameter_list, other_shorty}
 use Rattle.tables_rows.proofs.RowReading.{string_one}
 use Rattle.tables_rows.specs.RowFields.{proto_shorty}
 use Rattle.tables_rows.proofs.proto_ids.read_proto.Goals as goal
 
 pub returns-in_default-2-clause-err : goal.returns-in_default-2-clause-err
 returns-in_default-2-clause-err c = λ _. rw c.at-in_default-2.ensures (record {
-  breaks = ParameterList (record {
-    shorty = (rw c.proto_shorty-shorty.ensures at c.in-Some.ensures.some).row;
-    ret = (rw c.proto_return.ensures at c.in-Some-type_at.ensures.some).row;
-    none = λ ts at. (rw c.in_default-2.is at c.in_ok-known.ensures.none) ts (subst (λ n. ParametersAt c.args.sections.now n ts) (sym c.proto_parameters-off.ensures) at);
-  });
+  breaks = parameter_list _ _ (rw c.proto_shorty-shorty.ensures at c.in-Some.ensures.some).row (rw c.proto_return.ensures at c.in-Some-type_at.ensures.some).row
+      (λ ts at. (rw c.in_default-2.is at c.in_ok-known.ensures.none) ts (subst (λ n. ParametersAt c.args.sections.now n ts) (sym c.proto_parameters-off.ensures) at));
   place = c.proto_row-row.ensures;
 })
 
 pub returns-then-not-is_shorty-clause-err : goal.returns-then-not-is_shorty-clause-err
 returns-then-not-is_shorty-clause-err c = λ _. rw c.at-then-not-is_shorty.ensures (record {
-  breaks = Shorty (record {
-    proto = record { ret = desc c.in-Some-type_at.ret; params = map desc c.in-Some-2.known.params.now };
-    ret = rw c.proto_return.ensures at c.in-Some-type_at.ensures.some;
-    params = rw c.proto_parameters-off.ensures at (rw c.in-Some-2.is at c.in_ok-known.ensures.found).list;
-    found = str c.in-Some.text;
-    string = rw c.proto_shorty-shorty.ensures at c.in-Some.ensures.some;
-    differs = λ e. true≢false (sym (c.if-not-is_shorty.ensures.1 e));
-  });
+  breaks = other_shorty _ _ c.requires.framed (record { ret = desc c.in-Some-type_at.ret; params = map desc c.in-Some-2.known.params.now }) (str c.in-Some.text) (rw c.proto_return.ensures at c.in-Some-type_at.ensures.some)
+      (rw c.proto_parameters-off.ensures at (rw c.in-Some-2.is at c.in_ok-known.ensures.found).list) (rw c.proto_shorty-shorty.ensures at c.in-Some.ensures.some) (λ e. true≢false (sym (c.if-not-is_shorty.ensures.1 e)));
   place = c.proto_row-row.ensures;
 })
 

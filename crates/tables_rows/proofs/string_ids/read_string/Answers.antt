@@ -1,4 +1,4 @@
-use Rattle.tables_rows.specs.TableFaults.{StringSpelling}
+use Rattle.tables_rows.proofs.ClearRows.{string_spelling}
 use Rattle.tables_rows.proofs.RowReading.{string_read, string_none}
 use Rattle.tables_rows.proofs.string_ids.read_string.Goals as goal
 
@@ -8,9 +8,7 @@ returns-in-Some-2-clause-ok c =
 
 pub returns-in-None-clause-err : goal.returns-in-None-clause-err
 returns-in-None-clause-err c = λ _. rw c.at-in-None.ensures (record {
-  breaks = StringSpelling (record {
-    inside = rw (← c.string_place-place.ensures) c.in-Some.ensures.some;
-    none = string_none _ _ c.args.texts c.args.i _ c.requires.section c.in-Some.ensures.value c.string_place-place.ensures (rw c.in-None.is at c.in_ok-units.ensures.none);
-  });
+  breaks = string_spelling _ _ (rw (← c.string_place-place.ensures) c.in-Some.ensures.some)
+      (string_none _ _ c.args.texts c.args.i _ c.requires.section c.in-Some.ensures.value c.string_place-place.ensures (rw c.in-None.is at c.in_ok-units.ensures.none));
   place = c.string_row-row.ensures;
 })
