@@ -86,5 +86,6 @@ shared_of {V = V} g none G K align wide old out new xs i d places more_places pl
     let after = sharing_more none G K align wide old out new (map g (take i xs)) (map g (drop (i + 1) xs)) (map g xs) v places place kept more packs one before front a (sharing_bound none G K align wide out new v place kept more most a) in
     rw n (subst (λ (done : List V). Sharing none G K align wide old new done (map g (drop (i + 1) xs)) (map g xs) (places ++ place ∷ []) more) (sym (map_more g xs i d lt)) after)
 
-pub shared_all : {A V : Type 0} (g : A → V) (none : V → Bool) (G K : List ℕ → V → Type 0) (align : ℕ) (wide : V → ℕ) (old out : List ℕ) (xs : List A) (i : ℕ) (places : List ℕ) (kept : List Entry) (count : ℕ) → length xs ≤ i → Sharing none G K align wide old out (map g (take i xs)) (map g (drop i xs)) (map g xs) places kept → count ≡ length kept → Laid none G align wide old out (map g xs) places count
+pub shared_all : {A V : Type 0} (g : A → V) (none : V → Bool) (G K : List ℕ → V → Type 0) (align : ℕ) (wide : V → ℕ) (old out : List ℕ) (xs : List A) (i : ℕ) (places : List ℕ) (kept : List Entry)
+    (count : ℕ) → length xs ≤ i → Sharing none G K align wide old out (map g (take i xs)) (map g (drop i xs)) (map g xs) places kept → count ≡ length kept → Laid none G align wide old out (map g xs) places count
 shared_all g none G K align wide old out xs i places kept count le s n = rw n (laid_of g none G align wide old out xs i places (length kept) le s.laying)

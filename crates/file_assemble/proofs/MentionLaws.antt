@@ -86,7 +86,9 @@ module _ (s : Five) where
 
 -- how many fields and methods a class in memory has
 pub fields_count : (c : made.Class) → length (fields_of (view.class c)) ≡ length c.statics.now + length c.instances.now
-fields_count c = length-append (map (field_of_class (view.desc c.ty)) (map view.member c.statics.now)) (map (field_of_class (view.desc c.ty)) (map view.member c.instances.now)) ∙ (λ i. (length-map (map view.member c.statics.now) (field_of_class (view.desc c.ty)) ∙ length-map c.statics.now view.member) i + (length-map (map view.member c.instances.now) (field_of_class (view.desc c.ty)) ∙ length-map c.instances.now view.member) i)
+fields_count c = length-append (map (field_of_class (view.desc c.ty)) (map view.member c.statics.now)) (map (field_of_class (view.desc c.ty)) (map view.member c.instances.now))
+    ∙ (λ i. (length-map (map view.member c.statics.now) (field_of_class (view.desc c.ty)) ∙ length-map c.statics.now view.member) i + (length-map (map view.member c.instances.now) (field_of_class (view.desc c.ty)) ∙ length-map c.instances.now view.member) i)
 
 pub methods_count : (c : made.Class) → length (methods_of (view.class c)) ≡ length c.directs.now + length c.virtuals.now
-methods_count c = length-append (map (method_of_class (view.desc c.ty)) (map view.method c.directs.now)) (map (method_of_class (view.desc c.ty)) (map view.method c.virtuals.now)) ∙ (λ i. (length-map (map view.method c.directs.now) (method_of_class (view.desc c.ty)) ∙ length-map c.directs.now view.method) i + (length-map (map view.method c.virtuals.now) (method_of_class (view.desc c.ty)) ∙ length-map c.virtuals.now view.method) i)
+methods_count c = length-append (map (method_of_class (view.desc c.ty)) (map view.method c.directs.now)) (map (method_of_class (view.desc c.ty)) (map view.method c.virtuals.now))
+    ∙ (λ i. (length-map (map view.method c.directs.now) (method_of_class (view.desc c.ty)) ∙ length-map c.directs.now view.method) i + (length-map (map view.method c.virtuals.now) (method_of_class (view.desc c.ty)) ∙ length-map c.virtuals.now view.method) i)

@@ -261,7 +261,31 @@ module _ (b : List ℕ) (p : Plan) (place : ℕ) (w : IsWritten b p place) where
 
   written_kinds : AllByRecursion (λ (s : Span). 0 < s.items → IsWrittenKind s.kind) spans
   unfolding spans
-  written_kinds = ((λ _. inl (omega arith)), ((λ _. inl (omega arith)), ((λ _. inl (omega arith)), ((λ _. inl (omega arith)), ((λ _. inl (omega arith)), ((λ _. inl (omega arith)), ((λ _. inl (omega arith)), ((λ _. inr (inr (inl refl))), ((λ _. inr (inr (inr (inr (inl refl))))), ((λ _. inr (inr (inr (inr (inr (inl refl)))))), ((λ _. inr (inr (inr (inr (inr (inr (refl))))))), ((λ _. inr (inr (inr (inl refl)))), ((λ _. inr (inl refl)), tt)))))))))))))
+  written_kinds = (
+    (λ _. inl (omega arith)),
+    (
+      (λ _. inl (omega arith)),
+      (
+        (λ _. inl (omega arith)),
+        (
+          (λ _. inl (omega arith)),
+          (
+            (λ _. inl (omega arith)),
+            (
+              (λ _. inl (omega arith)),
+              (
+                (λ _. inl (omega arith)),
+                (
+                  (λ _. inr (inr (inl refl))),
+                  ((λ _. inr (inr (inr (inr (inl refl))))), ((λ _. inr (inr (inr (inr (inr (inl refl)))))), ((λ _. inr (inr (inr (inr (inr (inr (refl))))))), ((λ _. inr (inr (inr (inl refl)))), ((λ _. inr (inl refl)), tt))))),
+                ),
+              ),
+            ),
+          ),
+        ),
+      ),
+    ),
+  )
 
   pub kinds_known : (i : ℕ) → i < entry_count b → IsWrittenKind (kind_at b i)
   kinds_known i h =

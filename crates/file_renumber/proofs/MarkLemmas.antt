@@ -200,7 +200,8 @@ closed_nothing : IsClosed nothing
 unfolding needed
 closed_nothing = (needed_is_least []).1.closed
 
-pub none_marked : (b : List ℕ) (m : Marked) → IsFramed b → MarksOf (size_of b 0) (StringStands b) text_key [] m.columns.strings → MarksOf (size_of b 1) (TypeStands b) text_key [] m.columns.types → MarksOf (size_of b 2) (ProtoStands b) proto_key [] m.columns.protos → MarksOf (size_of b 3) (FieldStands b) field_ref_key [] m.columns.fields → MarksOf (size_of b 4) (MethodStands b) method_ref_key [] m.columns.methods → m.lists ≡ [] → AreMarks b m nothing
+pub none_marked : (b : List ℕ) (m : Marked) → IsFramed b → MarksOf (size_of b 0) (StringStands b) text_key [] m.columns.strings → MarksOf (size_of b 1) (TypeStands b) text_key [] m.columns.types → MarksOf (size_of b 2) (ProtoStands b)
+    proto_key [] m.columns.protos → MarksOf (size_of b 3) (FieldStands b) field_ref_key [] m.columns.fields → MarksOf (size_of b 4) (MethodStands b) method_ref_key [] m.columns.methods → m.lists ≡ [] → AreMarks b m nothing
 none_marked b m framed strings types protos fields methods empty = record {
   framed = framed;
   closed = closed_nothing;

@@ -90,7 +90,8 @@ both_ways false false f g = refl
 
 -- ---- one table
 
-module _ {V : Type 0} (n : ℕ) (Stands : ℕ → V → Type 0) (key : V → Key) (held : List Key) (column numbers : List ℕ) (names : List V) (long : length names ≡ n) (is : (i : ℕ) (v : V) → Stands i v → slice_get names i ≡ Some v) (each : (i : ℕ) (v : V) → slice_get names i ≡ Some v → Stands i v) (high : Rising (map key names)) (up : Rising held) (m : MarksOf n Stands key held column) (counts : Counts column numbers) where
+module _ {V : Type 0} (n : ℕ) (Stands : ℕ → V → Type 0) (key : V → Key) (held : List Key) (column numbers : List ℕ) (names : List V) (long : length names ≡ n) (is : (i : ℕ) (v : V) → Stands i v → slice_get names i ≡ Some v)
+    (each : (i : ℕ) (v : V) → slice_get names i ≡ Some v → Stands i v) (high : Rising (map key names)) (up : Rising held) (m : MarksOf n Stands key held column) (counts : Counts column numbers) where
   -- the kept keys are the set
   kept_are : kept (map key names) column ≡ held
   kept_are =

@@ -51,7 +51,8 @@ pub next_due : (b : List ℕ) (n : ℕ) (bytes left : List ℕ) (turn : ℕ) (vs
 next_due b n bytes left turn vs rest old new sum lt t w = let count = t.spelled.0 in due_next (SpellsValue (NameStands b)) left turn vs Null rest (omega (arith, lt, count)) w.due
 
 -- one value more
-pub walked_next : (b : List ℕ) (n : ℕ) (bytes left after : List ℕ) (turn : ℕ) (vs : List Value) (rest : List ℕ) (old mid new : Marked) (sum wide : ℕ) → turn < n → Takes (Many (SpellsValue (NameStands b)) n) bytes vs rest → Walked b old mid sum left turn vs rest → (d : NextDue (SpellsValue (NameStands b)) left turn vs Null rest) → MarksValue b mid new (get_or vs turn Null) d.mid wide after → Walked b old new (sum + wide) after (turn + 1) vs rest
+pub walked_next : (b : List ℕ) (n : ℕ) (bytes left after : List ℕ) (turn : ℕ) (vs : List Value) (rest : List ℕ) (old mid new : Marked) (sum wide : ℕ) → turn < n → Takes (Many (SpellsValue (NameStands b)) n)
+    bytes vs rest → Walked b old mid sum left turn vs rest → (d : NextDue (SpellsValue (NameStands b)) left turn vs Null rest) → MarksValue b mid new (get_or vs turn Null) d.mid wide after → Walked b old new (sum + wide) after (turn + 1) vs rest
 walked_next b n bytes left after turn vs rest old mid new sum wide lt t w d m =
     let count = t.spelled.0 in
     let more : take (turn + 1) vs ≡ take turn vs ++ get_or vs turn Null ∷ [] = take_more vs turn Null (omega (arith, lt, count)) in

@@ -79,7 +79,8 @@ module _ {N R : Type 0} where
         let whole : cmp q.1 p.1 ≡ ordering_then (ranks_cmp q.0 p.0) (cmp q.1 p.1) = cmp_by_key q.1 p.1 ∙ sym leads ∙ (λ t. ordering_then (ranks_cmp q.0 p.0) (sym (cmp_by_key q.1 p.1) t)) in
         (λ t. is_lt (cmp (get_or-map (λ p. p.1) all (i + 1) y d b t) (get_or-map (λ p. p.1) all i y d a t))) ∙ ap is_lt whole ∙ first_not_less (ordering_then (ranks_cmp q.0 p.0) (cmp q.1 p.1)) (nat_cmp q.2 p.2) (up i y low b)
 
-    module _ (eq : N → N → Bool) (laws : IsEquivalence eq) (by_key : (x y : N) → eq x y ≡ is_eq (key_cmp (key x) (key y))) (names : List N) (old new : List (R × N × ℕ)) (are : map (λ p. p.1) old ≡ names) (moved : IsPermutation old new) (apart : IsDistinct eq names) (has : All (λ p. Has p.1 p.0) old) (up : IsSorted (λ p q. ordering_then (ordering_then (ranks_cmp p.0 q.0) (cmp p.1 q.1)) (nat_cmp p.2 q.2)) new) where
+    module _ (eq : N → N → Bool) (laws : IsEquivalence eq) (by_key : (x y : N) → eq x y ≡ is_eq (key_cmp (key x) (key y))) (names : List N) (old new : List (R × N × ℕ)) (are : map (λ p. p.1) old ≡ names)
+        (moved : IsPermutation old new) (apart : IsDistinct eq names) (has : All (λ p. Has p.1 p.0) old) (up : IsSorted (λ p q. ordering_then (ordering_then (ranks_cmp p.0 q.0) (cmp p.1 q.1)) (nat_cmp p.2 q.2)) new) where
       -- their keys rise
       pub names_rise : Rising (map key (map (λ p. p.1) new))
       names_rise =

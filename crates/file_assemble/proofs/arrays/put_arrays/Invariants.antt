@@ -11,4 +11,5 @@ use Rattle.file_assemble.specs.inner.Arrays.{WritesArray}
 use Rattle.file_assemble.proofs.arrays.put_arrays.Given as goal
 
 abbrev pub invariant-loop-class : goal.invariant-loop-class
-invariant-loop-class l = Sharing is_empty_list (Shortest (SpellsArray (NameRanks l.ranks))) (WritesArray l.ranks) 1 wide_array l.fn.out.items l.out.items (map (λ (x : Class). map view.value x.values.now) (take l.class-index l.class-items)) (map (λ (x : Class). map view.value x.values.now) (drop l.class-index l.class-items)) (map (λ (x : Class). map view.value x.values.now) l.class-items) l.places.items l.items
+invariant-loop-class l = Sharing is_empty_list (Shortest (SpellsArray (NameRanks l.ranks))) (WritesArray l.ranks) 1 wide_array l.fn.out.items l.out.items (map (λ (x : Class). map view.value x.values.now) (take l.class-index l.class-items))
+    (map (λ (x : Class). map view.value x.values.now) (drop l.class-index l.class-items)) (map (λ (x : Class). map view.value x.values.now) l.class-items) l.places.items l.items

@@ -18,4 +18,5 @@ pub returns-clause-ok : goal.returns-clause-ok
 returns-clause-ok c = λ p k.
     let b = c.args.sections.now in
     let e : c.table-i-end.result.0 ≡ size_of b 3 = ap (λ x. x.0) c.table-i-end.ensures ∙ table_size (size_of b 3) (offset_of b 3) in
-    rows_end field_ref_key (SpellsFieldRow (needed p)) (size_of b 3) k.marks.columns.fields c.args.numbers.now.fields k.marked.fields.shape k.numbered.fields (needed p).fields c.args.rows.now.items c.loop-i.rows.items c.loop-i.i (omega (arith, e, c.loop-i-test.false, c.loop-i.auto.i-end)) (totals_are_lengths b k.marks (needed p) c.args.numbers.now k.tables k.marked k.numbered).fields (c.loop-i.invariant p k)
+    rows_end field_ref_key (SpellsFieldRow (needed p)) (size_of b 3) k.marks.columns.fields c.args.numbers.now.fields k.marked.fields.shape k.numbered.fields (needed p).fields c.args.rows.now.items c.loop-i.rows.items c.loop-i.i
+    (omega (arith, e, c.loop-i-test.false, c.loop-i.auto.i-end)) (totals_are_lengths b k.marks (needed p) c.args.numbers.now k.tables k.marked k.numbered).fields (c.loop-i.invariant p k)

@@ -18,4 +18,5 @@ pub returns-clause-ok : goal.returns-clause-ok
 returns-clause-ok c = λ p k.
     let b = c.args.sections.now in
     let e : c.table-i-end.result.0 ≡ size_of b 4 = ap (λ x. x.0) c.table-i-end.ensures ∙ table_size (size_of b 4) (offset_of b 4) in
-    rows_end method_ref_key (SpellsMethodRow (needed p)) (size_of b 4) k.marks.columns.methods c.args.numbers.now.methods k.marked.methods.shape k.numbered.methods (needed p).methods c.args.rows.now.items c.loop-i.rows.items c.loop-i.i (omega (arith, e, c.loop-i-test.false, c.loop-i.auto.i-end)) (totals_are_lengths b k.marks (needed p) c.args.numbers.now k.tables k.marked k.numbered).methods (c.loop-i.invariant p k)
+    rows_end method_ref_key (SpellsMethodRow (needed p)) (size_of b 4) k.marks.columns.methods c.args.numbers.now.methods k.marked.methods.shape k.numbered.methods (needed p).methods c.args.rows.now.items c.loop-i.rows.items c.loop-i.i
+    (omega (arith, e, c.loop-i-test.false, c.loop-i.auto.i-end)) (totals_are_lengths b k.marks (needed p) c.args.numbers.now k.tables k.marked k.numbered).methods (c.loop-i.invariant p k)

@@ -49,6 +49,7 @@ returns-clause-ok c =
     let e : get_or c.args.numbers.now.protos c.args.i 0 ≡ c.proto.result = number_is c.args.numbers.now.protos c.args.i c.proto.result c.proto.ensures in
     let spelled = proto_row b c.args.numbers.now (needed p) c.args.i c.of-shorty.result c.of-ret.result (get_or c.args.places.now c.proto.result 0) row
     (subst (λ (n : ℕ). slice_get c.args.numbers.now.strings n ≡ Some c.of-shorty.result) c.proto_shorty.ensures c.of-shorty.ensures) (subst (λ (n : ℕ). slice_get c.args.numbers.now.types n ≡ Some c.of-ret.result) c.proto_return.ensures c.of-ret.ensures) (omega arith) (omega arith) (omega arith) in
-    proto_kept (needed p) c.args.places.now (size_of b 2) k.marks.columns.protos c.args.numbers.now.protos k.marked.protos.shape k.numbered.protos (c.requires.kept.2 ∙ (same_lengths b c.args.numbers.now c.requires.kept.0 p c.requires.kept.1 k).1) old c.args.rows.now.items c.push_words.new.out.items (words_bytes (c.of-shorty.result ∷ c.of-ret.result ∷ get_or c.args.places.now c.proto.result 0 ∷ [])) c.args.i row.name c.requires.row (c.if-not-keeps_proto.ensures.0 refl) row.at w
+    proto_kept (needed p) c.args.places.now (size_of b 2) k.marks.columns.protos c.args.numbers.now.protos k.marked.protos.shape k.numbered.protos (c.requires.kept.2 ∙ (same_lengths b c.args.numbers.now c.requires.kept.0 p c.requires.kept.1 k).1)
+    old c.args.rows.now.items c.push_words.new.out.items (words_bytes (c.of-shorty.result ∷ c.of-ret.result ∷ get_or c.args.places.now c.proto.result 0 ∷ [])) c.args.i row.name c.requires.row (c.if-not-keeps_proto.ensures.0 refl) row.at w
     (subst (λ (n : ℕ). SpellsProtoRow (needed p) (words_bytes (c.of-shorty.result ∷ c.of-ret.result ∷ get_or c.args.places.now c.proto.result 0 ∷ [])) (get_or c.args.places.now n 0, row.name)) (sym e) spelled) a)
     c.push_words.ensures.ok

@@ -8,7 +8,8 @@ use Rattle.tables_names.proofs.sorting.sorted_names.Goals as goal
 
 pub returns-clause-same : goal.returns-clause-same
 returns-clause-same g c =
-    names_same g.N.Row.key g.N.Ord.cmp g.met.N.Row.cmp_by_key (λ r s. Equal) (λ x r. Unit {0}) (λ x y r s a b. refl) g.N.PartialEq.eq g.met.N.Eq.laws (λ x y. g.met.N.Ord.matches_eq x y ∙ ap is_eq (g.met.N.Row.cmp_by_key x y)) c.args.names.now c.in_ok-rows.rows.items c.sort_unstable.new.self.items c.in_ok-rows.ensures.names c.sort_unstable.ensures.permutation c.requires (λ i d lt. tt) c.sort_unstable.ensures.sorted
+    names_same g.N.Row.key g.N.Ord.cmp g.met.N.Row.cmp_by_key (λ r s. Equal) (λ x r. Unit {0}) (λ x y r s a b. refl) g.N.PartialEq.eq g.met.N.Eq.laws (λ x y. g.met.N.Ord.matches_eq x y ∙ ap is_eq (g.met.N.Row.cmp_by_key x y))
+    c.args.names.now c.in_ok-rows.rows.items c.sort_unstable.new.self.items c.in_ok-rows.ensures.names c.sort_unstable.ensures.permutation c.requires (λ i d lt. tt) c.sort_unstable.ensures.sorted
 
 pub returns-clause-numbers : goal.returns-clause-numbers
 returns-clause-numbers g c =

@@ -11,7 +11,8 @@ with_ranks-requires g c = rw (c.in_order.ensures.keys, c.deref.ensures.value) c.
 
 pub returns-clause-same : goal.returns-clause-same
 returns-clause-same g c =
-    names_same g.N.Row.key g.N.Ord.cmp g.met.N.Row.cmp_by_key g.P.Ord.cmp (λ x r. g.P.PartNumbers.has c.args.sorted.now (g.N.Row.key x) r) (λ x y r s a b. c.requires.leads (g.N.Row.key x) (g.N.Row.key y) r s a b) g.N.PartialEq.eq g.met.N.Eq.laws (λ x y. g.met.N.Ord.matches_eq x y ∙ ap is_eq (g.met.N.Row.cmp_by_key x y)) c.in_order.result.now c.in_ok-rows.rows.items c.sort_unstable.new.self.items c.in_ok-rows.ensures.names c.sort_unstable.ensures.permutation c.in_order.ensures.distinct c.in_ok-rows.ensures.ranks c.sort_unstable.ensures.sorted ∙ ap set_of c.in_order.ensures.keys
+    names_same g.N.Row.key g.N.Ord.cmp g.met.N.Row.cmp_by_key g.P.Ord.cmp (λ x r. g.P.PartNumbers.has c.args.sorted.now (g.N.Row.key x) r) (λ x y r s a b. c.requires.leads (g.N.Row.key x) (g.N.Row.key y) r s a b) g.N.PartialEq.eq g.met.N.Eq.laws (λ x y. g.met.N.Ord.matches_eq x y ∙ ap is_eq (g.met.N.Row.cmp_by_key x y))
+    c.in_order.result.now c.in_ok-rows.rows.items c.sort_unstable.new.self.items c.in_ok-rows.ensures.names c.sort_unstable.ensures.permutation c.in_order.ensures.distinct c.in_ok-rows.ensures.ranks c.sort_unstable.ensures.sorted ∙ ap set_of c.in_order.ensures.keys
 
 pub returns-clause-parts : goal.returns-clause-parts
 returns-clause-parts g c =
