@@ -30,50 +30,50 @@ JOBS = ("check", "list", "assemble", "strip")
 
 # What the texts don't say.
 OUT_PART = (
-    "The answer while it is being written, beside OUT (.1.part and so on if that name is taken). It replaces OUT when it is complete. A run that "
-    "is killed leaves it there: you can delete it, and it doesn't stop the next run. An OUT that can't be replaced, as a file with several names or a "
-    "mount point, gets its bytes once it is complete; if they don't fit there, it stays, complete. A device, a pipe, a link to nothing and a "
-    "file in a folder that takes no new file are written in place, without it. Nobody but its owner may open it until it has OUT's mode. An access "
-    "control list and extended attributes of OUT are lost, and what is the list's mask in OUT's mode is what the group may do then; to keep them, "
-    "have the shell write in place: 'dexasm strip FILE > OUT'. What replaces a file is synced to the disk first, which takes some milliseconds; "
-    "under a name that isn't there nothing waits for the disk."
+    "The output while it is being written, beside OUT (.1.part and so on if that name is taken). It replaces OUT when it is complete. An OUT that "
+    "can't be replaced, such as a file with several names or a mount point, is overwritten once this file is complete; if the bytes don't fit there, "
+    "this file stays, complete. A run that is killed may leave it: you can delete it, but where OUT has several names or is a mount point, look first "
+    "whether OUT is whole; if it isn't, this file is the only whole copy. A device, a pipe, a link to nothing and a file in a folder that takes no new "
+    "file are written in place, without it. Nobody but its owner may open it until it has OUT's mode. OUT loses its access control list and extended "
+    "attributes, and its group gets the permissions of the list's mask; to keep them, let the shell write: 'dexasm strip FILE > OUT'. What replaces a "
+    "file is synced to the disk first, which takes some milliseconds; under a new name nothing waits for the disk."
 )
 # What the launcher of a repository heeds.
 PROVED = (
-    "Of the launcher ./dexasm in the repository: with the value \\fBproved\\fR it builds the proved program first where that isn't there, and runs that "
-    "one or none. Without it the quick program runs until tools/build has been run: the same source without its proof. A helper ends with an error "
-    "where it tells which build answers and that isn't a proved one."
+    "For the launcher ./dexasm in the repository: with the value \\fBproved\\fR it runs only the proved program, which it builds first if necessary. "
+    "Without it the quick program, the same source without its proof, runs until tools/build has been run. A helper that reports the build ends with "
+    "an error if that isn't a proved one."
 )
-WHICH = "Of the launcher too: where it isn't empty no program runs, and standard output says which one would, 'proved' or 'quick', and its path."
+WHICH = "For the launcher too: if it isn't empty, no program runs, and standard output names the one that would, 'proved' or 'quick', and its path."
 # What the C library heeds.
 TUNABLES = (
-    "The GNU C library hands out the command's memory. Where /sys/kernel/mm/transparent_hugepage/enabled says 'always' or 'madvise', "
-    "\\fBglibc.malloc.hugetlb=1:glibc.malloc.top_pad=67108864:glibc.malloc.mmap_threshold=4194304\\fR asks for it in huge pages: on large "
-    "files each command then takes about a tenth less time, and up to 1.6 times the memory (docs/MEASURED.md). The answer is the same."
+    "The GNU C library allocates the command's memory. Where /sys/kernel/mm/transparent_hugepage/enabled says 'always' or 'madvise', "
+    "\\fBglibc.malloc.hugetlb=1:glibc.malloc.top_pad=67108864:glibc.malloc.mmap_threshold=4194304\\fR makes it use huge pages: on large "
+    "files each command then takes about a tenth less time, and up to 1.6 times the memory (docs/MEASURED.md)."
 )
 # The lists of faults, each with what its places are.
 FAULTS = (
     ("Faults of a file. The place is a byte of it, from 0:", FORMAT, (*range(80), 255)),
     ("Faults of a listing. The place is a line, from 1:", LISTING, range(100, 110)),
-    ("Rules of a program, asked of a listing that has none of these. The place is the number of a class in the listing, from 0:",
+    ("Rules of a program, checked in a listing that has none of these. The place is the number of a class in the listing, from 0:",
      FORMAT, range(110, 120)),
     ("Limits of a written file. The place is the number of a class in the listing, from 0; of 80 and 81 it is how many are needed, of 90 it is 0:",
      FORMAT, range(80, 91)),
 )
 STATUSES = (
-    ("0", "the answer was written, or help or the version was asked for"),
-    ("1", "the file or the listing is refused; standard error says the number, name and place of the fault, as in 'dexasm: refused 8 Checksum at 8'."
-     " Where it is a terminal, a second line says in a few words what is wrong"),
-    ("2", "a bad command line; standard error says what is wrong and shows the usage (unless an argument isn't UTF-8). A .dex file that would"
-     " go to a terminal is one too: standard error says so, and nothing is read or written"),
-    ("3", "reading or writing failed; standard error says 'dexasm: cannot read' or 'dexasm: cannot write'. Where it is a terminal, a second line"
-     " has the system's reason; elsewhere 'ls -l' of the file and 'df' of its folder tell why. A pipe whose reader ends early is a failure too"),
+    ("0", "the output was written, or help or the version was requested"),
+    ("1", "the file or the listing is refused; standard error has the number, name and place of the fault, as in 'dexasm: refused 8 Checksum at 8'."
+     " On a terminal a second line explains it"),
+    ("2", "a bad command line; standard error explains it and shows the usage (unless an argument isn't UTF-8). A .dex file that would"
+     " go to a terminal counts too: nothing is read or written"),
+    ("3", "reading or writing failed; standard error says 'dexasm: cannot read' or 'dexasm: cannot write'. On a terminal a second line"
+     " has the system's reason; elsewhere 'ls -l' of the file and 'df' of its folder show it. A pipe whose reader ends early is a failure too"),
     ("4", "out of memory"),
-    ("70", "of the launcher ./dexasm in the repository alone: there is no program, or of which commit one is can't be known; standard error says why"),
+    ("70", "only of the launcher ./dexasm in the repository: there is no program, or its commit is unknown; standard error says why"),
 )
 WORDS = (
-    "Which of these does what smali, baksmali, dexdump, javap or objdump does is the first part of docs/RECIPES.md (\"Which word does it\"), in a package "
-    "share/doc/dexasm/docs/RECIPES.md: to disassemble is `dexasm list`, to verify `dexasm check`, to dump headers and bytes `dexasm-info`."
+    "For users of smali, baksmali, dexdump, javap or objdump: `dexasm list` disassembles, `dexasm check` verifies, `dexasm-info` dumps headers and bytes. "
+    "The first part of docs/RECIPES.md has the others (in a package share/doc/dexasm/docs/RECIPES.md)."
 )
 # What each helper heeds.
 COMMAND = (
@@ -143,7 +143,7 @@ def page(said: dict[str, str]) -> str:
     out += [".SH EXIT STATUS"]
     for status, text in STATUSES:
         out += [".TP", f"\\fB{status}\\fR", plain(text) + "."]
-    out += [".SH FAULTS", "Each refusal has the number of a fault, its name, and its place. Each list is in the order in which faults are asked."]
+    out += [".SH FAULTS", "Each refusal has the number of a fault, its name, and its place. The lists are in the order of the checks."]
     for what, path, numbers in FAULTS:
         out += [".PP", what, *rows_of(path, numbers)]
     out += [".SH EXAMPLES", ".nf"]

@@ -2,9 +2,8 @@
 each crate, file and function that MAP.md and PROVED.md name is there.
 
 FILES.md has a row for each fault: where specs/ say when it stands, where src/ answers it, the tests that expect it, and
-the wrong bodies that change a function that answers it. A fault that no definition and no function has is missing. Of
-each crate it says what it stands on, and of each file what its first line says. The layers are those of MAP.md, what
-they stand on is in crates.txt. The picture of the written file is made of FORMAT.md's words; where they say it no more,
+the wrong bodies that change a function that answers it. A fault that no definition and no function has is missing. The
+layers are those of MAP.md, what they stand on is in crates.txt. The picture of the written file is made of FORMAT.md's words; where they say it no more,
 nothing is written.
 """
 from .making import Made, Missing

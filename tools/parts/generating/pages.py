@@ -2,8 +2,8 @@
 import re
 
 from .tree import (
-    INSIDE, OUTSIDE, Function, above, callers_of, calls_of, crates, edits_by_file, edits_by_function, files_of, first_line,
-    function_at, lines_of, lines_of_crate, read, stands_on,
+    Function, above, callers_of, calls_of, crates, edits_by_function, files_of, first_line, function_at, lines_of,
+    lines_of_crate, read,
 )
 
 RESERVED = {"NOT_YET"}  # faults that are never answered
@@ -13,29 +13,16 @@ NUMBER = (
     r"(?:\bon [\w.]+|Breaks N c|BreaksLimit N c|Breaks b i|differences k|LimitBreaks p|code =|code ≡|broken|base"
     r"|slot s then|else(?= \d\d)|code_of \w+ =) (\d+)\b(?! [-+*/])"
 )
-HEAD = """# Faults and crates, one by one
+HEAD = """# Faults, one by one
 
-For maintainers who know what they look for: where each fault is defined and answered, and what each crate stands on.
-[MAP](MAP.md) is the way in. `tools/generate` writes this page, and `./test` fails where it isn't up to date;
-`tools/generate --list` prints what each file holds, which its first line says.
+For maintainers: where each fault is defined, returned and tested. [MAP](MAP.md) has the rules without a fault.
 
 ## Faults
 
-Where each fault is defined, the functions that answer it, the files of tests that expect it, and wrong bodies: those
-that the gate tries, and in italics those in `more-wrong-bodies/`. They change a function that answers the fault; if
-there is none, one that it calls, or else one that calls it, in the same crate.
+Wrong bodies change a function that returns the fault, or else one that it calls or that calls it. Those in italics are
+in `more-wrong-bodies/`; the gate tries the others.
 
-| Fault | Name | Defined | Answered | Tests | Wrong bodies |
-|---|---|---|---|---|---|
-"""
-CRATES = """
-## Crates
-
-In the order of `crates.txt`, from the bottom up. A change of a crate has that crate and all crates above it proved
-again; the share is how much of all lines of code, definitions and proofs these have. The last column counts its wrong
-bodies: those that the gate tries, and after a + those that `tools/wrong-bodies` tries.
-
-| Crate | Stands on | Crates above it | Proved again with it | Wrong bodies |
+| Fault | Defined | Returned | Tests | Wrong bodies |
 |---|---|---|---|---|
 """
 END = "\n---\n\nBack to the [README](../README.md).\n"
@@ -97,7 +84,7 @@ def rows_of_faults() -> tuple[str, list[str]]:
             missing.append(f"fault {number} {name} is {what}")
         tried = bodies_near(places.functions[number], bodies)
         parts = places.defined[number], places.answered[number], places.tested[number], tried
-        out.append(f"| {number} | {name} | {' | '.join('<br>'.join(part) for part in parts)} |\n")
+        out.append(f"| {number} {name} | {' | '.join('<br>'.join(part) for part in parts)} |\n")
     return "".join(out), missing
 
 
@@ -122,19 +109,6 @@ def bodies_near(functions: list[Function], bodies: dict[Function, list[str]]) ->
     return []
 
 
-def rows_of_crates() -> str:
-    """What each crate stands on, what stands on it, and the share that a change of it has proved again."""
-    inside, outside = edits_by_file(INSIDE), edits_by_file(OUTSIDE)
-    lines, upper = {name: lines_of_crate(name) for name in crates()}, above()
-    out = []
-    for name in crates():
-        gate, more = (sum(edits[path] for path in files_of(name)) for edits in (inside, outside))
-        bodies = f"{gate or ''}{f' + {more}' if more else ''}".strip()
-        below = ", ".join(stands_on()[name]) or "no other crate"
-        out.append(f"| {name} | {below} | {len(upper[name])} | {share({name} | upper[name], lines)} | {bodies} |\n")
-    return "".join(out)
-
-
 def list_of_files() -> str:
     """What each file of specs/ and src/ holds, as its first line says."""
     return "".join(f"{path}: {first_line(path)}\n" for name in crates() for path in files_of(name))
@@ -145,7 +119,7 @@ def files_page() -> tuple[str, list[str]]:
     rows, missing = rows_of_faults()
     paths = [path for name in crates() for path in files_of(name)]
     missing += [f"a file opens with no comment: {path}" for path in paths if first_line(path) == "?"]
-    return HEAD + rows + CRATES + rows_of_crates() + END, missing
+    return HEAD + rows + END, missing
 
 
 def costs(layers: dict[str, list[str]]) -> str:

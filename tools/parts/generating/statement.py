@@ -2,6 +2,7 @@
 lists the definitions of four promises in the order in which one reads them. `tools/generate statement PROMISE` prints
 the definitions themselves."""
 from collections.abc import Iterator
+from textwrap import wrap
 from typing import NamedTuple
 
 from ..believed import Definitions, Rests, crate_of, definitions
@@ -19,11 +20,14 @@ LAWS = "crates/file_write/src/laws.rt"
 QUOTED = {
     "read": READ,
     "write": WRITE,
+    "check": CHECK,
+    "strip": STRIP,
     "written_is_read": (LAWS, "written_is_read"),
     "one_file": (LAWS, "one_file"),
     "stripped_alike": (LAWS, "stripped_alike_exactly_if_meaning_alike"),
     "no_refusal_in_vain": ("crates/file_strip/src/least_laws.rt", "no_refusal_in_vain"),
     "one_outcome": ("crates/dexasm_run/src/laws.rt", "one_outcome"),
+    "answer": ("crates/dexasm_run/src/answers.rt", "answer"),
     "printed_is_read": ("crates/listing_laws/src/laws.rt", "what_is_printed_is_read_again"),
     "parse": PARSE,
     "print": PRINT,
@@ -121,11 +125,11 @@ def new_in(known: Definitions, name: str) -> set[Owner]:
 
 
 def rows(known: Definitions, name: str) -> Iterator[str]:
-    yield from ("", f"## {name}", "", "| File | Definitions, in order |", "|---|---|")
+    yield from ("", f"## {name}", "")
     for path, names in known.in_order(new_in(known, name)):
         shown = ", ".join(f"`{each}`" for each in names)
-        short = path.removeprefix("crates/").replace("/specs/", " ").removesuffix(".antt")
-        yield f"| [{short}](../{path}) | {shown} |"
+        short = path.removeprefix("crates/").replace("/specs/", "/").removesuffix(".antt")
+        yield from wrap(f"- [{short}](../{path}): {shown}", 120, subsequent_indent="  ", break_on_hyphens=False)
 
 
 def lists(known: Definitions) -> str:

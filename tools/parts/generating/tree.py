@@ -135,11 +135,6 @@ def edits_by_function() -> dict[Function, list[str]]:
     return found
 
 
-def edits_by_file(folder: str) -> collections.Counter[str]:
-    """How many wrong bodies in folders of this name change each file."""
-    return collections.Counter(file for _, _, file in edits(folder))
-
-
 @functools.cache
 def code_of(name: str) -> dict[str, list[tuple[str, str]]]:
     """The functions of a crate by their names, each with its file and its body."""

@@ -37,8 +37,8 @@ def pack(program: str, library: str, folder: str) -> str:
         print(f"tools/package: {MISSING}: no wheel is made", file=sys.stderr)
         alone = jars
     else:
-        given = (bytes_of(held, place) for place in ("lib/libdexasm.so.0", "share/doc/dexasm/PROVED-BY"))
-        alone = dict([wheel_of(*given, time)]) | jars
+        proved_by = bytes_of(held, "share/doc/dexasm/PROVED-BY")
+        alone = dict([wheel_of(bytes_of(held, "lib/libdexasm.so.0"), proved_by, time)]) | jars
     for name, whole in alone.items():
         made.append(f"{folder}/{name}")
         with open(made[-1], "wb") as file:
