@@ -178,8 +178,12 @@ def tool(name: str, *words: str, **options: Any) -> Ended:
 
 def traced(name: str, *words: str, inject: Iterable[str], **options: Any) -> Ended:
     """A helper with a call of the system failed, or a signal sent at it, as strace takes it: `rename:error=EIO`."""
-    faults = [word for one in inject for word in ("-e", f"inject={one}")]
-    return run(["strace", "-qq", "-f", "-o", "/dev/null", *faults, os.path.join(TOOLS, name), *words], **options)
+    injected = [*inject]
+    calls = ",".join(dict.fromkeys(one.partition(":")[0] for one in injected))
+    traces = ["strace", "-qq", "-f", "-o", "/dev/null", "-e", f"trace={calls}"]
+    traces += [] if any("signal=" in one for one in injected) else ["--seccomp-bpf"]  # (no signal comes by that)
+    faults = [word for one in injected for word in ("-e", f"inject={one}")]
+    return run([*traces, *faults, os.path.join(TOOLS, name), *words], **options)
 
 
 # Calls that make, change, name or remove a file.

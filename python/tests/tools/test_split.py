@@ -3,6 +3,7 @@ that isn't whole isn't joined.
 """
 import fcntl
 import os
+import shutil
 from collections.abc import Iterable
 from typing import Any
 
@@ -21,6 +22,7 @@ from .rooms import (
     get,
     in_turn,
     is_one_line,
+    path,
     put,
     room,
     scratch,
@@ -53,7 +55,8 @@ NEW_NAMES = ("A.txt", "C.txt", "b", "b/D.txt", "head", "order", "tail")
 def ended_at(call: str, number: int, how: str) -> tuple[Ended, Ended, bool, tuple[Ended, Ended, bool]]:
     """A run that is ended at this call, or in which it fails: what it said, what is joined then, whether nothing is
     left but one of the two listings; and the same of the next run, which is left alone."""
-    at = good(f"ended {call} {number} {how}")
+    at = room(f"split ended {call} {number} {how}")
+    shutil.copytree(path("split ended old"), at, dirs_exist_ok=True)
     seen = traced("dexasm-split", "classes", given=NEW, at=at, inject=[f"{call}:{how}:when={number}"])
     joined, is_clean = tool("dexasm-split", "--join", "classes", at=at), clean(at) or clean(at, NEW_NAMES)
     again = tool("dexasm-split", "classes", given=NEW, at=at), tool("dexasm-split", "--join", "classes", at=at)
@@ -352,6 +355,7 @@ class Split(HelperTest):
             return
         calls = calls_of("dexasm-split", "classes", given=NEW, begins='"classes"', at=good("ended"))
         self.check("dexasm-split, calls are failed", len(calls) > 30, calls)
+        good("ended old")
         cases = [(*one, how) for one in calls for how in ("signal=SIGKILL", "signal=SIGTERM", "error=EIO")]
         # (what holds back one signal to end holds back the others)
         cases += [(*one, f"signal={name}") for one in calls if one[0] == "renameat" for name in ("SIGINT", "SIGHUP")]
