@@ -6,7 +6,7 @@ import tempfile
 from typing import Any
 
 from .. import tried
-from ..base import LIMIT, Ended, TestCase, ended
+from ..base import LIMIT, Ended, TestCase, ended, get
 from ..samples import BRANCHES, ODD, ONE_CLASS
 
 JOBS = ("check", "list", "assemble", "align", "strip")
@@ -50,6 +50,10 @@ class LibraryTest(TestCase):
     @classmethod
     def put(cls, name: str, given: bytes) -> str:
         return put(os.path.join(cls.work, name.replace(" ", "-")), given)
+
+    @classmethod
+    def get(cls, name: str) -> bytes:
+        return get(os.path.join(cls.work, name))
 
     @classmethod
     def samples(cls) -> list[str]:

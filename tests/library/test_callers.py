@@ -23,6 +23,30 @@ VERSIONS = (
     ("bindings/java/pom.xml", "\n  <version>{maven}</version>\n"),
 )
 
+# The caller in C, once for each pair of a job and a file: what it prints and its status are written to files.
+EACH = r"""
+#define main run_one
+#include "example.c"
+#undef main
+
+static void print_to(FILE *stream, int number, const char *end) {
+  char name[32];
+  snprintf(name, sizeof name, "%d.%s", number, end);
+  if (!freopen(name, "wb", stream)) exit(98);
+}
+
+int main(int argc, char **argv) {
+  for (int at = 1; at + 1 < argc; at += 2) {
+    print_to(stdout, at / 2, "out");
+    print_to(stderr, at / 2, "err");
+    int status = run_one(3, (char *[]){argv[0], argv[at], argv[at + 1], NULL});
+    print_to(stdout, at / 2, "status");
+    printf("%d\n", status);
+  }
+  return 0;
+}
+"""
+
 
 class CallersTest(LibraryTest):
     def example(self, kind: str) -> tuple[str, Ended]:
@@ -106,12 +130,17 @@ class Callers(CallersTest):
                 self.check(f"{path}: the version", line.format(number, python=python, maven=maven) in file.read())
 
     def test_valgrind(self) -> None:
-        """valgrind finds nothing to say of the caller in C."""
+        """valgrind reports nothing about the caller in C, which does all jobs in one process."""
         if not shutil.which("valgrind"):
             self.skipTest("no valgrind here")
-        made, (status, _, said) = self.example("static")
+        source, made = self.put("each.c", EACH.encode()), f"{self.work}/each"
+        paths = ["-I", self.library, "-I", f"{TOP}/bindings/c", source, f"{self.library}/libdexasm.a", "-o", made]
+        status, _, said = run(*compiler(), "-O2", "-g", "-Wall", "-Wextra", "-Werror", *paths)
         self.assertEqual(status, 0, said)
+        pairs = [(job, path) for path in self.paths for job in JOBS]
         words = ["valgrind", "-q", "--error-exitcode=99", "--leak-check=full", "--errors-for-leak-kinds=all", made]
-        for path in self.paths:
-            for job in JOBS:
-                self.check_equal(f"valgrind: {job} of {path}", run(*words, job, path), self.command(job, path))
+        seen = run(*words, *(word for pair in pairs for word in pair), cwd=self.work)
+        self.check_equal("valgrind: all jobs", seen, (0, b"", ""))
+        for number, (job, path) in enumerate(pairs):
+            out, said, status = (self.get(f"{number}.{end}") for end in ("out", "err", "status"))
+            self.check_equal(f"{job} of {path}", (int(status), out, said.decode()), self.command(job, path))
