@@ -1,8 +1,10 @@
 //! The answer to each job.
-ghost use Rattle.std.specs.Prelude.{◌≢◌, IfOk, IfErr};
+ghost use Rattle.std.specs.Prelude.{◌≡◌, ◌≢◌, ◌++◌, IfOk, IfErr, OnOk};
 ghost use Rattle.dex_base.specs.Fault.{memory};
-ghost use Rattle.program_types.specs.View.{program};
+ghost use Rattle.program_types.specs.View.{program, class};
 ghost use Rattle.program_rules.specs.WellFormed.{WellFormed};
+ghost use Rattle.listing_lines.specs.declared.form.Form.TheVariants.{Two};
+ghost use Rattle.listing_print.specs.Canon.{class_text};
 ghost use Rattle.dexasm_run.specs.Answers.{Answer, Refusal, IsAssembled, IsUnassembled};
 
 use bumpalo::Bump;
@@ -14,8 +16,8 @@ use file_write::{strip_seeded, write_seeded};
 use listing_lines::Form;
 use listing_parse::parse_seeded;
 use listing_print::{put_class, put_opening};
-use program_types::Program;
-use std::alloc::Global;
+use program_types::{Class, Program};
+use std::alloc::{AllocError, Global};
 
 /// The whole answer to a job on these bytes, or the fault of the call that refused them.
 ///
@@ -100,12 +102,19 @@ fn list(alloc: Global, given: &[u8]) -> Result<Vec<u8>, Fault>
     let mut text = Vec::new(alloc);
     put_opening(&mut text, Form::Two)?;
     while let Some(class) = reader.next_class(alloc, &codes)? {
-        put_class(alloc, &mut text, Form::Two, &class)?;
+        put_listed(alloc, &mut text, &class)?;
         if codes.reset().is_err() {
             return Err(Fault::MEMORY);
         }
     }
     Ok(text)
+}
+
+/// A class of the listing.
+fn put_listed(alloc: Global, text: &mut Vec<u8>, one: &Class<'_>) -> Result<(), AllocError>
+    ensures ok { OnOk result (text.new.items ≡ text.old.items ++ class_text Two (class one.now)) }
+{
+    put_class(alloc, text, Form::Two, one)
 }
 
 /// The file of the listed program, with each code aligned if that is asked.

@@ -14,6 +14,6 @@ loop-text-preserved c =
       printed = (
         before.0 ++ class c.in-Some.class ∷ [],
         (rw c.in-Some.is at c.in_ok-class.ensures.next) before.0 before.1,
-        c.in_ok-put_class.ensures.ok ∙ ap (λ (t : List ℕ). t ++ class_text Two (class c.in-Some.class)) before.2 ∙ flat_map_more (class_text Two) (first_text Two) before.0 (class c.in-Some.class),
+        c.in_ok-put_listed.ensures.ok ∙ ap (λ (t : List ℕ). t ++ class_text Two (class c.in-Some.class)) before.2 ∙ flat_map_more (class_text Two) (first_text Two) before.0 (class c.in-Some.class),
       );
     }
