@@ -1,13 +1,16 @@
-//! One call on a whole file or program: `calls NAME`, on the file on standard input, where NAME is `read`, `write`, `strip`,
-//! `align_all`, `print` or `run`, prints a sum of what it gave. tools/try memory refuses its requests for memory.
+//! One call on a whole file or program: `calls NAME`, on standard input, where NAME is `read`, `write`, `strip`, `align_all`, `print`, or
+//! the job of a `run` (`run-check`, `run-list`, `run-assemble`, `run-strip`), prints a sum of its result. tools/try memory refuses its
+//! requests for memory.
 
 use crate::listing::size_of;
 use crate::words::word;
 use bumpalo::Bump;
 use dex_base::{Fault, adler32};
-use dex_file::{align_all, read, strip, write};
 use dexasm_job::Job;
 use dexasm_run::{RunFault, Watched, run as run_job};
+use file_align::align_all;
+use file_read::read;
+use file_write::{strip, write};
 use listing_print::print;
 use std::alloc::Global;
 use std::io;
@@ -23,7 +26,10 @@ fn called(alloc: Global, name: &str, bytes: &[u8]) -> Result<u64, Fault> {
         "strip" => Ok(sum_of(&strip(alloc, bytes)?)),
         "align_all" => program_aligned(alloc, bytes),
         "print" => program_printed(alloc, bytes),
-        _ => job_run(alloc, bytes),
+        "run-check" => job_run(alloc, Job::Check, bytes),
+        "run-assemble" => job_run(alloc, Job::Assemble { align: false }, bytes),
+        "run-strip" => job_run(alloc, Job::Strip, bytes),
+        _ => job_run(alloc, Job::List, bytes),
     }
 }
 
@@ -55,16 +61,20 @@ fn program_printed(alloc: Global, bytes: &[u8]) -> Result<u64, Fault> {
     Ok(sum_of(&print(alloc, &program)?))
 }
 
-/// A run into a writer that has room, so that nothing but the run asks for memory.
-fn job_run(alloc: Global, bytes: &[u8]) -> Result<u64, Fault> {
+/// What a run writes into a writer that has room, so that nothing but the run asks for memory.
+pub fn output_of(alloc: Global, job: Job, bytes: &[u8]) -> Result<Vec<u8>, Fault> {
     let mut output = Watched::new(Vec::with_capacity(alloc, ROOM)?);
-    match run_job(alloc, Job::List, &mut Watched::new(bytes), &mut output) {
-        Ok(()) => Ok(sum_of(&output.into_inner())),
+    match run_job(alloc, job, &mut Watched::new(bytes), &mut output) {
+        Ok(()) => Ok(output.into_inner()),
         Err(RunFault::Refused(fault)) => Err(fault),
         Err(RunFault::Memory) => Err(Fault::MEMORY),
         // Neither a slice nor a vector with room fails.
-        Err(RunFault::Input | RunFault::Output) => Ok(0),
+        Err(RunFault::Input | RunFault::Output) => Ok(Vec::new(alloc)),
     }
+}
+
+fn job_run(alloc: Global, job: Job, bytes: &[u8]) -> Result<u64, Fault> {
+    Ok(sum_of(&output_of(alloc, job, bytes)?))
 }
 
 /// What the words ask for.

@@ -1,7 +1,7 @@
 //! The work that `bench/*/run` time beside plain Rust: `bench NAME WORD ..`, where NAME is `codecs`, `insns`, `needed`,
-//! `tables`, `code` or `listing`, and the words are those of the file of that name; and `bench puts` and `bench calls`, whose requests for
-//! memory tools/try memory refuses. `bench all` does each but the last once, on little; `tables`, `code` and `calls` read the file on
-//! standard input.
+//! `tables`, `code` or `listing`, and the words are those of the file of that name; `bench puts` and `bench calls`, whose requests for
+//! memory tools/try memory refuses; and `bench example`, which runs crates/example. `bench all` does each but `calls` once, on little;
+//! `tables`, `code`, `calls` and `example` read the file on standard input.
 //!
 //! docs/MAP.md says where this crate stands among the others.
 #![tactic(auto)]
@@ -9,6 +9,7 @@
 mod calls;
 mod code;
 mod codecs;
+mod examples;
 mod insns;
 mod listing;
 mod needed;
@@ -31,7 +32,7 @@ fn main(rt: HostRuntime) -> io::Result<()> {
         None => "",
     };
     let mut bytes = Vec::new(rt.alloc());
-    if matches!(name, "all" | "tables" | "code" | "calls") {
+    if matches!(name, "all" | "tables" | "code" | "calls" | "example") {
         rt.stdin().read_to_end(&mut bytes)?;
     }
     run(&rt, name, &words, &bytes)
@@ -53,8 +54,11 @@ fn run(
         "tables" => tables::run(rt, words, bytes),
         "code" => code::run(rt, words, bytes),
         "listing" => listing::run(rt, words),
+        "example" => examples::run(rt, bytes),
         "all" => run_all(rt, bytes),
-        _ => println!(rt; "bench codecs|insns|needed|puts|calls|tables|code|listing|all WORD .."),
+        _ => println!(rt;
+            "bench codecs|insns|needed|puts|calls|tables|code|listing|example|all WORD .."
+        ),
     }
 }
 
@@ -66,5 +70,6 @@ fn run_all(rt: &(impl Print + Alloc<A = Global>), bytes: &[u8]) -> io::Result<()
     puts::run(rt)?;
     tables::run(rt, &["1"], bytes)?;
     code::run(rt, &["1"], bytes)?;
-    listing::run(rt, &["all", "1"])
+    listing::run(rt, &["all", "1"])?;
+    examples::run_assembled(rt)
 }

@@ -1,11 +1,30 @@
-//! A program with one thing changed: what isn't copied here is shared with the program that it was.
+//! A program with one constant changed. What isn't copied here is shared with the original program.
 use bumpalo::Bump;
 use bumpalo::collections::into_bump_slice;
 use dex_base::Fault;
 use dex_program::{Class, Code, Insn, Method, Program};
+use std::alloc::Global;
 
-/// The program with the constant 41 made 42 wherever an instruction of 16 bits loads it.
-pub(crate) fn patch<'a>(arena: &'a Bump, program: &Program<'a>) -> Result<Program<'a>, Fault> {
+/// Reads a .dex file and writes it with the constant 42 wherever an instruction loads 41 as a literal of 16 bits.
+///
+/// ```
+/// use example::patched;
+///
+/// assert!(rt; patched(alloc, b"no file").is_err()); // as `dex_file::read`
+/// ```
+pub fn patched(alloc: Global, file: &[u8]) -> Result<Vec<u8>, Fault> {
+    let arena = Bump::new(alloc);
+    let program = dex_file::read(alloc, &arena, file)?;
+    write(alloc, &patch(&arena, &program)?)
+}
+
+/// A program built by hand must be well formed before it is written. A program read from a file always is.
+fn write(alloc: Global, program: &Program<'_>) -> Result<Vec<u8>, Fault> {
+    dex_program::well_formed_in(alloc, program)?;
+    dex_file::write(alloc, program)
+}
+
+fn patch<'a>(arena: &'a Bump, program: &Program<'a>) -> Result<Program<'a>, Fault> {
     let mut classes = Vec::new(arena);
     for class in program.classes {
         classes.push(Class {

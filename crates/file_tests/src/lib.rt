@@ -1,4 +1,4 @@
-//! Tests of files: their frame, their tables, their values, whole files.
+//! Tests of files: their frame, their tables, their values, their code, whole files.
 //!
 //! docs/MAP.md says where this crate stands among the others.
 #![tactic(auto)]
@@ -38,6 +38,14 @@ mod values;
 mod values_put;
 #[cfg(test)]
 mod values_read;
+
+// code_read, code_put and code_align
+#[cfg(test)]
+mod codes_as_numbers;
+#[cfg(test)]
+mod codes_put;
+#[cfg(test)]
+mod codes_read;
 
 // file_read
 #[cfg(test)]

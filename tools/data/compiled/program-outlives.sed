@@ -1,4 +1,4 @@
-# crates/dex_samples/src/arena.rt borrow-e0505 base_tests
+# crates/dex_samples/src/arena.rt borrow-e0505 program_tests
 $a\
 \
 /// How many classes a program has that lies in an arena of its own, counted when the arena has ended.\

@@ -22,7 +22,7 @@ MOST_PATHS = 67000
 # The crates that hand on what stands in the crates that they are made of.
 FRONTS = {"dex_program", "dex_tables", "dex_code", "dex_file", "dex_listing", "dexasm_command"}
 # What only these call is called by nothing.
-APART = re.compile(r"crates/(?:\w+_(?:tests|samples)|bench|example|example_proved)/")
+APART = re.compile(r"crates/(?:\w+_(?:tests|samples)|bench|example)/")
 # The crate that has what is promised.
 SURFACE = "crates/surface_tests/"
 # What is for those who use the library: to compare names, to put them into an arena, and to ask a program's rules by hash.

@@ -1,6 +1,6 @@
 //! Code items that are read from files: their instructions, their tries, and their faults.
 
-use crate::told::{insns_told, tries_told};
+use crate::codes_as_numbers::{insns_told, tries_told};
 use bumpalo::Bump;
 use code_read::read_code;
 use dex_base::{Fault, fault, push_words};

@@ -1,8 +1,4 @@
-//! A program over `dex_file` with a theorem of its own: what `rewritten` answers means what its input means, and nothing else.
-//!
-//! docs/MAP.md says where this crate stands among the others.
-#![tactic(auto)]
-
+//! A function over `dex_file` with a theorem of its own: its result means the program that its input means, and no other.
 ghost use Rattle.std.specs.Prelude.{◌≡◌, ℕ, List, IfOk};
 ghost use Rattle.dex_file.specs.Content.{Program};
 ghost use Rattle.dex_file.specs.Means.{Means};
@@ -11,10 +7,10 @@ use bumpalo::Bump;
 use dex_file::{Fault, read, write, written_is_read};
 use std::alloc::Global;
 
-/// The file of the program that these bytes mean, written anew.
+/// Reads a .dex file and writes its program again.
 ///
 /// ```
-/// use example_proved::rewritten;
+/// use example::rewritten;
 ///
 /// assert!(rt; rewritten(alloc, b"no file").is_err()); // refused as `read` and `write` refuse
 /// ```

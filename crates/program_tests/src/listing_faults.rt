@@ -1,6 +1,6 @@
 //! The fault of a text, and its place: its line, or the class where a rule of programs is broken.
 
-use crate::faults::Within::{Arrays, Code, InPlaceOf, Labels, Members, Text};
+use crate::listing_faults::Within::{Arrays, Code, InPlaceOf, Labels, Members, Text};
 use bumpalo::Bump;
 use dex_base::{Fault, fault};
 use dex_samples::{Case, all_hold};

@@ -6,13 +6,13 @@ ghost use Rattle.code_put.specs.Fits.{wide_code};
 ghost use Rattle.program_types.specs.Mentions.{names_of_insn, names_of_try};
 ghost use Rattle.program_types.specs.View as view;
 
-use crate::told::insns_told;
+use crate::codes_as_numbers::insns_told;
 use bumpalo::Bump;
 use code_align::align;
 use code_put::addresses;
 use dex_base::{Fault, fault};
 use dex_samples::{Case, all_hold};
-use program_types::{Code, Insn};
+use program_types::{Code, Insn, Try};
 use put_samples::{LOOP, is_formed, no_ranks, put_nameless};
 use std::alloc::Global;
 use std::test::Fail;
@@ -21,6 +21,26 @@ use std::test::Fail;
 static ITEM: [u8; 39] = [
     1, 0, 0, 0, 0, 0, 1, 0, 0, 0, 0, 0, 5, 0, 0, 0, 0x12, 0, 0x38, 0, 3, 0, 0x28, 0xfe, 0x0e, 0, 0,
     0, 1, 0, 0, 0, 3, 0, 1, 0, 1, 0, 4,
+];
+
+/// const-wide, return-void, and a try of the first, which has five units.
+static COUNTED: Code<'static> = Code {
+    registers: 2,
+    ins: 0,
+    outs: 0,
+    insns: &[WIDE, Insn::I10x { op: 0x0e }],
+    tries: &[Try {
+        from: 0,
+        to: 1,
+        catches: &[],
+        catch_all: Some(1),
+    }],
+};
+
+/// Its code item: six units, then the try of start 0 and count 5, then its handler at address 5.
+static COUNTED_ITEM: [u8; 39] = [
+    2, 0, 0, 0, 0, 0, 1, 0, 0, 0, 0, 0, 6, 0, 0, 0, 0x18, 0, 0, 0, 0, 0, 0, 0, 0, 0, 0x0e, 0, 0, 0,
+    0, 0, 5, 0, 1, 0, 1, 0, 5,
 ];
 
 /// A switch of three units, and its payload right after it.
@@ -90,6 +110,12 @@ fn is_put_so(alloc: Global) -> Result<bool, Fault> {
     Ok(item.as_slice() == ITEM.as_slice())
 }
 
+#[tactic(auto, unfolding(program_types::specs::Sizes::insn_units, program_types::specs::Sizes::total))]
+fn is_counted_so(alloc: Global) -> Result<bool, Fault> {
+    let item = item_of(alloc, &COUNTED)?;
+    Ok(item.as_slice() == COUNTED_ITEM.as_slice())
+}
+
 /// Whether a code is refused with this fault, at instruction 0.
 fn is_refused_so(put: Result<Vec<u8>, Fault>, want: u16) -> bool {
     match put {
@@ -126,6 +152,7 @@ fn is_aligned_in(alloc: Global, arena: &Bump) -> Result<bool, Fault> {
 enum Asked {
     Addresses,
     Item,
+    Counted,
     Odd,
     Far,
     Aligned,
@@ -136,6 +163,7 @@ impl Case for Asked {
         match self {
             Asked::Addresses => "the addresses of a loop",
             Asked::Item => "the item of a loop",
+            Asked::Counted => "the item of a try of one wide instruction",
             Asked::Odd => "a payload at an odd address",
             Asked::Far => "a goto over 130 units",
             Asked::Aligned => "a payload at an odd address, aligned",
@@ -146,6 +174,7 @@ impl Case for Asked {
         match self {
             Asked::Addresses => begins_at(alloc, &LOOP, &[0, 1, 3, 4, 5]),
             Asked::Item => is_put_so(alloc),
+            Asked::Counted => is_counted_so(alloc),
             Asked::Odd => Ok(is_odd_one_refused(alloc)),
             Asked::Far => Ok(is_far_one_refused(alloc)),
             Asked::Aligned => is_aligned_so(alloc),
@@ -155,9 +184,10 @@ impl Case for Asked {
 
 #[test]
 fn codes_by_hand_are_put_and_aligned(rt: HostRuntime) -> Result<(), Fail> {
-    static CASES: [Asked; 5] = [
+    static CASES: [Asked; 6] = [
         Asked::Addresses,
         Asked::Item,
+        Asked::Counted,
         Asked::Odd,
         Asked::Far,
         Asked::Aligned,

@@ -1,0 +1,13 @@
+//! Three functions over the library, to copy from: `show` lists the classes of a program with the instruction count of each method, `patch`
+//! returns a program with one constant changed, and `rewritten` has a theorem of its own. `bench example` runs them.
+//!
+//! docs/MAP.md says where this crate stands among the others.
+#![tactic(auto)]
+
+mod patch;
+mod rewritten;
+mod show;
+
+pub use patch::patched;
+pub use rewritten::rewritten;
+pub use show::shown;
