@@ -8,8 +8,8 @@ use Rattle.std.proofs.lemmas.Option.{slice_get_within, get_or_from_slice_get}
 use Rattle.program_types.specs.Key.{Key, key_cmp, units_cmp}
 use Rattle.program_types.specs.KeyLaws.{ordering_then-equal}
 use Rattle.program_types.specs.inner.KeyLaws.{key_cmp-total, key_cmp-same}
-use Rattle.tables_names.specs.Rank.{Rising, rank_of, is_member, add_all}
-use Rattle.tables_names.specs.inner.Rank.{IndexIsAtLeastRank, KeysCompareAsIndices, SetsAreTheirMembers}
+use Rattle.tables_names.specs.Rank.{IndexIsAtLeastRank, Rising, add_all, is_member, rank_of}
+use Rattle.tables_names.specs.inner.Rank.{KeysCompareAsIndices, SetsAreTheirMembers}
 use Rattle.tables_names.specs.Rows.{first_of}
 use Rattle.tables_names.specs.inner.Rows.{text_at, AreTexts, field_of_row, method_of_row, row_cmp, TypesRise, ProtosRise, FieldsRise, MethodsRise}
 use Rattle.tables_names.proofs.RisingLemmas.{rank-at, count-subset, places_cmp, rows_rise, same_rising}

@@ -1,7 +1,7 @@
 -- Sets of names as strictly rising lists of their keys, and the rank of a name in one: its index in the table that has just
 -- these names.
 -- Page: "Dalvik Executable format", "File layout": each table of names is sorted and has no duplicates.
-use Rattle.std.specs.Prelude.{◌≡◌, ℕ, List, Bool, true, Some, count_by, fold, slice_get, Option, SomeIff, IsTrue, ◌<◌, ◌^◌}
+use Rattle.std.specs.Prelude.{◌≡◌, ℕ, List, Bool, true, Some, count_by, fold, slice_get, Option, SomeIff, IsTrue, ◌<◌, ◌≤◌, ◌^◌}
 use Rattle.std.specs.Ordering.{is_lt, eq_by_cmp}
 use Rattle.std.specs.List.{list_any}
 use Rattle.std.specs.List.Sorted.{IsStrictlySortedBy}
@@ -39,3 +39,8 @@ IsAt ks i k = slice_get ks i ≡ Some k
 -- what a look-up of k answers: the rank, where k is held and the rank has 32 bits
 abbrev pub LookUpAnswers : List Key → Key → Option ℕ → Type 0
 LookUpAnswers ks k r = SomeIff r (IsTrue (is_member ks k) × (rank_of ks k < 2 ^ 32)) (rank_of ks k)
+
+-- in a table that has each name of a set, the index of a name is at least its rank in the set
+abbrev pub IndexIsAtLeastRank : Type 0
+IndexIsAtLeastRank =
+    (set table : List Key) (i : ℕ) (k : Key) → Rising set → Rising table → IsSubset set table → IsAt table i k → rank_of set k ≤ i

@@ -1,5 +1,6 @@
 //! Laws over the definitions, for the proofs of crates above.
-ghost use Rattle.tables_names.specs.inner.Rank.{IndexIsAtLeastRank, KeysCompareAsIndices, SetsAreTheirMembers};
+ghost use Rattle.tables_names.specs.Rank.{IndexIsAtLeastRank};
+ghost use Rattle.tables_names.specs.inner.Rank.{KeysCompareAsIndices, SetsAreTheirMembers};
 ghost use Rattle.tables_names.specs.inner.Needed.{NeededIsLeast, LeastIsNeeded};
 ghost use Rattle.tables_names.specs.inner.Indices.{ClosedHaveRows, RisingTablesRise, LookUpsAnswer, MentionsHaveIndices};
 ghost use Rattle.tables_names.specs.inner.Rows.{TypesRise, ProtosRise, FieldsRise, MethodsRise};

@@ -1,15 +1,9 @@
 -- Beside Rank.antt: what no promise reaches.
-use Rattle.std.specs.Prelude.{◌≡◌, ℕ, ◌≤◌, List, []}
+use Rattle.std.specs.Prelude.{◌≡◌, ℕ, List, []}
 use Rattle.std.specs.declared.cmp.Ordering.{Ordering}
 use Rattle.std.specs.Ordering.{nat_cmp, ordering_then}
-use Rattle.std.specs.BTreeSet as set
 use Rattle.program_types.specs.Key.{Key, key_cmp}
-use Rattle.tables_names.specs.Rank.{IsAt, IsSubset, Rising, add_all, rank_of}
-
--- in a rising list that holds a set, the place of a key is at least its rank in the set
-abbrev pub IndexIsAtLeastRank : Type 0
-IndexIsAtLeastRank =
-    (set table : List Key) (i : ℕ) (k : Key) → Rising set → Rising table → IsSubset set table → IsAt table i k → rank_of set k ≤ i
+use Rattle.tables_names.specs.Rank.{IsAt, IsSubset, Rising, add_all}
 
 -- in a rising list keys compare as their places do
 abbrev pub KeysCompareAsIndices : Type 0
