@@ -13,7 +13,7 @@ import subprocess
 
 from .. import TOP, tried
 from ..base import LIMIT, TestCase, compiler, get
-from ..samples import BRANCHES, NUMBERED, ODD
+from ..samples import BRANCHES, NUMBERED, ODD, ONE_CLASS
 
 LINE = b"dexasm: out of memory\n"
 MOST = 50  # failures, after which a call isn't tried further
@@ -149,11 +149,13 @@ class Calls(MemoryTest):
         self.sweep(["needed", "method", "20", "random"])
 
     def test_whole(self) -> None:
-        """Whole files and programs; `run` into a writer that has room."""
-        (status, file, _, said), _ = self.ran(["assemble"], BRANCHES.encode(), None)
-        self.assertEqual(status, 0, said)
-        for name in ("read", "write", "strip", "align_all", "print", "run"):
-            self.sweep(["calls", name], file)
+        """Whole files and programs; the jobs of `run` into a writer that has room."""
+        for listing in (BRANCHES, ONE_CLASS):
+            (status, file, _, said), _ = self.ran(["assemble"], listing.encode(), None)
+            self.assertEqual(status, 0, said)
+            for name in ("read", "write", "strip", "align_all", "print", "run-check", "run-list", "run-strip"):
+                self.sweep(["calls", name], file)
+            self.sweep(["calls", "run-assemble"], listing.encode())
 
     def test_puts(self) -> None:
         """The calls that append: that call alone which was refused says so, and that its Vec is as it was."""

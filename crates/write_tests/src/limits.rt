@@ -127,7 +127,7 @@ fn branches_reach_as_far_as_their_formats_and_payloads_are_aligned(rt: HostRunti
 #[rattlefmt::skip]
 #[test]
 fn the_greatest_offsets_and_counts_are_written(rt: HostRuntime) -> Result<(), Fail> {
-    static CASES: [Limited; 4] = [
+    static CASES: [Limited; 5] = [
         // The units stand 16 bytes after the item; the count of the one try 4 bytes after the units, two more
         // where they are odd.
         Limited("127 ahead", Given::Body(Body::Over(126)), Answer::Has(16, &[0x28, 0x7f])),
@@ -137,6 +137,7 @@ fn the_greatest_offsets_and_counts_are_written(rt: HostRuntime) -> Result<(), Fa
             "a try of 65539 units, the last of them a const-wide", Given::Body(Body::Wide(65534)),
             Answer::Has(131100, &[0xff, 0xff]),
         ),
+        Limited("a try of a const-wide, of 5 units", Given::Body(Body::Wide(0)), Answer::Has(32, &[5, 0])),
     ];
     all_hold(rt.alloc(), &CASES)
 }
