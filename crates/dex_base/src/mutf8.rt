@@ -20,37 +20,22 @@ fn unit_at(bytes: &[u8]) -> Option<(u16, usize)>
     ensures found { IfSome result (λ f. HasUnit bytes.now f.0 f.1) }
     ensures none { IfNone result ((u len : ℕ) → HasUnit bytes.now u len → ⊥) }
 {
-    if bytes.is_empty() {
-        return None;
+    match *bytes {
+        [a @ 1..=0x7f, ..] => Some((a as u16, 1)),
+        [a @ 0xc0..=0xdf, b @ 0x80..=0xbf, ..] => {
+            let unit = (a as u16 - 0xc0) * 64 + (b as u16 - 0x80);
+            if unit != 0 && unit < 0x80 {
+                None
+            } else {
+                Some((unit, 2))
+            }
+        }
+        [a @ 0xe0..=0xef, b @ 0x80..=0xbf, c @ 0x80..=0xbf, ..] => {
+            let unit = (a as u16 - 0xe0) * 4096 + (b as u16 - 0x80) * 64 + (c as u16 - 0x80);
+            if unit < 0x800 { None } else { Some((unit, 3)) }
+        }
+        _ => None,
     }
-    let a = bytes[0] as u16;
-    if a < 128 {
-        return if a == 0 { None } else { Some((a, 1)) };
-    }
-    if bytes.len() < 2 {
-        return None;
-    }
-    let b = bytes[1] as u16;
-    if b < 128 || b >= 192 {
-        return None;
-    }
-    if 192 <= a && a < 224 {
-        let unit = (a - 192) * 64 + (b - 128);
-        return if unit != 0 && unit < 128 {
-            None
-        } else {
-            Some((unit, 2))
-        };
-    }
-    if a < 224 || a >= 240 || bytes.len() < 3 {
-        return None;
-    }
-    let c = bytes[2] as u16;
-    if c < 128 || c >= 192 {
-        return None;
-    }
-    let unit = (a - 224) * 4096 + (b - 128) * 64 + (c - 128);
-    if unit < 2048 { None } else { Some((unit, 3)) }
 }
 
 /// The unit at the front, and how many bytes it takes.

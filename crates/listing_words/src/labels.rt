@@ -34,13 +34,8 @@ fn all_digits(radix: u64, word: &[u8]) -> bool
 pub fn is_natural(word: &[u8]) -> bool
     ensures { result ≡ said.is_natural word.now }
 {
-    if word.len() >= 2 {
-        if word[0] == b'0' {
-            if word[1] == b'x' {
-                let (_, digits) = word.split_at(2);
-                return all_digits(16, digits);
-            }
-        }
+    match word {
+        [b'0', b'x', digits @ ..] => all_digits(16, digits),
+        _ => all_digits(10, word),
     }
-    all_digits(10, word)
 }

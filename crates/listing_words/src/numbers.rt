@@ -48,13 +48,8 @@ pub fn read_natural(word: &[u8], most: u64) -> Option<u64>
     ensures found { IfSome result (λ n. SpellsNatural word.now n × (n ≤ most)) }
     ensures none { IfNone result ((n : ℕ) → SpellsNatural word.now n → n ≤ most → ⊥) }
 {
-    if word.len() >= 2 {
-        if word[0] == b'0' {
-            if word[1] == b'x' {
-                let (_, digits) = word.split_at(2);
-                return read_digits(16, digits, most);
-            }
-        }
+    match word {
+        [b'0', b'x', digits @ ..] => read_digits(16, digits, most),
+        _ => read_digits(10, word, most),
     }
-    read_digits(10, word, most)
 }

@@ -31,17 +31,10 @@ pub(crate) fn hex_unit(text: &[u8]) -> Option<u16>
     ensures some { IfSome result (HasHex text.now) }
     ensures none { IfNone result ((u : ℕ) → HasHex text.now u → ⊥) }
 {
-    if text.len() < 6 {
+    let [_, b'u', a, b, c, d, ..] = *text else {
         return None;
-    }
-    if text[1] != b'u' {
-        return None;
-    }
-    let a = hex(text[2])?;
-    let b = hex(text[3])?;
-    let c = hex(text[4])?;
-    let d = hex(text[5])?;
-    Some(a * 4096 + b * 256 + c * 16 + d)
+    };
+    Some(hex(a)? * 4096 + hex(b)? * 256 + hex(c)? * 16 + hex(d)?)
 }
 
 /// The unit at the front, and how many bytes it takes.
@@ -49,34 +42,14 @@ fn unit_at(text: &[u8]) -> Option<(u16, usize)>
     ensures found { IfSome result (λ f. HasQuotedUnit text.now f.0 f.1) }
     ensures none { IfNone result ((u len : ℕ) → HasQuotedUnit text.now u len → ⊥) }
 {
-    if text.len() == 0 {
-        return None;
+    match *text {
+        [b'\\', b'"', ..] => Some((QUOTE, 2)),
+        [b'\\', b'\\', ..] => Some((BACKSLASH, 2)),
+        [b'\\', b'u', ..] => Some((hex_unit(text)?, 6)),
+        [b'\\' | b'"', ..] => None,
+        [unit @ b' '..=b'~', ..] => Some((unit as u16, 1)),
+        _ => None,
     }
-    if text[0] != b'\\' {
-        if text[0] < b' ' {
-            return None;
-        }
-        if text[0] > b'~' {
-            return None;
-        }
-        if text[0] == b'"' {
-            return None;
-        }
-        return Some((text[0] as u16, 1));
-    }
-    if text.len() < 2 {
-        return None;
-    }
-    if text[1] != b'u' {
-        if text[1] == b'"' {
-            return Some((QUOTE, 2));
-        }
-        if text[1] == b'\\' {
-            return Some((BACKSLASH, 2));
-        }
-        return None;
-    }
-    Some((hex_unit(text)?, 6))
 }
 
 /// The unit at the front, and what follows it.
