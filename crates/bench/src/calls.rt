@@ -5,10 +5,10 @@
 use crate::listing::size_of;
 use crate::words::word;
 use bumpalo::Bump;
+use code_align::align_all;
 use dex_base::{Fault, adler32};
 use dexasm_job::Job;
 use dexasm_run::{RunFault, Watched, run as run_job};
-use file_align::align_all;
 use file_read::read;
 use file_write::{strip, write};
 use listing_print::print;

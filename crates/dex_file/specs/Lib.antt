@@ -63,7 +63,7 @@ pub use Rattle.code_put.specs.Fits
 pub use Rattle.code_put.specs.Packs
 pub use Rattle.code_align.specs.Aligned
 pub use Rattle.code_align.specs.Aligning
-pub use Rattle.file_align.specs.Programs
+pub use Rattle.code_align.specs.Programs
 pub use Rattle.file_classes.specs.ClassData
 pub use Rattle.file_classes.specs.ClassFaults
 pub use Rattle.file_classes.specs.ClassRows

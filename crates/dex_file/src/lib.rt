@@ -9,7 +9,7 @@
 //! ```
 //!
 //! Its rooms: `file_classes` and `file_read` (read), `file_needed`, `file_layout`, `file_limits` and `file_assemble` (written),
-//! `file_renumber` and `file_strip` (stripped), `file_write` (both, with their theorems), `file_align`.
+//! `file_renumber` and `file_strip` (stripped), `file_write` (both, with their theorems), `code_align`.
 //!
 //! Its theorems are laws, functions without code that a proof calls: `written_is_read`, `one_file`, `one_program`. The definitions that
 //! all of this rests on are handed on too, so `ghost use Rattle.dex_file.specs.Means.{Means}` needs no other crate.
@@ -17,8 +17,8 @@
 //! docs/MAP.md says where this crate stands among the others.
 #![tactic(auto)]
 
+pub use code_align::align_all;
 pub use dex_base::Fault;
-pub use file_align::align_all;
 pub use file_read::{check, one_program, read};
 pub use file_write::{
     one_file, strip, strip_seeded, stripped_alike_exactly_if_meaning_alike, stripped_stays, write,

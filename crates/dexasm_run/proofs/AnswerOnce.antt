@@ -3,7 +3,7 @@ use Rattle.std.proofs.Common.{◌≡◌, ℕ, List, Bool, true, false, sym, ap, 
 use Rattle.dexasm_job.specs.declared.job.Job.{Job}
 use Rattle.dexasm_job.specs.declared.job.Job.TheVariants.{Check, List as Listing, Assemble, Strip}
 use Rattle.dexasm_run.specs.Answers.{Answer, IsAssembled, Lists}
-use Rattle.file_align.specs.Programs.{AlignedProgram}
+use Rattle.code_align.specs.Programs.{AlignedProgram}
 use Rattle.file_read.proofs.RangeLaws.{well_formed}
 use Rattle.file_read.proofs.PassLaws.{program_one}
 use Rattle.file_write.proofs.OneFile.{file_one, stripped_same}
@@ -16,7 +16,7 @@ use Rattle.program_rules.specs.WellFormed.{WellFormed}
 use Rattle.program_types.specs.Content.{Program}
 use Rattle.listing_laws.proofs.ClassRuns.{printed_again}
 use Rattle.listing_lines.specs.declared.form.Form.TheVariants.{Two}
-use Rattle.file_align.proofs.OneAligned.{program_aligned_one}
+use Rattle.code_align.proofs.OneAligned.{program_aligned_one}
 
 -- a program has one file, and one aligned
 written_once : (align : Bool) (p q : Program) (a b : List ℕ) → p ≡ q → IsAssembled align p a → IsAssembled align q b → a ≡ b

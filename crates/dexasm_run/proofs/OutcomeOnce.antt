@@ -6,8 +6,8 @@ use Rattle.dexasm_job.specs.declared.job.Job.TheVariants.{Check, List as Listing
 use Rattle.dexasm_run.specs.Answers.{Answer, IsAligned, IsAssembled, IsUnassembled, Outcome, Refusal}
 use Rattle.dexasm_run.proofs.AnswerOnce.{answer_once, listed_one}
 use Rattle.dexasm_run.proofs.ListedLaws.{is_read}
-use Rattle.file_align.specs.Programs.{AlignedProgram}
-use Rattle.file_align.proofs.OneAligned.{program_aligned_one, too_long_unformed}
+use Rattle.code_align.specs.Programs.{AlignedProgram}
+use Rattle.code_align.proofs.OneAligned.{program_aligned_one, too_long_unformed}
 use Rattle.file_limits.specs.Limits.{Fits, IsLowestLimit}
 use Rattle.file_limits.proofs.LimitLaws.{fits_breaks_none}
 use Rattle.file_limits.proofs.OneLimit.{limit_one}

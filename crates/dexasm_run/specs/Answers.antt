@@ -1,7 +1,7 @@
 -- What a job answers to the bytes that it is given, and when it refuses them.
 -- Page: docs/PROVED.md; "Dalvik Executable format" for files, docs/LISTING.md for listings.
 use Rattle.std.specs.Prelude.{◌≡◌, ℕ, Bool, true, false, ◌⊎◌, List, codes, Result, Ok, Err}
-use Rattle.file_align.specs.Programs.{AlignedProgram, IsTooLong}
+use Rattle.code_align.specs.Programs.{AlignedProgram, IsTooLong}
 use Rattle.dex_base.specs.declared.fault.Fault.{Fault}
 use Rattle.file_read.specs.Means.{Means}
 use Rattle.file_read.specs.Refused.{IsRefused}

@@ -8,9 +8,9 @@ ghost use Rattle.listing_print.specs.Canon.{class_text};
 ghost use Rattle.dexasm_run.specs.Answers.{Answer, Refusal, IsAssembled, IsUnassembled};
 
 use bumpalo::Bump;
+use code_align::align_all;
 use dex_base::{Fault, Seed};
 use dexasm_job::Job;
-use file_align::align_all;
 use file_read::{ClassReader, check};
 use file_write::{strip_seeded, write_seeded};
 use listing_lines::Form;

@@ -1,8 +1,8 @@
 //! Programs that keep the rules, written.
 
 use bumpalo::Bump;
+use code_align::align_all;
 use dex_base::Fault;
-use file_align::align_all;
 use file_write::write;
 use program_rules::well_formed;
 use program_types::Program;

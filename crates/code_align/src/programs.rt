@@ -3,7 +3,7 @@
 ghost use Rattle.std.specs.Prelude.{◌≡◌, ◌≢◌, map, option_map, IfOk, IfErr, IfSome};
 ghost use Rattle.std.specs.List.{AllByRecursion};
 ghost use Rattle.dex_base.specs.Fault.{memory};
-ghost use Rattle.file_align.specs.Programs.{Pairwise, AlignedBody, AlignedMethod, AlignedClass, AlignedProgram, IsShort, IsTooLong};
+ghost use Rattle.code_align.specs.Programs.{Pairwise, AlignedBody, AlignedMethod, AlignedClass, AlignedProgram, IsShort, IsTooLong};
 ghost use Rattle.code_align.specs.Aligning.{too_many};
 ghost use Rattle.program_types.specs.Content as content;
 ghost use Rattle.program_types.specs.Formed.{IsFormed};
@@ -11,9 +11,9 @@ ghost use Rattle.program_types.specs.View as view;
 ghost use Rattle.program_rules.specs.WellFormed.{WellFormed};
 ghost use Rattle.program_rules.specs.Rules.{CodesHold};
 
+use crate::align;
 use bumpalo::Bump;
 use bumpalo::collections::into_bump_slice;
-use code_align::align;
 use dex_base::Fault;
 use program_types::{Class, Code, Method, Program};
 use std::alloc::Global;

@@ -2,9 +2,9 @@
 use Rattle.std.proofs.Common.{◌≡◌, ℕ, zero, suc, ◌<◌, ◌≤◌, List, [], ◌∷◌, map, length, refl, sym, subst, Option, None, Some}
 use Rattle.std.specs.Prelude.{IfSome}
 use Rattle.std.specs.List.{AllByRecursion, slice_get}
-use Rattle.file_align.specs.Programs.{Pairwise, AlignedMethod, AlignedClass, AlignedProgram}
-use Rattle.file_align.proofs.NameLaws.{class_names}
-use Rattle.file_align.proofs.PairLaws.{paired_maps, paired_all, partner_of}
+use Rattle.code_align.specs.Programs.{Pairwise, AlignedMethod, AlignedClass, AlignedProgram}
+use Rattle.code_align.proofs.NameLaws.{class_names}
+use Rattle.code_align.proofs.PairLaws.{paired_maps, paired_all, partner_of}
 use Rattle.dex_base.specs.Descriptor.{IsClass}
 use Rattle.program_code_rules.proofs.OperandLaws.{formed_operands}
 use Rattle.program_code_rules.specs.CodeRules.{OperandsHold, TargetsHold, PayloadsHold, TriesHold}

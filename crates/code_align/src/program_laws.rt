@@ -1,7 +1,7 @@
 //! Laws of the definitions, each the contract of a function that does nothing else.
 ghost use Rattle.std.specs.Prelude.{◌≡◌};
 ghost use Rattle.dex_base.specs.declared.fault.Fault.{Fault};
-ghost use Rattle.file_align.specs.Programs.{AlignedProgram, IsTooLong};
+ghost use Rattle.code_align.specs.Programs.{AlignedProgram, IsTooLong};
 ghost use Rattle.program_rules.specs.WellFormed.{WellFormed};
 ghost use Rattle.program_types.specs.Content.{Program};
 

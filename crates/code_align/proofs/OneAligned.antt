@@ -4,8 +4,8 @@ use Rattle.dex_base.specs.declared.fault.Fault.{Fault}
 use Rattle.program_types.specs.Content.{Code, Method, Class, Program}
 use Rattle.program_types.specs.Formed.{IsFormed}
 use Rattle.code_align.proofs.PadLaws.{aligned-one}
-use Rattle.file_align.specs.Programs.{Pairwise, AlignedBody, AlignedMethod, AlignedClass, AlignedProgram, IsShort, IsTooLong}
-use Rattle.file_align.proofs.WellLaws.{codes_turned, program_formed}
+use Rattle.code_align.specs.Programs.{Pairwise, AlignedBody, AlignedMethod, AlignedClass, AlignedProgram, IsShort, IsTooLong}
+use Rattle.code_align.proofs.WellLaws.{codes_turned, program_formed}
 use Rattle.program_code_rules.proofs.OperandLaws.{formed_operands}
 use Rattle.program_rules.specs.Rules.{CodesHold}
 use Rattle.program_rules.specs.WellFormed.{WellFormed}

@@ -1,11 +1,11 @@
 use Rattle.std.proofs.Common.{rules}
 use Rattle.std.specs.Prelude.{IfSome}
-use Rattle.file_align.specs.Programs.{AlignedMethod, IsShort}
-use Rattle.file_align.proofs.PairLaws.{pair_step, pair_done, none_paired, all_more}
+use Rattle.code_align.specs.Programs.{AlignedMethod, IsShort}
+use Rattle.code_align.proofs.PairLaws.{pair_step, pair_done, none_paired, all_more}
 use Rattle.program_types.specs.Content.{Method}
 use Rattle.program_types.specs.Formed.{IsFormed}
 use Rattle.program_types.specs.View.{method}
-use Rattle.file_align.proofs.aligning.aligned_methods.Goals as goal
+use Rattle.code_align.proofs.programs.aligned_methods.Goals as goal
 use Rattle.dex_base.proofs.ListFacts.{all_at, passed}
 
 abbrev Formed : Method → Type 0

@@ -1,10 +1,10 @@
 use Rattle.std.proofs.Common.{rules}
-use Rattle.file_align.specs.Programs.{AlignedClass, IsShort}
-use Rattle.file_align.proofs.PairLaws.{pair_step, pair_done, none_paired, all_more}
+use Rattle.code_align.specs.Programs.{AlignedClass, IsShort}
+use Rattle.code_align.proofs.PairLaws.{pair_step, pair_done, none_paired, all_more}
 use Rattle.program_types.specs.Formed.{IsFormed}
 use Rattle.program_types.specs.View.{class}
 use Rattle.program_rules.specs.Rules.{CodesHold}
-use Rattle.file_align.proofs.aligning.aligned_classes.Goals as goal
+use Rattle.code_align.proofs.programs.aligned_classes.Goals as goal
 use Rattle.dex_base.proofs.ListFacts.{all_at, passed}
 
 pub aligned_class-requires : goal.aligned_class-requires

@@ -1,7 +1,7 @@
 use Rattle.std.proofs.Common.{map}
-use Rattle.file_align.proofs.WellLaws.{program_formed, aligned_well}
+use Rattle.code_align.proofs.WellLaws.{program_formed, aligned_well}
 use Rattle.program_types.specs.View.{class}
-use Rattle.file_align.proofs.aligning.align_all.Goals as goal
+use Rattle.code_align.proofs.programs.align_all.Goals as goal
 
 pub aligned_classes-requires : goal.aligned_classes-requires
 aligned_classes-requires c = record { formed = program_formed (map class c.args.program.now.classes.now) c.requires.formed }

@@ -1,8 +1,8 @@
 -- An aligned program has the names of the program.
 use Rattle.std.proofs.Common.{◌≡◌, ℕ, ◌++◌, List, [], ◌∷◌, map, refl, ap, ◌∙◌, Bool, true, false, Option, None, Some}
 use Rattle.std.specs.List.{flat_map}
-use Rattle.file_align.specs.Programs.{Pairwise, AlignedBody, AlignedMethod, AlignedClass}
-use Rattle.file_align.proofs.PairLaws.{paired_lists}
+use Rattle.code_align.specs.Programs.{Pairwise, AlignedBody, AlignedMethod, AlignedClass}
+use Rattle.code_align.proofs.PairLaws.{paired_lists}
 use Rattle.code_align.specs.Aligned.{with_nops, PadsPayloads, moved, moved_insn, moved_catch, moved_try, Aligned}
 use Rattle.program_types.specs.Content.{Descriptor, OfText, OfDesc, OfMethod, Insn, Catch, Try, Code, Method, Class}
 use Rattle.program_types.specs.Content as made

@@ -1,11 +1,11 @@
 use Rattle.std.proofs.Common.{map, drop, List, ◌++◌}
 use Rattle.std.specs.Prelude.{IfSome}
 use Rattle.std.specs.List.{AllByRecursion}
-use Rattle.file_align.specs.Programs.{Pairwise, AlignedMethod}
+use Rattle.code_align.specs.Programs.{Pairwise, AlignedMethod}
 use Rattle.program_types.specs.Content.{Method}
 use Rattle.program_types.specs.Formed.{IsFormed}
 use Rattle.program_types.specs.View.{method}
-use Rattle.file_align.proofs.aligning.aligned_methods.Given as goal
+use Rattle.code_align.proofs.programs.aligned_methods.Given as goal
 
 abbrev pub invariant-loop-one : goal.invariant-loop-one
 invariant-loop-one l = ((ns : List Method) → Pairwise AlignedMethod (map method (drop l.one-index l.all)) ns → Pairwise AlignedMethod (map method l.all) (map method l.methods.items ++ ns))

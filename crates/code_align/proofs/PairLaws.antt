@@ -3,7 +3,7 @@ use Rattle.std.proofs.Common.{◌≡◌, ℕ, zero, suc, ◌+◌, ◌<◌, ◌�
 use Rattle.std.specs.List.{AllByRecursion, flat_map, slice_get}
 use Rattle.std.proofs.Math.ListN.{drop_of_length-le}
 use Rattle.std.proofs.lemmas.List.{append_assoc, append-nil, map-append, drop_more}
-use Rattle.file_align.specs.Programs.{Pairwise}
+use Rattle.code_align.specs.Programs.{Pairwise}
 
 -- one item more
 pub pair_step : {A B : Type 0} (R : B → B → Type 0) (f : A → B) (all out : List A) (i : ℕ) (d y : A) → i < length all

@@ -1,4 +1,0 @@
-pub mod PairLaws
-pub mod NameLaws
-pub mod WellLaws
-pub mod OneAligned

@@ -1,5 +1,0 @@
-use Rattle.file_align.proofs.OneAligned.{program_aligned_one}
-use Rattle.file_align.proofs.laws.aligned_program_is_one.Goals as goal
-
-pub returns : goal.returns
-returns c = program_aligned_one
