@@ -1,6 +1,7 @@
 pub mod AdlerRows
 pub mod AdlerSums
 pub mod FaultLaws
+pub mod FirstFaultLaws
 pub mod FieldBounds
 pub mod GrammarLaws
 pub mod LengthLaws

@@ -1,6 +1,7 @@
 pub mod Adler32
 pub mod Begun
 pub mod Fault
+pub mod FirstFault
 pub mod Fields
 pub mod Grammar
 pub mod Leb128
