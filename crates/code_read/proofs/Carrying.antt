@@ -9,8 +9,7 @@ use Rattle.program_types.specs.Content.{Name, Code}
 use Rattle.tables_rows.specs.Names.{Names, AreNamesOf, NameIsAt}
 use Rattle.tables_rows.specs.Stands.{NameStands}
 use Rattle.tables_rows.proofs.NameLaws.{names_stand, stands_names}
-use Rattle.code_read.specs.InsnFaults.{Breaks, RulesBreak, InsnsBreak}
-use Rattle.code_read.specs.Linked.{NameHolds}
+use Rattle.code_read.specs.InsnFaults.{NamesBreak, RulesBreak, InsnsBreak}
 use Rattle.code_read.specs.Symbols.{SomeName, InsnHasName}
 use Rattle.code_read.specs.Walk.{raw_at, starts}
 use Rattle.code_read.specs.Code.{CodeStands}
@@ -40,13 +39,13 @@ module _ (N M : ℕ → Name → Type 0) (f : (i : ℕ) (which : Name) → N i w
   }
 
 module _ (N M : ℕ → Name → Type 0) (f : (i : ℕ) (which : Name) → N i which → M i which) (g : (i : ℕ) (which : Name) → M i which → N i which) where
-  name_carried : (rs : List Raw) (base : ℕ) (e : Fault) → Breaks (starts rs) base 65 (NameHolds N rs) (NameHolds N rs) e → Breaks (starts rs) base 65 (NameHolds M rs) (NameHolds M rs) e
+  name_carried : (rs : List Raw) (base : ℕ) (e : Fault) → NamesBreak N rs (starts rs) base e → NamesBreak M rs (starts rs) base e
   name_carried rs base e u =
-      let b = u.breaks in
       record {
-        first = u.first;
-        breaks = record { inside = b.inside; broken = λ h. b.broken (has_weaker M N g (raw_at rs u.first) h); before = λ k l. has_weaker N M f (raw_at rs k) (b.before k l) };
-        is = u.is;
+        number = u.number;
+        within = u.within;
+        breaks = record { broken = λ h. u.breaks.broken (has_weaker M N g (raw_at rs u.number) h); is = u.breaks.is };
+        before = λ k l. has_weaker N M f (raw_at rs k) (u.before k l);
       }
 
   rules_carried : (rs : List Raw) (base : ℕ) (e : Fault) → RulesBreak N rs base e → RulesBreak M rs base e
@@ -59,18 +58,19 @@ module _ (N M : ℕ → Name → Type 0) (f : (i : ℕ) (which : Name) → N i w
 
   tries_carried : (ss : List ℕ) (size n : ℕ) (items rest : List ℕ) (base : ℕ) (e : Fault) → TriesBreak N ss size n items rest base e → TriesBreak M ss size n items rest base e
   tries_carried ss size n items rest base e (inl u) = inl u
-  tries_carried ss size n items rest base e (inr u) = inr (u.0, u.1, λ h. u.2 (handlers_weaker M N g ss n items rest h), u.3)
+  tries_carried ss size n items rest base e (inr (hold, inl u)) = inr (hold, inl (λ h. u.0 (λ some. handlers_weaker M N g ss n items rest (h some)), u.1))
+  tries_carried ss size n items rest base e (inr (hold, inr u)) = absurd u.1
 
   item_carried : (off : ℕ) (bytes : List ℕ) (e : Fault) → ItemBreaks N off bytes e → ItemBreaks M off bytes e
   item_carried off bytes e (inl u) = inl u
-  item_carried off bytes e (inr (inl u)) = inr (inl u)
-  item_carried off bytes e (inr (inr (inl u))) = inr (inr (inl (u.0, u.1, insns_carried _ _ e u.2)))
-  item_carried off bytes e (inr (inr (inr u))) = inr (inr (inr (u.0, u.1, u.2, u.3, insns-weaker N M f _ u.2 u.3 u.4, tries_carried _ _ _ _ _ _ e u.5)))
+  item_carried off bytes e (inr (whole, inl u)) = inr (whole, inl u)
+  item_carried off bytes e (inr (whole, inr (some, inl u))) = inr (whole, inr (some, inl (insns_carried _ _ e u)))
+  item_carried off bytes e (inr (whole, inr (some, inr u))) = inr (whole, inr (some, inr (u.0, u.1, insns-weaker N M f _ u.0 u.1 u.2, tries_carried _ _ _ _ _ _ e u.3)))
 
   breaks_carried : (b : List ℕ) (off : ℕ) (e : Fault) → CodeBreaks N b off e → CodeBreaks M b off e
   breaks_carried b off e (inl u) = inl u
-  breaks_carried b off e (inr (inl u)) = inr (inl u)
-  breaks_carried b off e (inr (inr u)) = inr (inr (u.0, u.1, u.2, u.3, item_carried off u.2 e u.4))
+  breaks_carried b off e (inr (even, inl u)) = inr (even, inl u)
+  breaks_carried b off e (inr (even, inr (there, u))) = inr (even, inr (there, (u.0, u.1, u.2, item_carried off u.1 e u.3)))
 
 -- with the names of a file
 module _ (b : List ℕ) (names : Names) (framed : IsFramed b) (are : AreNamesOf b names) where

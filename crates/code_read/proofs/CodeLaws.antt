@@ -3,6 +3,7 @@ use Rattle.std.proofs.Common.{◌≡◌, ℕ, ◌-◌, ◌≤◌, List, take, dr
 use Rattle.std.proofs.lemmas.List.{take-take, take-append-drop}
 use Rattle.dex_base.specs.Grammar.{Takes, IsPrefixUnique}
 use Rattle.dex_base.specs.declared.fault.Fault.{Fault}
+use Rattle.dex_base.proofs.FirstFaultLaws.{else_clear, broken_clear}
 use Rattle.dex_container.specs.Frame.{IsFramed}
 use Rattle.dex_container.specs.Where.{slice, IsSectionRest}
 use Rattle.dex_container.proofs.Framed.{IsSection-one}
@@ -31,16 +32,15 @@ front_of N b framed off end bytes r c a =
 
 pub broken_none : (N : ℕ → Name → Type 0) → IsFunctional N → (b : List ℕ) → IsFramed b → (off : ℕ) (e : Fault) (c : Code) → CodeBreaks N b off e → BodyStands N b off c → ⊥
 broken_none N one b framed off e c (inl misaligned) a = misaligned.0 a.aligned
-broken_none N one b framed off e c (inr (inl outside)) a = outside_none N b off c outside.0 a
-broken_none N one b framed off e c (inr (inr (even, end, bytes, r, item))) a =
+broken_none N one b framed off e c (inr (_, inl outside)) a = outside_none N b off c outside.0 a
+broken_none N one b framed off e c (inr (_, inr (_, (end, bytes, r, item)))) a =
     let t = front_of N b framed off end bytes r c a in
     item-clear N one off bytes t.0 c e (read-from_takes N bytes t.0 c t.1) item
 
 -- ---- registers
 
 pub registers_clear : (off : ℕ) (c : Code) (e : Fault) → RegistersHold c → RegistersBreak off c e → ⊥
-registers_clear off c e h (inl p) = let l = p.0 in let i = h.ins in omega (arith, l, i)
-registers_clear off c e h (inr p) = let f = p.2.breaks in f.broken (h.each p.2.first f.inside)
+registers_clear off c e h = else_clear h.ins (λ p. broken_clear h.each p.1)
 
 -- a code that stands is one, and no register of it is past the others
 module _ (N : ℕ → Name → Type 0) (one : IsFunctional N) (b : List ℕ) (framed : IsFramed b) (off : ℕ) where

@@ -1,5 +1,5 @@
 -- At a place of a file a code stands, or a fault does.
-use Rattle.std.proofs.Common.{◌≡◌, ℕ, zero, suc, ◌+◌, ◌*◌, ◌≤◌, ◌-◌, ◌%◌, ◌<◌, ◌⊎◌, inl, inr, Option, Some, None, List, [], ◌∷◌, length, take, drop, get_or, refl, subst, arith}
+use Rattle.std.proofs.Common.{◌≡◌, ℕ, ◌+◌, ◌*◌, ◌-◌, ◌%◌, ◌<◌, ◌⊎◌, inl, inr, Option, Some, None, List, [], ◌∷◌, length, take, drop, refl, arith}
 use Rattle.std.specs.Prelude.{slice_get}
 use Rattle.std.specs.List.{AllByRecursion}
 use Rattle.std.proofs.lemmas.Bool.{cases_eq, cases_lt}
@@ -7,6 +7,7 @@ use Rattle.dex_base.specs.Deciding.{Decided}
 use Rattle.dex_base.specs.Fields.{AreBytes}
 use Rattle.dex_base.specs.Grammar.{Takes}
 use Rattle.dex_base.specs.declared.fault.Fault.{Fault}
+use Rattle.dex_base.proofs.FirstFaultLaws.{broken_decided}
 use Rattle.dex_base.proofs.Deciding.{decide_like, decide_both, decide_le}
 use Rattle.dex_base.proofs.FieldBounds.{u32_at-fits, drop-AreBytes}
 use Rattle.dex_container.specs.Frame.{IsFramed}
@@ -24,9 +25,8 @@ use Rattle.code_read.specs.Item.{insns_size, tries_of, registers_of, ins_of, out
 use Rattle.code_read.specs.Code.{SpellsBody, BodyStands, CodeStands}
 use Rattle.code_read.specs.Faults.{ItemBreaks, CodeBreaks, RegistersBreak, CodeOverruns}
 use Rattle.program_types.specs.Formed.{RegistersHold, insn_at, insn_registers}
-use Rattle.program_types.specs.Sizes.{addresses_of}
-use Rattle.program_code_rules.specs.First.{AllHold, IsFirstBroken}
-use Rattle.code_read.specs.Registers.{AmongAt}
+use Rattle.program_code_rules.specs.First.{AllHold}
+use Rattle.code_read.specs.Registers.{AmongAt, IsPast}
 use Rattle.code_read.proofs.StandLaws.{body_code, NameIsAt-functional}
 use Rattle.code_read.proofs.FaultLaws.{units-even}
 use Rattle.code_read.proofs.ItemLaws.{takes-from_read}
@@ -77,7 +77,7 @@ module _ (N : ℕ → Name → Type 0) (names : AreNamesDecided N) (functional :
 
   with-insns : HasFixedParts bytes → 0 < insns_size bytes → (rs : List Raw) (is : List Insn) → SpellsInsns N (insns_bytes bytes) rs is → IsItemDecided
   with-insns whole some rs is s = elim (tries-decided N names functional (starts rs) (insns_size bytes) (tries_of bytes) (items_of bytes) (drop (list_begin bytes) bytes) (off + tries_begin bytes)) [
-    | inr f ↦ inr (f.0, inr (inr (inr (whole, some, rs, is, s, f.1))))
+    | inr f ↦ inr (f.0, inr (whole, inr (some, inr (rs, is, s, f.1))))
     | inl x ↦
         let c : Code = record { registers = registers_of bytes; ins = ins_of bytes; outs = outs_of bytes; insns = is; tries = x.0 } in
         inl (c, x.1.after, takes-from_read N bytes x.1.after c (record { whole = whole; some = some; registers = refl; ins = refl; outs = refl; raws = rs; insns = s; list = x.1.list; joined = x.1.joined; tries = x.1.tries }))
@@ -87,12 +87,12 @@ module _ (N : ℕ → Name → Type 0) (names : AreNamesDecided N) (functional :
   item-decided = elim (decide-whole bytes) [
     | inr broken ↦ inr (record { code = 60; place = off }, inl (broken, refl))
     | inl whole ↦ elim (cases_eq (insns_size bytes) 0) [
-      | inl none ↦ inr (record { code = 61; place = off }, inr (inl (whole, none, refl)))
+      | inl none ↦ inr (record { code = 61; place = off }, inr (whole, inl (λ some. omega (arith, some, none), refl)))
       | inr some ↦
           let u = units-even bytes whole in
           let f = u32_at-fits bytes 12 are in
           elim (insns-decided N names (insns_bytes bytes) (off + 16) (units-are bytes are) (omega (arith, u)) (omega (arith, u, f))) [
-            | inr e ↦ inr (e.0, inr (inr (inl (whole, omega (arith, some), e.1))))
+            | inr e ↦ inr (e.0, inr (whole, inr (omega (arith, some), inl e.1)))
             | inl x ↦ with-insns whole (omega (arith, some)) x.0 x.1 x.2
           ]
     ]
@@ -104,13 +104,13 @@ pub body-decided : (b : List ℕ) → AreBytes b → IsFramed b → (names : Nam
 body-decided b are framed names off = elim (cases_eq (off % 4) 0) [
   | inr odd ↦ inr (record { code = 60; place = off }, inl (odd, refl))
   | inl even ↦ elim (decide_in b framed 0x2001 off) [
-    | inr outside ↦ inr (record { code = 60; place = off }, inr (inl (outside, refl)))
+    | inr outside ↦ inr (record { code = 60; place = off }, inr (even, inl (outside, refl)))
     | inl s ↦
         let N = NameIsAt names in
         let bytes = take (s.end - off) (drop off b) in
         let low = s.after in let high = s.before in
         elim (item-decided N (names-decided names) (NameIsAt-functional names) off bytes (take_bytes (s.end - off) (drop off b) (drop-AreBytes b off are))) [
-          | inr e ↦ inr (e.0, inr (inr (even, s.end, bytes, record { begin = s.begin; section = s.section; after = low; before = high; same = refl }, e.1)))
+          | inr e ↦ inr (e.0, inr (even, inr (s, (s.end, bytes, record { begin = s.begin; section = s.section; after = low; before = high; same = refl }, e.1))))
           | inl x ↦ inl (x.0, found_at (SpellsBody N) b framed 0x2001 4 off (record { begin = s.begin; end = s.end; section = s.section }) low (omega (arith, high)) even x.0 x.1 x.2)
         ]
   ]
@@ -128,29 +128,15 @@ numbers-decided count (v ∷ vs) = elim (cases_lt v count) [
   | inr not ↦ inr (λ h. let l = h.0 in omega (arith, l, not))
 ]
 
--- the first n instructions name registers of the code, or there is a first that doesn't
-first-decided : (c : Code) (n : ℕ) → n ≤ length c.insns → AllHold (AmongAt c.registers c.insns) n ⊎ ((k : ℕ) × IsFirstBroken (AmongAt c.registers c.insns) (AmongAt c.registers c.insns) (length c.insns) k)
-first-decided c zero le = inl (λ k l. absurd (omega (arith, l)))
-first-decided c (suc n) le = elim (first-decided c n (omega (arith, le))) [
-  | inl before ↦ elim (numbers-decided c.registers (insn_registers (insn_at c.insns n))) [
-    | inl here ↦ inl (λ k l. elim (cases_lt k n) [
-      | inl less ↦ before k less
-      | inr ge ↦ let e : n ≡ k = omega (arith, ge, l) in subst (λ (j : ℕ). AmongAt c.registers c.insns j) e here
-    ])
-    | inr not ↦ inr (n, record { inside = omega (arith, le); broken = not; before = before })
-  ]
-  | inr first ↦ inr first
-]
-
 pub registers-decided : (off : ℕ) (c : Code) → RegistersHold c ⊎ ((e : Fault) × RegistersBreak off c e)
 registers-decided off c = elim (cases_lt c.registers c.ins) [
-  | inl many ↦ inr (record { code = 73; place = off }, inl (many, refl))
-  | inr few ↦ elim (first-decided c (length c.insns) (omega arith)) [
-    | inl all ↦ inl (record { ins = few; each = all })
-    | inr f ↦
-        let at = get_or (addresses_of c.insns) f.0 0 in
-        inr (record { code = 73; place = off + 16 + 2 * at }, inr (few, at, record { first = f.0; breaks = f.1; is_at = refl }, refl))
-  ]
+  | inl many ↦ inr (record { code = 73; place = off }, inl (λ few. omega (arith, few, many), refl))
+  | inr few ↦
+      let named : AllHold (AmongAt c.registers c.insns) (length c.insns) ⊎ ((at : ℕ) × IsPast c.registers c.insns at) = broken_decided (λ k. numbers-decided c.registers (insn_registers (insn_at c.insns k))) in
+      elim named [
+        | inl all ↦ inl (record { ins = few; each = all })
+        | inr f ↦ inr (record { code = 73; place = off + 16 + 2 * f.0 }, inr (few, (f.0, f.1, refl)))
+      ]
 ]
 
 pub code-decided : (b : List ℕ) → AreBytes b → IsFramed b → (names : Names) (off : ℕ) → ((c : Code) × CodeStands (NameIsAt names) b off c) ⊎ (((e : Fault) × CodeBreaks (NameIsAt names) b off e) ⊎ ((e : Fault) × CodeOverruns (NameIsAt names) b off e))

@@ -1,12 +1,12 @@
 -- Decisions that those of code are made of: of bounded quantifiers, of options, and of grammars made of others.
 use Rattle.std.proofs.Common.{◌≡◌, ℕ, ℤ, zero, suc, pos, ◌+ℤ◌, ◌^◌, ◌<◌, ◌≤ℤ◌, ◌<ℤ◌, ◌⊎◌, inl, inr, Option, Some, None, List, [], ◌∷◌, length, get_or, refl, sym, ap, subst, arith}
 use Rattle.std.specs.Prelude.{IfSome}
-use Rattle.std.proofs.lemmas.Bool.{cases_lt}
 use Rattle.std.proofs.lemmas.Int.{ints, by_lt_z}
 use Rattle.dex_base.specs.Deciding.{Decided, DecidedFront}
 use Rattle.dex_base.specs.Grammar.{Takes, IsPrefixUnique, Then, Many}
 use Rattle.dex_base.specs.Leb128.{SpellsSigned, signed_low_first}
 use Rattle.dex_base.specs.Via.{Via}
+use Rattle.dex_base.proofs.FirstFaultLaws.{broken_clear, broken_decided}
 use Rattle.dex_base.proofs.Deciding.{decide_like, decide_both, decide_le, decide_by, DecidedEach, decide_each, decide_sequence}
 use Rattle.dex_base.proofs.TakesLaws.{Takes-then, Then-takes, Takes-unique, Takes-none, NoneBegins-from_takes}
 use Rattle.dex_base.proofs.ViaLaws.{via-takes, via-none, via-nothing}
@@ -14,28 +14,10 @@ use Rattle.program_code_rules.specs.First.{AllHold, IsFirstBroken}
 
 -- ---- numbers below a bound
 
-all-more : (P : ℕ → Type 0) (n : ℕ) → AllHold P n → P n → AllHold P (suc n)
-all-more P n all here k l = elim (cases_lt k n) [
-  | inl less ↦ all k less
-  | inr ge ↦ let e : n ≡ k = omega (arith, l, ge) in subst P e here
-]
-
--- each number below the bound keeps a rule, or there is a first that breaks it
-pub first-or-all : (P : ℕ → Type 0) → ((k : ℕ) → Decided (P k)) → (n : ℕ) → AllHold P n ⊎ ((k : ℕ) × IsFirstBroken P P n k)
-first-or-all P d zero = inl (λ k l. absurd (omega (arith, l)))
-first-or-all P d (suc n) = elim (first-or-all P d n) [
-  | inl all ↦ elim (d n) [
-    | inl here ↦ inl (all-more P n all here)
-    | inr nay ↦ inr (n, record { inside = omega arith; broken = nay; before = all })
-  ]
-  | inr f ↦ inr (f.0, record { inside = (let l = f.1.inside in omega (arith, l)); broken = f.1.broken; before = f.1.before })
-]
-
 pub decide-all-below : (P : ℕ → Type 0) → ((k : ℕ) → Decided (P k)) → (n : ℕ) → Decided (AllHold P n)
-decide-all-below P d n = elim (first-or-all P d n) [
-  | inl all ↦ inl all
-  | inr f ↦ inr (λ all. f.1.broken (all f.0 f.1.inside))
-]
+decide-all-below P d n =
+    let first : AllHold P n ⊎ ((k : ℕ) × IsFirstBroken P n k) = broken_decided d in
+    elim first [ inl all ↦ inl all | inr f ↦ inr (λ all. broken_clear all f.1) ]
 
 -- a list of n values, each with what it must have
 pub build : {V : Type 0} (d : V) (P : ℕ → V → Type 0) (n : ℕ) → ((k : ℕ) → k < n → (v : V) × P k v) → (vs : List V) × (length vs ≡ n) × ((k : ℕ) → k < n → P k (get_or vs k d))

@@ -1,6 +1,7 @@
 -- Where a code is spelled, no rule is broken.
 use Rattle.std.proofs.Common.{◌≡◌, ℕ, ◌+◌, ◌-◌, ◌<◌, ◌*◌, ◌++◌, List, length, drop, refl, sym, ◌∙◌, subst, arith, zero, suc, inl, inr}
 use Rattle.dex_base.specs.declared.fault.Fault.{Fault}
+use Rattle.dex_base.proofs.FirstFaultLaws.{else_clear, later_clear, broken_clear}
 use Rattle.dex_insn.specs.Raw.{Raw}
 use Rattle.dex_insn.proofs.Unique.{slice-length}
 use Rattle.program_types.specs.Content.{Name, Code, Insn, Try}
@@ -25,8 +26,8 @@ has-handlers N ss size (suc n) items list rest ts l s =
     record { list = list; after = rest; joined = refl; handlers = s.handlers; spelled = s.spelled; each = λ i m. (handler_of (try_at ts i), (s.each i m).handler) }
 
 pub tries-clear : (N : ℕ → Name → Type 0) (ss : List ℕ) (size n : ℕ) (items list rest bytes : List ℕ) (base : ℕ) (ts : List Try) (fault : Fault) → bytes ≡ list ++ rest → SpellsTries N ss size n items list ts → TriesBreak N ss size n items bytes base fault → ⊥
-tries-clear N ss size n items list rest bytes base ts fault e s (inl b) = b.1.broken (s.hold b.0 b.1.inside)
-tries-clear N ss size n items list rest bytes base ts fault e s (inr b) = b.2 (subst (λ (z : List ℕ). HasHandlers N ss n items z) (sym e) (has-handlers N ss size n items list rest ts b.0 s))
+tries-clear N ss size n items list rest bytes base ts fault e s =
+    later_clear broken_clear (else_clear (λ l. subst (λ (z : List ℕ). HasHandlers N ss n items z) (sym e) (has-handlers N ss size n items list rest ts l s)) (λ none. none)) s.hold
 
 pub units-even : (bytes : List ℕ) → HasFixedParts bytes → length (insns_bytes bytes) ≡ 2 * insns_size bytes
 units-even bytes w =
@@ -34,34 +35,38 @@ units-even bytes w =
     slice-length bytes 16 (units_end bytes) (omega arith) (omega arith) ∙ (let z : units_end bytes - 16 ≡ 2 * insns_size bytes = omega arith in z)
 
 pub item-clear : (N : ℕ → Name → Type 0) → IsFunctional N → (off : ℕ) (bytes rest : List ℕ) (c : Code) (fault : Fault) → ReadCode N bytes rest c → ItemBreaks N off bytes fault → ⊥
-item-clear N one off bytes rest c fault r (inl b) = b.0 r.whole
-item-clear N one off bytes rest c fault r (inr (inl b)) = let s = r.some in let z = b.1 in omega arith
-item-clear N one off bytes rest c fault r (inr (inr (inl b))) = let u = units-even bytes r.whole in insns-clear N (insns_bytes bytes) r.raws c.insns (off + 16) fault one (omega arith) r.insns b.2
-item-clear N one off bytes rest c fault r (inr (inr (inr b))) =
-    let e = walks-one (insns_bytes bytes) b.2 r.raws b.4.walk r.insns.walk in
-    tries-clear N (starts b.2) (insns_size bytes) (tries_of bytes) (items_of bytes) r.list rest (drop (list_begin bytes) bytes) (off + tries_begin bytes) c.tries fault r.joined
-    (subst (λ (rs : List Raw). SpellsTries N (starts rs) (insns_size bytes) (tries_of bytes) (items_of bytes) r.list c.tries) (sym e) r.tries) b.5
+item-clear N one off bytes rest c fault r = else_clear r.whole (else_clear r.some (λ u. elim u [
+  | inl b ↦ let u = units-even bytes r.whole in insns-clear N (insns_bytes bytes) r.raws c.insns (off + 16) fault one (omega (arith, u)) r.insns b
+  | inr b ↦
+      let e = walks-one (insns_bytes bytes) b.0 r.raws b.2.walk r.insns.walk in
+      tries-clear N (starts b.0) (insns_size bytes) (tries_of bytes) (items_of bytes) r.list rest (drop (list_begin bytes) bytes) (off + tries_begin bytes) c.tries fault r.joined
+      (subst (λ (rs : List Raw). SpellsTries N (starts rs) (insns_size bytes) (tries_of bytes) (items_of bytes) r.list c.tries) (sym e) r.tries) b.3
+]))
 
 -- ---- what the stages of reading refuse
 
 pub insns-break : (N : ℕ → Name → Type 0) (off at : ℕ) (bytes us : List ℕ) (fault : Fault) → HasFixedParts bytes → 0 < insns_size bytes → us ≡ insns_bytes bytes → at ≡ off → InsnsBreak N us (at + 16) fault → ItemBreaks N off bytes fault
 insns-break N off at bytes us fault w s e a b =
-    inr (inr (inl (w, s, subst (λ (z : ℕ). InsnsBreak N (insns_bytes bytes) (z + 16) fault) a (subst (λ (z : List ℕ). InsnsBreak N z (at + 16) fault) e b))))
+    inr (w, inr (s, inl (subst (λ (z : ℕ). InsnsBreak N (insns_bytes bytes) (z + 16) fault) a (subst (λ (z : List ℕ). InsnsBreak N z (at + 16) fault) e b))))
 
 pub tries-break : (N : ℕ → Name → Type 0) (off at : ℕ) (bytes begins : List ℕ) (i : Item) (is : List Insn) (fault : Fault) → IsCodeItem bytes i → 0 < insns_size bytes → at ≡ off → ReadInsns N i.units.now begins is
     → TriesBreak N begins i.size i.tries i.items.now i.list.now (at + i.items_at) fault → ItemBreaks N off bytes fault
 tries-break N off at bytes begins i is fault p s a r b =
-    inr (inr (inr (
+    inr (
       p.whole,
-      s,
-      r.raws,
-      is,
-      subst (λ (us : List ℕ). SpellsInsns N us r.raws is) p.units r.insns,
-      subst (λ (z : List ℕ). TriesBreak N z (insns_size bytes) (tries_of bytes) (items_of bytes) (drop (list_begin bytes) bytes) (off + tries_begin bytes) fault) r.table.is
-          (subst (λ (z : ℕ). TriesBreak N begins z (tries_of bytes) (items_of bytes) (drop (list_begin bytes) bytes) (off + tries_begin bytes) fault) p.size
-          (subst (λ (z : ℕ). TriesBreak N begins i.size z (items_of bytes) (drop (list_begin bytes) bytes) (off + tries_begin bytes) fault) p.tries
-          (subst (λ (z : List ℕ). TriesBreak N begins i.size i.tries z (drop (list_begin bytes) bytes) (off + tries_begin bytes) fault) p.items
-          (subst (λ (z : List ℕ). TriesBreak N begins i.size i.tries i.items.now z (off + tries_begin bytes) fault) p.list
-          (subst (λ (z : ℕ). TriesBreak N begins i.size i.tries i.items.now i.list.now (off + z) fault) p.place
-          (subst (λ (z : ℕ). TriesBreak N begins i.size i.tries i.items.now i.list.now (z + i.items_at) fault) a b)))))),
-    )))
+      inr (
+        s,
+        inr (
+          r.raws,
+          is,
+          subst (λ (us : List ℕ). SpellsInsns N us r.raws is) p.units r.insns,
+          subst (λ (z : List ℕ). TriesBreak N z (insns_size bytes) (tries_of bytes) (items_of bytes) (drop (list_begin bytes) bytes) (off + tries_begin bytes) fault) r.table.is
+              (subst (λ (z : ℕ). TriesBreak N begins z (tries_of bytes) (items_of bytes) (drop (list_begin bytes) bytes) (off + tries_begin bytes) fault) p.size
+              (subst (λ (z : ℕ). TriesBreak N begins i.size z (items_of bytes) (drop (list_begin bytes) bytes) (off + tries_begin bytes) fault) p.tries
+              (subst (λ (z : List ℕ). TriesBreak N begins i.size i.tries z (drop (list_begin bytes) bytes) (off + tries_begin bytes) fault) p.items
+              (subst (λ (z : List ℕ). TriesBreak N begins i.size i.tries i.items.now z (off + tries_begin bytes) fault) p.list
+              (subst (λ (z : ℕ). TriesBreak N begins i.size i.tries i.items.now i.list.now (off + z) fault) p.place
+              (subst (λ (z : ℕ). TriesBreak N begins i.size i.tries i.items.now i.list.now (z + i.items_at) fault) a b)))))),
+        ),
+      ),
+    )

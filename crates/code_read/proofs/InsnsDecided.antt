@@ -1,7 +1,9 @@
 -- Units spell the instructions of a code, or one of them breaks a rule.
-use Rattle.std.proofs.Common.{◌≡◌, ℕ, ℤ, zero, suc, ◌+◌, ◌*◌, ◌/◌, ◌<◌, ◌≤◌, ◌⊎◌, inl, inr, List, [], length, get_or, refl, ap, sym, ◌∙◌, subst, arith}
+use Rattle.std.proofs.Common.{◌≡◌, ℕ, ℤ, zero, suc, ◌*◌, ◌/◌, ◌<◌, ◌≤◌, ◌⊎◌, inl, inr, List, [], length, get_or, refl, ap, sym, ◌∙◌, subst, arith}
 use Rattle.std.proofs.lemmas.Bool.{cases_lt}
 use Rattle.dex_base.specs.Deciding.{Decided}
+use Rattle.dex_base.specs.FirstFault.{First, FirstBroken}
+use Rattle.dex_base.proofs.FirstFaultLaws.{first_decided, broken_decided}
 use Rattle.dex_base.specs.Fields.{AreBytes}
 use Rattle.dex_base.specs.declared.fault.Fault.{Fault}
 use Rattle.dex_insn.specs.Raw as raw
@@ -9,18 +11,17 @@ use Rattle.dex_insn.specs.Raw.{Raw}
 use Rattle.program_types.specs.Content.{Name, OfText, Insn}
 use Rattle.program_types.specs.Content as made
 use Rattle.program_types.specs.Formed.{insn_at, insn_payload, RefersToPayload, PayloadHolds}
-use Rattle.program_code_rules.specs.First.{AllHold, IsFirstBroken}
-use Rattle.program_code_rules.specs.Branches.{BranchLands, BranchMoves, BranchHolds, SwitchLands, IsOrigin}
+use Rattle.program_code_rules.specs.First.{AllHold}
+use Rattle.program_code_rules.specs.Branches.{BranchHolds, SwitchLands, IsOrigin}
 use Rattle.code_read.specs.Walk.{Walks, starts, raw_at, address}
 use Rattle.code_read.specs.Symbols.{linked, Says, InsnHasName}
 use Rattle.code_read.specs.Linked.{lead, NameHolds, AreLinked, KeepRules, SpellsInsns}
-use Rattle.code_read.specs.InsnFaults.{Breaks, LinkedBreak, InsnsBreak}
+use Rattle.code_read.specs.InsnFaults.{insn_fault, NamesBreak, BranchBreaks, LinkedBreak, InsnsBreak}
 use Rattle.code_read.specs.inner.InsnReading.{AreHalfLinked}
 use Rattle.code_read.proofs.LinkLaws.{kind-linked, all-linked}
-use Rattle.code_read.proofs.Runs.{length-of_starts}
-use Rattle.code_read.proofs.Deciding.{first-or-all, build}
+use Rattle.code_read.proofs.Deciding.{build}
 use Rattle.code_read.proofs.WalkDecided.{walk-decided}
-use Rattle.code_read.proofs.RulesDecided.{AreNamesDecided, decide-name, decide-switch, decide-refers, decide-payload, decide-branch-lands, decide-branch-moves, decide-branch, decide-switch-lands}
+use Rattle.code_read.proofs.RulesDecided.{AreNamesDecided, decide-name, decide-switch, decide-refers, decide-payload, decide-branch-lands, decide-branch-moves, decide-switch-lands}
 
 -- ---- where all indices have rows, the instructions can be linked
 
@@ -77,47 +78,44 @@ module _ (N : ℕ → Name → Type 0) (names : AreNamesDecided N) (us : List �
   abbrev pub InsnsAreDecided : Type 0
   InsnsAreDecided = ((rs : List Raw) × (is : List Insn) × SpellsInsns N us rs is) ⊎ ((e : Fault) × InsnsBreak N us base e)
 
-  -- the first that breaks a rule
-  broken-at : (ss : List ℕ) (number : ℕ) (P Q : ℕ → Type 0) (k : ℕ) → IsFirstBroken P Q (length ss) k → (e : Fault) × Breaks ss base number P Q e
-  broken-at ss number P Q k f = (record { code = number; place = base + 2 * get_or ss k 0 }, record { first = k; breaks = f; is = refl })
-
-  branch-broken : (ss : List ℕ) (is : List Insn) (k : ℕ) → IsFirstBroken (BranchHolds is) (BranchHolds is) (length ss) k → (e : Fault) × LinkedBreak ss is base e
-  branch-broken ss is k f = elim (decide-branch-lands is k) [
-    | inr nay ↦ let x = broken-at ss 68 (BranchHolds is) (BranchLands is) k (record { inside = f.inside; broken = nay; before = f.before }) in (x.0, inl x.1)
-    | inl lands ↦ elim (decide-branch-moves is k) [
-      | inr nay ↦ let x = broken-at ss 69 (BranchHolds is) (BranchMoves is) k (record { inside = f.inside; broken = nay; before = f.before }) in (x.0, inr (inl x.1))
-      | inl moves ↦ absurd (f.broken (record { lands = lands; moves = moves }))
-    ]
-  ]
-
   -- linked instructions keep all rules, or the first that isn't kept is broken
-  keep-decided : (ss : List ℕ) (is : List Insn) → length ss ≡ length is → KeepRules is ⊎ ((e : Fault) × LinkedBreak ss is base e)
-  keep-decided ss is n =
-      let all : (P : ℕ → Type 0) → AllHold P (length ss) → AllHold P (length is) = λ P h. subst (AllHold P) n h in
-      elim (first-or-all (BranchHolds is) (decide-branch is) (length ss)) [
-        | inr f ↦ inr (branch-broken ss is f.0 f.1)
-        | inl branches ↦ elim (first-or-all (PayloadHolds is) (decide-payload is) (length ss)) [
-          | inr f ↦ let x = broken-at ss 70 (PayloadHolds is) (PayloadHolds is) f.0 f.1 in inr (x.0, inr (inr (inl (all (BranchHolds is) branches, x.1))))
-          | inl payloads ↦ elim (first-or-all (SwitchLands is) (decide-switch-lands is) (length ss)) [
-            | inr f ↦ let x = broken-at ss 68 (SwitchLands is) (SwitchLands is) f.0 f.1 in inr (x.0, inr (inr (inr (all (BranchHolds is) branches, all (PayloadHolds is) payloads, x.1))))
-            | inl switches ↦ inl (record {
-              targets = λ k l. let b = all (BranchHolds is) branches k l in record { lands = b.lands; moves = b.moves; all = all (SwitchLands is) switches k l };
-              payloads = all (PayloadHolds is) payloads;
-            })
+  keep-decided : (ss : List ℕ) (is : List Insn) → KeepRules is ⊎ ((e : Fault) × LinkedBreak ss is base e)
+  keep-decided ss is =
+      let first : AllHold (BranchHolds is) (length is) ⊎ ((e : Fault) × First (length is) (BranchHolds is) (BranchBreaks ss is base) e) = first_decided branch in
+      let second : AllHold (PayloadHolds is) (length is) ⊎ ((e : Fault) × FirstBroken (length is) (PayloadHolds is) (insn_fault ss base 70) e) = broken_decided (decide-payload is) in
+      let third : AllHold (SwitchLands is) (length is) ⊎ ((e : Fault) × FirstBroken (length is) (SwitchLands is) (insn_fault ss base 68) e) = broken_decided (decide-switch-lands is) in
+      elim first [
+        | inr f ↦ inr (f.0, inl f.1)
+        | inl branches ↦ elim second [
+          | inr f ↦ inr (f.0, inr (branches, inl f.1))
+          | inl payloads ↦ elim third [
+            | inr f ↦ inr (f.0, inr (branches, inr (payloads, inl f.1)))
+            | inl switches ↦ inl (record { targets = λ k l. record { lands = (branches k l).lands; moves = (branches k l).moves; all = switches k l }; payloads = payloads })
           ]
+        ]
+      ]
+    where
+      branch : (k : ℕ) → k < length is → BranchHolds is k ⊎ ((e : Fault) × BranchBreaks ss is base k e)
+      branch k l = elim (decide-branch-lands is k) [
+        | inr nay ↦ inr (insn_fault ss base 68 k, inl (nay, refl))
+        | inl lands ↦ elim (decide-branch-moves is k) [
+          | inr nay ↦ inr (insn_fault ss base 69 k, inr (lands, inl (nay, refl)))
+          | inl moves ↦ inl (record { lands = lands; moves = moves })
         ]
       ]
 
   walked-decided : (rs : List Raw) → Walks us rs → InsnsAreDecided
-  walked-decided rs w = elim (first-or-all (NameHolds N rs) (λ k. decide-name N names (raw_at rs k)) (length (starts rs))) [
-    | inr f ↦ let x = broken-at (starts rs) 65 (NameHolds N rs) (NameHolds N rs) f.0 f.1 in inr (x.0, inr (rs, w, inl x.1))
-    | inl named ↦
-        let x = linked-found N rs (subst (AllHold (NameHolds N rs)) (length-of_starts rs) named) in
-        elim (keep-decided (starts rs) x.0 (length-of_starts rs ∙ sym x.1.count)) [
-          | inl keep ↦ inl (rs, x.0, record { walk = w; linked = x.1; keep = keep })
-          | inr f ↦ inr (f.0, inr (rs, w, inr (x.0, x.1, f.1)))
-        ]
-  ]
+  walked-decided rs w =
+      let rows : AllHold (NameHolds N rs) (length rs) ⊎ ((e : Fault) × NamesBreak N rs (starts rs) base e) = broken_decided (λ k. decide-name N names (raw_at rs k)) in
+      elim rows [
+        | inr f ↦ inr (f.0, inr (rs, w, inl f.1))
+        | inl named ↦
+            let x = linked-found N rs named in
+            elim (keep-decided (starts rs) x.0) [
+              | inl keep ↦ inl (rs, x.0, record { walk = w; linked = x.1; keep = keep })
+              | inr f ↦ inr (f.0, inr (rs, w, inr (x.0, x.1, f.1)))
+            ]
+      ]
 
   pub insns-decided : AreBytes us → length us ≡ 2 * (length us / 2) → length us ≤ 8589934590 → InsnsAreDecided
   insns-decided are even short = elim (walk-decided us base are even) [

@@ -1,5 +1,5 @@
 -- What is said of a code's registers when its instructions are read, said of the code.
-use Rattle.std.proofs.Common.{◌≡◌, ℕ, ◌+◌, ◌*◌, ◌<◌, ◌≤◌, length, Option, Some, None, subst, inl, inr}
+use Rattle.std.proofs.Common.{◌≡◌, ℕ, ◌+◌, ◌*◌, ◌<◌, ◌≤◌, length, Option, Some, None, subst, inl, inr, arith}
 use Rattle.std.specs.Prelude.{IfSome, IfNone, ◌⊎◌}
 use Rattle.dex_base.specs.declared.fault.Fault.{Fault}
 use Rattle.program_types.specs.Content.{Code}
@@ -20,8 +20,8 @@ Given off c past e =
     ⊎ ((c.ins ≤ c.registers) × (at : ℕ) × (past ≡ Some at) × (e ≡ record { code = 73; place = off + 16 + 2 * at }))
 
 past_given : (off : ℕ) (c : Code) (past : Option ℕ) (e : Fault) → Given off c past e → IfSome past (IsPast c.registers c.insns) → RegistersBreak off c e
-past_given off c past e (inl p) a = inl p
-past_given off c past e (inr p) a = inr (p.0, p.1, subst (λ (o : Option ℕ). IfSome o (IsPast c.registers c.insns)) p.2 a, p.3)
+past_given off c past e (inl p) a = let many = p.0 in inl (λ few. omega (arith, few, many), p.1)
+past_given off c past e (inr p) a = inr (p.0, (p.1, subst (λ (o : Option ℕ). IfSome o (IsPast c.registers c.insns)) p.2 a, p.3))
 
 pub past_of : (off : ℕ) (c : Code) (o : Option Fault) (past : Option ℕ) → IfSome o (Given off c past) → IfSome past (IsPast c.registers c.insns) → IfSome o (RegistersBreak off c)
 past_of off c None past s a = tt

@@ -13,7 +13,7 @@ use Rattle.code_read.specs.Walk.{starts, raw_at}
 use Rattle.code_read.specs.inner.Walk.{IsTable}
 use Rattle.code_read.specs.Symbols.{Says}
 use Rattle.code_read.specs.Linked.{lead, payload_of, NameHolds, AreLinked}
-use Rattle.code_read.specs.InsnFaults.{Breaks}
+use Rattle.code_read.specs.InsnFaults.{NamesBreak}
 use Rattle.code_read.specs.inner.InsnReading.{IsHalfLinked, AreHalfLinked}
 use Rattle.code_read.proofs.Lists.{EachSoFar}
 use Rattle.code_read.proofs.LinkLaws.{at_raw, kind-linked, half-named, own-origin, all-linked}
@@ -46,10 +46,10 @@ module _ (N : ℕ → Name → Type 0) (xs : List RawInsn) where
         record { count = s.count ∙ e ∙ sym m; each = λ j l. subst (λ (ss : List ℕ). IsHalfLinked N ss (get_or ss j 0) (raw_at (map raw xs) j) (insn_at is j)) table.is (s.each j (omega (arith, l, m, e))) }
 
     pub name-broken : (is : List Insn) (base k : ℕ) (fault : Fault) → k < length xs → EachSoFar (λ j. IsHalfLinked N begins (get_or begins j 0) (raw_at (map raw xs) j)) is k → ¬ NameHolds N (map raw xs) k
-        → fault ≡ record { code = 65; place = base + 2 * get_or begins k 0 } → Breaks begins base 65 (NameHolds N (map raw xs)) (NameHolds N (map raw xs)) fault
+        → fault ≡ record { code = 65; place = base + 2 * get_or begins k 0 } → NamesBreak N (map raw xs) begins base fault
     name-broken is base k fault l s bad e =
         let n = table.count in let m = length-map xs raw in
-        record { first = k; breaks = record { inside = omega (arith, l, n, m); broken = bad; before = λ j i. half-named N begins _ _ (insn_at is j) (s.each j i) }; is = e }
+        record { number = k; within = omega (arith, l, n, m); breaks = record { broken = bad; is = e }; before = λ j i. half-named N begins _ _ (insn_at is j) (s.each j i) }
 
     module _ (half : List Insn) (js : List ℕ) (h : AreHalfLinked N (map raw xs) half) (origins : AreOrigins half js) where
       pub own-linked : (k : ℕ) (i : Insn) → k < length xs → is_payload (raw (get_or xs k (held.I10x 0))) ≡ false → insn_at half k ≡ i → Says N (lead begins (get_or begins (get_or js k 0) 0)) (raw_at (map raw xs) k) i

@@ -8,7 +8,7 @@ use Rattle.dex_insn.specs.Opcodes.{index_kind_of}
 use Rattle.dex_insn.specs.declared.opcode.IndexKind.{IndexKind}
 use Rattle.program_types.specs.Content.{Name, Insn}
 use Rattle.program_types.specs.Formed.{AreAlike, IsSwitch, insn_at, insn_payload, insn_wants, insn_reach, insn_branch, insn_short_branch, insn_targets, IsTarget, RefersToPayload, PayloadHolds}
-use Rattle.program_code_rules.specs.Branches.{BranchLands, BranchMoves, BranchHolds, SwitchLands}
+use Rattle.program_code_rules.specs.Branches.{BranchLands, BranchMoves, SwitchLands}
 use Rattle.program_types.specs.Kinds.{IsOfKind}
 use Rattle.program_types.specs.Operands.{IsOfIndexKind}
 use Rattle.program_types.specs.declared.payload.Payload.{Payload}
@@ -92,9 +92,6 @@ module _ (is : List Insn) where
 
   pub decide-branch-moves : (k : ℕ) → Decided (BranchMoves is k)
   decide-branch-moves k = decide-if-some (λ to. to ≢ k) (decide-other k) (insn_short_branch (insn_at is k))
-
-  pub decide-branch : (k : ℕ) → Decided (BranchHolds is k)
-  decide-branch k = decide_like (λ x. record { lands = x.0; moves = x.1 }) (λ (h : BranchHolds is k). (h.lands, h.moves)) (decide_both (decide-branch-lands k) (decide-branch-moves k))
 
   pub decide-switch-lands : (k : ℕ) → Decided (SwitchLands is k)
   decide-switch-lands k = decide_all (IsTarget is) decide-target (insn_targets (insn_at is k))

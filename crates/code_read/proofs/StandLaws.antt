@@ -61,4 +61,11 @@ module _ (N : ℕ → Name → Type 0) (b rest : List ℕ) (s : Section) (off : 
 
   pub broken : (fault : Fault) → s.begin ≤ off → off < s.end → off % 4 ≡ 0 → ItemBreaks N off rest fault → CodeBreaks N b off fault
   broken fault low high even u =
-      inr (inr (even, s.end, rest, record { begin = s.begin; section = is.some (omega (arith, low, high)); after = low; before = high; same = same }, u))
+      let section = is.some (omega (arith, low, high)) in
+      inr (
+        even,
+        inr (
+          record { begin = s.begin; end = s.end; section = section; after = low; before = high },
+          (s.end, rest, record { begin = s.begin; section = section; after = low; before = high; same = same }, u),
+        ),
+      )

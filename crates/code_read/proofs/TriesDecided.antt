@@ -1,6 +1,8 @@
 -- try_items and handlers spell tries, or one breaks a rule.
 use Rattle.std.proofs.Common.{◌≡◌, ℕ, zero, suc, ◌+◌, ◌*◌, ◌≤◌, ◌⊎◌, inl, inr, Some, None, List, [], refl, sym, ◌∙◌, subst, arith}
 use Rattle.dex_base.specs.Deciding.{Decided}
+use Rattle.dex_base.specs.FirstFault.{FirstBroken}
+use Rattle.dex_base.proofs.FirstFaultLaws.{broken_decided}
 use Rattle.dex_base.specs.declared.fault.Fault.{Fault}
 use Rattle.dex_base.proofs.Deciding.{decide_like, decide_both, decide_lt, decide_le}
 use Rattle.program_types.specs.Content.{Name, Try}
@@ -14,7 +16,7 @@ use Rattle.code_read.specs.Faults.{HasHandlers, TriesBreak, list_fault, try_faul
 use Rattle.code_read.specs.inner.ItemReading.{ReadTries}
 use Rattle.code_read.proofs.HandlerLaws.{SpellsList-unique}
 use Rattle.code_read.proofs.TryLaws.{no-tries}
-use Rattle.code_read.proofs.Deciding.{first-or-all, decide-all-below, build, decide-there}
+use Rattle.code_read.proofs.Deciding.{decide-all-below, build, decide-there}
 use Rattle.code_read.proofs.RulesDecided.{AreNamesDecided}
 use Rattle.code_read.proofs.HandlersDecided.{decide-list}
 
@@ -63,10 +65,12 @@ module _ (N : ℕ → Name → Type 0) (names : AreNamesDecided N) (functional :
 
   pub tries-decided : (size n : ℕ) (items rest : List ℕ) (base : ℕ) → ((ts : List Try) × ReadTries N ss size n items rest ts) ⊎ ((e : Fault) × TriesBreak N ss size n items rest base e)
   tries-decided size zero items rest base = inl ([], no-tries N ss size 0 items rest refl)
-  tries-decided size (suc m) items rest base = elim (first-or-all (TryHolds ss size items) (decide-try ss size items) (suc m)) [
-    | inr f ↦ inr (try_fault base f.0, inl (f.0, f.1, refl))
-    | inl hold ↦ elim (decide-handlers (suc m) items rest) [
-      | inr none ↦ inr (list_fault (base + 8 * suc m), inr (omega arith, hold, none, refl))
-      | inl h ↦ inl (tries-of size m items rest hold h)
-    ]
-  ]
+  tries-decided size (suc m) items rest base =
+      let each : AllHold (TryHolds ss size items) (suc m) ⊎ ((e : Fault) × FirstBroken (suc m) (TryHolds ss size items) (try_fault base) e) = broken_decided (decide-try ss size items) in
+      elim each [
+        | inr f ↦ inr (f.0, inl f.1)
+        | inl hold ↦ elim (decide-handlers (suc m) items rest) [
+          | inr none ↦ inr (list_fault (base + 8 * suc m), inr (hold, inl (λ h. none (h (omega arith)), refl)))
+          | inl h ↦ inl (tries-of size m items rest hold h)
+        ]
+      ]

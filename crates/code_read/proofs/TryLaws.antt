@@ -87,20 +87,22 @@ some-tries N ss size (suc n) items rest offsets hs ts nz hold l t = record {
 }
 
 pub no-list : (N : ℕ → Name → Type 0) (ss : List ℕ) (size n : ℕ) (items rest : List ℕ) (base : ℕ) (fault : Fault) → n ≢ 0 → AllHold (TryHolds ss size items) n → fault ≡ list_fault (base + 8 * n) → NoneBegins (SpellsList N ss) rest → TriesBreak N ss size n items rest base fault
-no-list N ss size n items rest base fault nz hold e none = inr (omega arith, hold, (λ h. none h.list h.after h.handlers h.joined h.spelled), e)
+no-list N ss size n items rest base fault nz hold e none = inr (hold, inl (λ has. (let h = has (omega arith) in none h.list h.after h.handlers h.joined h.spelled), e))
 
 pub no-handler : (N : ℕ → Name → Type 0) (ss : List ℕ) (size n : ℕ) (items rest offsets : List ℕ) (hs : List Handler) (base : ℕ) (fault : Fault) → IsFunctional N → n ≢ 0 → AllHold (TryHolds ss size items) n → fault ≡ list_fault (base + 8 * n)
     → ReadList N ss rest offsets hs → NoHandler items offsets n → TriesBreak N ss size n items rest base fault
 no-handler N ss size n items rest offsets hs base fault f nz hold e l none = inr (
-  omega arith,
   hold,
-  (λ h.
-      let same = (SpellsList-unique N ss f l.list h.list l.after h.after l.placed h.handlers l.spelled h.spelled (sym l.joined ∙ h.joined)).1 in
-      let one = h.each none.0 none.1 in
-      missing l.placed (try_handler items none.0) one.0
-      (subst (λ (os : List ℕ). position os (try_handler items none.0) ≡ None) l.offsets_are none.2)
-      (subst (λ (ps : List (ℕ × Handler)). handler_at ps (try_handler items none.0) ≡ Some one.0) (sym same) one.1)),
-  e,
+  inl (
+    (λ has.
+        let h = has (omega arith) in
+        let same = (SpellsList-unique N ss f l.list h.list l.after h.after l.placed h.handlers l.spelled h.spelled (sym l.joined ∙ h.joined)).1 in
+        let one = h.each none.0 none.1 in
+        missing l.placed (try_handler items none.0) one.0
+        (subst (λ (os : List ℕ). position os (try_handler items none.0) ≡ None) l.offsets_are none.2)
+        (subst (λ (ps : List (ℕ × Handler)). handler_at ps (try_handler items none.0) ≡ Some one.0) (sym same) one.1)),
+    e,
+  ),
 )
 
 -- two facts of a refusal at once

@@ -1,11 +1,11 @@
 -- What a refusal of a code item says: the rule that is broken at its place.
 -- Page: "Dalvik Executable format", "code_item", "try_item" and "encoded_catch_handler_list".
 use Rattle.std.specs.Prelude.{ℕ, ◌≡◌, ◌+◌, ◌*◌, ◌%◌, ◌<◌, ◌≤◌, ◌⊎◌, List, ◌++◌, drop, Some}
+use Rattle.dex_base.specs.FirstFault.{or_else, or_broken}
 use Rattle.dex_base.specs.declared.fault.Fault.{Fault}
 use Rattle.dex_insn.specs.Raw.{Raw}
 use Rattle.program_types.specs.Content.{Name, Insn, Code}
 use Rattle.dex_container.specs.Where.{IsInSection, IsSectionRest}
-use Rattle.program_code_rules.specs.First.{IsFirstBroken, AllHold}
 use Rattle.code_read.specs.Walk.{starts}
 use Rattle.code_read.specs.InsnFaults.{InsnsBreak}
 use Rattle.code_read.specs.Linked.{SpellsInsns}
@@ -34,33 +34,32 @@ list_fault place = record { code = 72; place = place }
 abbrev pub try_fault : ℕ → ℕ → Fault
 try_fault base i = record { code = 71; place = base + 8 * i }
 
--- What is wrong with tries and handlers: the first try_item that breaks the rules (71), or, where none does, the list (72).
+-- What is wrong with tries and handlers: the first try_item that breaks the rules (71), or, if none does, the list (72).
 abbrev pub TriesBreak : (ℕ → Name → Type 0) → List ℕ → ℕ → ℕ → List ℕ → List ℕ → ℕ → Fault → Type 0
 TriesBreak N ss size n items rest base fault =
-    ((i : ℕ) × IsFirstBroken (TryHolds ss size items) (TryHolds ss size items) n i × (fault ≡ try_fault base i))
-    ⊎ ((0 < n) × AllHold (TryHolds ss size items) n × (¬ HasHandlers N ss n items rest) × (fault ≡ list_fault (base + 8 * n)))
+    or_broken n (TryHolds ss size items) (try_fault base) fault (
+    or_else (list_fault (base + 8 * n)) fault (0 < n → HasHandlers N ss n items rest) ⊥)
 
 -- ---- the item
 
 -- What is wrong with the item at `off` whose section has these bytes from it on: header, units, padding or try_items go past the
--- section (60), it has no units (61), its instructions are wrong, or its tries are. Each is asked only of an item with nothing of
--- what stands before it here.
+-- section (60), it has no units (61), its instructions are wrong, or its tries are.
 abbrev pub ItemBreaks : (ℕ → Name → Type 0) → ℕ → List ℕ → Fault → Type 0
 ItemBreaks N off bytes fault =
-    ((¬ HasFixedParts bytes) × (fault ≡ record { code = 60; place = off }))
-    ⊎ (HasFixedParts bytes × (insns_size bytes ≡ 0) × (fault ≡ record { code = 61; place = off }))
-    ⊎ (HasFixedParts bytes × (0 < insns_size bytes) × InsnsBreak N (insns_bytes bytes) (off + 16) fault)
-    ⊎ (HasFixedParts bytes × (0 < insns_size bytes) × (raws : List Raw) × (is : List Insn) × SpellsInsns N (insns_bytes bytes) raws is
-    × TriesBreak N (starts raws) (insns_size bytes) (tries_of bytes) (items_of bytes) (drop (list_begin bytes) bytes) (off + tries_begin bytes) fault)
+    or_else (record { code = 60; place = off }) fault (HasFixedParts bytes) (
+    or_else (record { code = 61; place = off }) fault (0 < insns_size bytes) (
+    InsnsBreak N (insns_bytes bytes) (off + 16) fault
+    ⊎ ((raws : List Raw) × (is : List Insn) × SpellsInsns N (insns_bytes bytes) raws is
+    × TriesBreak N (starts raws) (insns_size bytes) (tries_of bytes) (items_of bytes) (drop (list_begin bytes) bytes) (off + tries_begin bytes) fault)))
 
 -- ---- the file
 
--- The place is misaligned or lies outside the section of code items (60), or it is neither and what is there is wrong.
+-- The place is misaligned or lies outside the section of code items (60), or what is there is wrong.
 abbrev pub CodeBreaks : (ℕ → Name → Type 0) → List ℕ → ℕ → Fault → Type 0
 CodeBreaks N b off fault =
-    ((¬ (off % 4 ≡ 0)) × (fault ≡ record { code = 60; place = off }))
-    ⊎ ((¬ IsInSection b 0x2001 off) × (fault ≡ record { code = 60; place = off }))
-    ⊎ ((off % 4 ≡ 0) × (end : ℕ) × (bytes : List ℕ) × IsSectionRest 0x2001 b off end bytes × ItemBreaks N off bytes fault)
+    or_else (record { code = 60; place = off }) fault (off % 4 ≡ 0) (
+    or_else (record { code = 60; place = off }) fault (IsInSection b 0x2001 off) (
+    (end : ℕ) × (bytes : List ℕ) × IsSectionRest 0x2001 b off end bytes × ItemBreaks N off bytes fault))
 
 -- ---- registers, which are looked at last
 
@@ -68,8 +67,8 @@ CodeBreaks N b off fault =
 -- first instruction that names one past them (the place is the instruction).
 abbrev pub RegistersBreak : ℕ → Code → Fault → Type 0
 RegistersBreak off c fault =
-    ((c.registers < c.ins) × (fault ≡ record { code = 73; place = off }))
-    ⊎ ((c.ins ≤ c.registers) × (at : ℕ) × IsPast c.registers c.insns at × (fault ≡ record { code = 73; place = off + 16 + 2 * at }))
+    or_else (record { code = 73; place = off }) fault (c.ins ≤ c.registers) (
+    (at : ℕ) × IsPast c.registers c.insns at × (fault ≡ record { code = 73; place = off + 16 + 2 * at }))
 
 -- A code stands at this place but for its registers.
 pub record CodeOverruns (N : ℕ → Name → Type 0) (b : List ℕ) (off : ℕ) (fault : Fault) : Type 0 where

@@ -12,7 +12,7 @@ ghost use Rattle.code_read.specs.Walk.{raw_at};
 ghost use Rattle.code_read.specs.inner.Walk.{IsTable};
 ghost use Rattle.code_read.specs.Symbols.{Says};
 ghost use Rattle.code_read.specs.Linked.{lead, NameHolds, AreLinked, KeepRules};
-ghost use Rattle.code_read.specs.InsnFaults.{Breaks, LinkedBreak, InsnsBreak};
+ghost use Rattle.code_read.specs.InsnFaults.{NamesBreak, LinkedBreak, InsnsBreak};
 ghost use Rattle.code_read.specs.Registers.{AmongAt, IsPast};
 ghost use Rattle.code_read.specs.inner.InsnReading.{IsHalfLinked, AreHalfLinked, ReadInsns};
 ghost use Rattle.code_read.specs.inner.Plain.{ArePlain};
@@ -71,7 +71,7 @@ fn half_link<'a>(
     requires table { IsTable starts.now (map raw insns.now) }
     requires base { base < 2 ^ 40 }
     ensures ok { IfOk result (λ half. AreHalfLinked (NameIsAt tables.now) (map raw insns.now) (map insn half.items)) }
-    ensures err { IfErr result (λ e. e ≢ memory → Breaks starts.now base 65 (NameHolds (NameIsAt tables.now) (map raw insns.now)) (NameHolds (NameIsAt tables.now) (map raw insns.now)) e) }
+    ensures err { IfErr result (λ e. e ≢ memory → NamesBreak (NameIsAt tables.now) (map raw insns.now) starts.now base e) }
 {
     let mut half = Vec::with_capacity(arena, insns.len())?;
     for k in 0..insns.len() {
@@ -127,7 +127,7 @@ fn link_walked<'a>(
     requires table { IsTable starts.now (map raw insns.now) }
     requires base { base < 2 ^ 40 }
     ensures ok { IfOk result (λ found. AreLinked (NameIsAt tables.now) (map raw insns.now) (map insn found.now)) }
-    ensures err { IfErr result (λ e. e ≢ memory → Breaks starts.now base 65 (NameHolds (NameIsAt tables.now) (map raw insns.now)) (NameHolds (NameIsAt tables.now) (map raw insns.now)) e) }
+    ensures err { IfErr result (λ e. e ≢ memory → NamesBreak (NameIsAt tables.now) (map raw insns.now) starts.now base e) }
 {
     let mut found = half_link(arena, tables, insns, starts, base)?;
     let origins = origins_of(alloc, &found)?;

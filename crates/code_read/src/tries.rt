@@ -6,7 +6,8 @@ ghost use Rattle.dex_base.specs.Grammar.{NoneBegins};
 ghost use Rattle.program_types.specs.View.{try};
 ghost use Rattle.tables_rows.specs.Names.{NameIsAt};
 ghost use Rattle.code_read.specs.Places.{Rises, position};
-ghost use Rattle.program_code_rules.specs.First.{AllHold, IsFirstBroken};
+ghost use Rattle.dex_base.specs.FirstFault.{FirstBroken};
+ghost use Rattle.program_code_rules.specs.First.{AllHold};
 ghost use Rattle.code_read.specs.Tries.{TryHolds};
 ghost use Rattle.code_read.specs.Item.{try_start, try_count, try_handler};
 ghost use Rattle.code_read.specs.Handlers.{SpellsList};
@@ -84,9 +85,7 @@ fn check_tries(starts: &[u32], size: u32, items: &[u8], tries: u16, base: u64) -
     requires items { length items.now ≡ 8 * tries }
     requires base { base < 2 ^ 40 }
     ensures ok { OnOk result (AllHold (TryHolds starts.now size items.now) tries) }
-    ensures err { IfErr result (λ e. (i : ℕ)
-        × IsFirstBroken (TryHolds starts.now size items.now) (TryHolds starts.now size items.now) tries i
-        × (e ≡ try_fault base i)) }
+    ensures err { IfErr result (FirstBroken tries (TryHolds starts.now size items.now) (try_fault base)) }
 {
     for i in 0..tries {
         if !try_holds(starts, size, items, i as usize) {

@@ -1,8 +1,8 @@
 -- A list of rules and a row of numbers have one first fault, and none where all hold.
-use Rattle.std.proofs.Common.{◌≡◌, ◌⊎◌, ℕ, zero, suc, ◌<◌, ◌≤◌, List, inl, inr, sym, ◌∙◌, subst, arith}
+use Rattle.std.proofs.Common.{◌≡◌, ◌⊎◌, ℕ, zero, suc, ◌<◌, ◌≤◌, List, [], ◌∷◌, length, Some, inl, inr, refl, ap, sym, ◌∙◌, subst, arith, slice_get}
 use Rattle.std.proofs.lemmas.Bool.{cases_lt}
-use Rattle.std.proofs.lemmas.Option.{same_Some}
-use Rattle.dex_base.specs.FirstFault.{or_later, or_else, AllBelow, First, or_first, EntryHolds, EntryFails, FirstEntry}
+use Rattle.std.proofs.lemmas.Option.{same_Some, slice_get_within}
+use Rattle.dex_base.specs.FirstFault.{or_later, or_else, AllBelow, First, or_first, FirstBroken, or_broken, EntryHolds, EntryFails, FirstEntry}
 
 -- ---- lists of rules
 
@@ -12,12 +12,15 @@ module _ {F : Type 0} {wanted : F} {Rule : Type 0} where
   else_clear kept after (inl x) = x.0 kept
   else_clear kept after (inr x) = after x.1
 
-  -- the first that is broken is one
+  -- the first that is broken is one; what comes after may need the rule
+  pub else_with : {e f : F} {A B : Type 0} → (Rule → A → B → e ≡ f) → or_else wanted e Rule A → or_else wanted f Rule B → e ≡ f
+  else_with after (inl x) (inl y) = x.1 ∙ sym y.1
+  else_with after (inl x) (inr y) = absurd (x.0 y.0)
+  else_with after (inr x) (inl y) = absurd (y.0 x.0)
+  else_with after (inr x) (inr y) = after x.0 x.1 y.1
+
   pub else_one : {e f : F} {A B : Type 0} → (A → B → e ≡ f) → or_else wanted e Rule A → or_else wanted f Rule B → e ≡ f
-  else_one after (inl x) (inl y) = x.1 ∙ sym y.1
-  else_one after (inl x) (inr y) = absurd (x.0 y.0)
-  else_one after (inr x) (inl y) = absurd (y.0 x.0)
-  else_one after (inr x) (inr y) = after x.1 y.1
+  else_one after = else_with (λ _. after)
 
 -- the end of a list
 pub none_one : {F : Type 0} {e f : F} → ⊥ → ⊥ → e ≡ f
@@ -74,6 +77,26 @@ module _ {F : Type 0} {n : ℕ} {Holds : ℕ → Type 0} {Breaks : ℕ → F →
   pub first_decided : ((i : ℕ) → i < n → Holds i ⊎ ((e : F) × Breaks i e)) → AllBelow n Holds ⊎ ((e : F) × First n Holds Breaks e)
   first_decided = first_up_to n (omega arith)
 
+-- ---- one rule that all keep
+
+module _ {F : Type 0} {n : ℕ} {Holds : ℕ → Type 0} {wanted : ℕ → F} where
+  pub broken_clear : {e : F} → AllBelow n Holds → FirstBroken n Holds wanted e → ⊥
+  broken_clear = first_clear (λ i x h b. b.broken h)
+
+  pub broken_one : {e f : F} → FirstBroken n Holds wanted e → FirstBroken n Holds wanted f → e ≡ f
+  broken_one = first_one (λ i x h b. b.broken h) (λ i x y p q. p.is ∙ sym q.is)
+
+  -- a line of a list
+  pub broken_later : {e f : F} {A B : Type 0} → (A → B → e ≡ f) → or_broken n Holds wanted e A → or_broken n Holds wanted f B → e ≡ f
+  broken_later = first_later (λ i x h b. b.broken h) (λ i x y p q. p.is ∙ sym q.is)
+
+  pub broken_decided : ((i : ℕ) → Holds i ⊎ (Holds i → ⊥)) → AllBelow n Holds ⊎ ((e : F) × FirstBroken n Holds wanted e)
+  broken_decided each = first_decided (λ i lt. elim (each i) [ inl hold ↦ inl hold | inr not ↦ inr (wanted i, record { broken = not; is = refl }) ])
+
+-- what is found at the number of another search for the same
+pub broken_as : {F : Type 0} {n k : ℕ} {Holds : ℕ → Type 0} (wanted : ℕ → F) → FirstBroken n Holds (λ i. i) k → FirstBroken n Holds wanted (wanted k)
+broken_as wanted x = record { number = x.number; within = x.within; breaks = record { broken = x.breaks.broken; is = ap wanted x.breaks.is }; before = x.before }
+
 -- ---- entries of a list
 
 module _ {A F : Type 0} (xs : List A) (Holds : ℕ → A → Type 0) (Breaks : ℕ → A → F → Type 0) (clear : (i : ℕ) (a : A) (x : F) → Holds i a → Breaks i a x → ⊥) where
@@ -84,3 +107,25 @@ module _ {A F : Type 0} (xs : List A) (Holds : ℕ → A → Type 0) (Breaks : �
   first_entry_one one e f = first_one entry_clear (λ i x y p q.
       let same = same_Some p.entry q.entry (sym p.there ∙ q.there) in
       one i q.entry x y (subst (λ (a : A). Breaks i a x) same p.breaks) q.breaks)
+
+some_entry : {A : Type 0} (xs : List A) (k : ℕ) → k < length xs → (x : A) × (slice_get xs k ≡ Some x)
+some_entry [] k lt = absurd (omega (arith, lt))
+some_entry (x ∷ xs) zero lt = (x, refl)
+some_entry (x ∷ xs) (suc k) lt = some_entry xs k (omega (arith, lt))
+
+-- all entries hold, or there is a first that doesn't
+pub entries_decided : {A F : Type 0} (xs : List A) (Holds : ℕ → A → Type 0) (Breaks : ℕ → A → F → Type 0) → ((i : ℕ) (a : A) → slice_get xs i ≡ Some a → Holds i a ⊎ ((e : F) × Breaks i a e))
+    → ((i : ℕ) (a : A) → slice_get xs i ≡ Some a → Holds i a) ⊎ ((e : F) × FirstEntry xs Holds Breaks e)
+entries_decided {A} {F} xs Holds Breaks each = all (first_decided entry)
+  where
+    entry : (i : ℕ) → i < length xs → EntryHolds xs Holds i ⊎ ((e : F) × EntryFails xs Breaks i e)
+    entry i lt =
+        let at = some_entry xs i lt in
+        elim (each i at.0 at.1) [
+          | inl hold ↦ inl (λ a there. subst (λ (x : A). Holds i x) (same_Some at.0 a (sym at.1 ∙ there)) hold)
+          | inr found ↦ inr (found.0, record { entry = at.0; there = at.1; breaks = found.1 })
+        ]
+
+    all : AllBelow (length xs) (EntryHolds xs Holds) ⊎ ((e : F) × FirstEntry xs Holds Breaks e) → ((i : ℕ) (a : A) → slice_get xs i ≡ Some a → Holds i a) ⊎ ((e : F) × FirstEntry xs Holds Breaks e)
+    all (inl hold) = inl (λ i a there. hold i (slice_get_within xs i a there) a there)
+    all (inr first) = inr first

@@ -22,9 +22,22 @@ pub record First {F : Type 0} (n : ℕ) (Holds : ℕ → Type 0) (Breaks : ℕ �
   pub breaks : Breaks number found
   pub before : AllBelow number Holds
 
--- A line of a list of rules that each number below n has to keep.
+-- Number i breaks the rule that each has to keep, and this is found there.
+pub record BreaksRule {F : Type 0} (Holds : ℕ → Type 0) (wanted : ℕ → F) (i : ℕ) (found : F) : Type 0 where
+  pub broken : ¬ Holds i
+  pub is : found ≡ wanted i
+
+-- Of the numbers below n the first that breaks the rule that each has to keep.
+abbrev pub FirstBroken : {F : Type 0} → ℕ → (ℕ → Type 0) → (ℕ → F) → F → Type 0
+FirstBroken n Holds wanted = First n Holds (BreaksRule Holds wanted)
+
+-- A line of a list of rules: a list of rules that each number below n has to keep.
 abbrev pub or_first : {F : Type 0} → ℕ → (ℕ → Type 0) → (ℕ → F → Type 0) → F → Type 0 → Type 0
 or_first n Holds Breaks found after = or_later (First n Holds Breaks found) (AllBelow n Holds) after
+
+-- A line of a list of rules: one that each number below n has to keep.
+abbrev pub or_broken : {F : Type 0} → ℕ → (ℕ → Type 0) → (ℕ → F) → F → Type 0 → Type 0
+or_broken n Holds wanted found after = or_later (FirstBroken n Holds wanted found) (AllBelow n Holds) after
 
 -- Entry i of a list, if it has one, holds.
 abbrev pub EntryHolds : {A : Type 0} → List A → (ℕ → A → Type 0) → ℕ → Type 0

@@ -1,5 +1,6 @@
 pub use Rattle.dex_base.specs.Fault
 pub use Rattle.dex_base.specs.Fields as DexBaseFields
+pub use Rattle.dex_base.specs.FirstFault
 pub use Rattle.dex_base.specs.Grammar
 pub use Rattle.dex_base.specs.Leb128
 pub use Rattle.dex_base.specs.Via

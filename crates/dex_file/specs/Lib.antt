@@ -2,6 +2,7 @@ pub use Rattle.dex_base.specs.Adler32
 pub use Rattle.dex_base.specs.Descriptor
 pub use Rattle.dex_base.specs.Fault
 pub use Rattle.dex_base.specs.Fields as DexBaseFields
+pub use Rattle.dex_base.specs.FirstFault
 pub use Rattle.dex_base.specs.Grammar
 pub use Rattle.dex_base.specs.Leb128
 pub use Rattle.dex_base.specs.Mutf8

@@ -11,4 +11,3 @@ pub mod Mnemonics
 pub mod Rows
 pub mod RegisterRuns
 pub mod Decided
-pub mod OneFault

@@ -32,7 +32,7 @@ stands-whole bytes at r s =
 
 -- no fault where an instruction stands
 pub stands-clear : (bytes : List ℕ) (at : ℕ) (r : Raw) (fault : Fault) → InsnStands bytes at r → IsFaultAt bytes at fault → ⊥
-stands-clear bytes at r fault s f = no_flaw f.flaw at bytes r s f.broken
+stands-clear bytes at r fault s f = no_flaw fault.code at bytes r s f.broken
 
 -- an instruction that is no payload begins with no payload's identifier
 pub not-payload : (us : List ℕ) (r : Raw) → SpellsInsn us r → is_payload r ≡ false → ¬ IsPayload us

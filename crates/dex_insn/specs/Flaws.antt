@@ -1,14 +1,13 @@
--- Which rule the units at some place break, and by which number a fault names it.
-use Rattle.std.specs.Prelude.{ℕ, ◌≡◌, ◌≢◌, ◌≤◌, ◌<◌, ◌*◌, ◌+◌, ◌%◌, Option, Some, None, List, length, drop, slice_range, if◌then◌else◌, ◌==◌, Bool, true, false, IsTrue}
+-- Which rule the units at some place break.
+use Rattle.std.specs.Prelude.{ℕ, ◌≡◌, ◌≢◌, ◌≤◌, ◌*◌, ◌+◌, ◌%◌, Option, Some, None, List, length, drop, slice_range, if◌then◌else◌, ◌==◌, Bool, true, false, IsTrue}
 use Rattle.dex_base.specs.declared.fault.Fault.{Fault}
+use Rattle.dex_base.specs.FirstFault.{or_else}
 use Rattle.dex_insn.specs.Fields.{number, field, SwitchKeysRise}
 use Rattle.dex_insn.specs.Opcodes.{format_of, units_of}
 use Rattle.dex_insn.specs.Raw.{packed_units, sparse_units, data_units}
 use Rattle.dex_insn.specs.RawInsns.{IsPayload, IsElementWidth}
 use Rattle.dex_insn.specs.declared.opcode.Format.{Format}
 use Rattle.dex_insn.specs.declared.opcode.Format.TheVariants.{F10x, F20t, F30t, F32x, F35c}
-use Rattle.dex_insn.specs.declared.flaw.Flaw.{Flaw}
-use Rattle.dex_insn.specs.declared.flaw.Flaw.TheVariants.{Missing, Opcode, Cut, NonZero, RegisterCount, OddPayload, CutHead, Width, CutPayload, KeyOrder}
 
 -- the high byte of the first unit has no field
 abbrev pub has_zero_byte : Format → Bool
@@ -35,25 +34,25 @@ payload_units us = if field us 0 8 8 == 1 then packed_units (number us 1 1)
 abbrev pub HasFormat : List ℕ → Format → Type 0
 HasFormat us format = (¬ IsPayload us) × (format_at us ≡ Some format)
 
--- a payload, at an even unit
-abbrev pub IsEvenPayload : ℕ → List ℕ → Type 0
-IsEvenPayload at us = IsPayload us × (at % 2 ≡ 0)
+-- The rule that a payload at the front of the bytes breaks. Its first unit is unit `at` of the code.
+unfoldable pub PayloadBreaks : ℕ → List ℕ → ℕ → Type 0
+PayloadBreaks at us code =
+    or_else 67 code (IsPayload us → at % 2 ≡ 0) (
+    or_else 63 code (IsPayload us → 2 * head_units us ≤ length us) (
+    or_else 67 code (number us 0 1 ≡ 0x0300 → IsElementWidth (number us 1 1)) (
+    or_else 63 code (IsPayload us → 2 * payload_units us ≤ length us) (
+    or_else 67 code (number us 0 1 ≡ 0x0200 → SwitchKeysRise (slice_range us 4 (4 + 4 * number us 1 1)) (number us 1 1)) ⊥))))
 
--- The rule that the instruction at the front of the bytes breaks, where those asked before it hold: of a plain one opcode, length,
--- zeros, count; of a payload unit, head, width, length, keys. Its first unit is unit `at` of the code.
-abbrev pub InsnBreaks : Flaw → ℕ → List ℕ → Type 0
-InsnBreaks Missing at us = length us < 2
-InsnBreaks Opcode at us = (2 ≤ length us) × (format_at us ≡ None)
-InsnBreaks Cut at us = (format : Format) × HasFormat us format × (length us < 2 * units_of format)
-InsnBreaks NonZero at us = (format : Format) × HasFormat us format × (2 * units_of format ≤ length us) × IsTrue (has_zero_byte format) × (0 < field us 0 8 8)
-InsnBreaks RegisterCount at us = HasFormat us F35c × (2 * units_of F35c ≤ length us) × (5 < field us 0 12 4)
-InsnBreaks OddPayload at us = (2 ≤ length us) × IsPayload us × (at % 2 ≡ 1)
-InsnBreaks CutHead at us = IsEvenPayload at us × (length us < 2 * head_units us)
-InsnBreaks Width at us = IsEvenPayload at us × (number us 0 1 ≡ 0x0300) × (8 ≤ length us) × (¬ IsElementWidth (number us 1 1))
-InsnBreaks CutPayload at us = IsEvenPayload at us × (2 * head_units us ≤ length us) × (number us 0 1 ≡ 0x0300 → IsElementWidth (number us 1 1))
-    × (length us < 2 * payload_units us)
-InsnBreaks KeyOrder at us = IsEvenPayload at us × (number us 0 1 ≡ 0x0200) × (2 * sparse_units (number us 1 1) ≤ length us)
-    × (¬ SwitchKeysRise (slice_range us 4 (4 + 4 * number us 1 1)) (number us 1 1))
+-- The rule that the instruction at the front of the bytes breaks: the first, a unit, an opcode, its length, zeros and count, or one
+-- of a payload.
+unfoldable pub InsnBreaks : ℕ → List ℕ → ℕ → Type 0
+InsnBreaks at us code =
+    or_else 63 code (2 ≤ length us) (
+    or_else 62 code (format_at us ≢ None) (
+    or_else 63 code ((format : Format) → HasFormat us format → 2 * units_of format ≤ length us) (
+    or_else 64 code ((format : Format) → HasFormat us format → IsTrue (has_zero_byte format) → field us 0 8 8 ≡ 0) (
+    or_else 66 code (format_at us ≡ Some F35c → field us 0 12 4 ≤ 5) (
+    PayloadBreaks at us code)))))
 
 -- Each rule is kept, asked alone.
 pub record KeepsRules (at : ℕ) (us : List ℕ) : Type 0 where
@@ -68,22 +67,7 @@ pub record KeepsRules (at : ℕ) (us : List ℕ) : Type 0 where
   pub payload : IsPayload us → 2 * payload_units us ≤ length us
   pub keys : number us 0 1 ≡ 0x0200 → SwitchKeysRise (slice_range us 4 (4 + 4 * number us 1 1)) (number us 1 1)
 
--- the number by which a fault names the rule
-abbrev pub code_of : Flaw → ℕ
-code_of Missing = 63
-code_of Opcode = 62
-code_of Cut = 63
-code_of NonZero = 64
-code_of RegisterCount = 66
-code_of OddPayload = 67
-code_of CutHead = 63
-code_of Width = 67
-code_of CutPayload = 63
-code_of KeyOrder = 67
-
--- the fault names a rule that the instruction at unit `at` breaks
+-- the fault names the rule that the instruction at unit `at` breaks
 pub record IsFaultAt (bytes : List ℕ) (at : ℕ) (fault : Fault) : Type 0 where
-  pub flaw : Flaw
-  pub code : fault.code ≡ code_of flaw
   pub place : fault.place ≡ at
-  pub broken : InsnBreaks flaw at (drop (2 * at) bytes)
+  pub broken : InsnBreaks at (drop (2 * at) bytes) fault.code

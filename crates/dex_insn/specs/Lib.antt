@@ -9,3 +9,4 @@ pub mod Written
 pub mod inner
 pub use Rattle.dex_base.specs.Fault
 pub use Rattle.dex_base.specs.Fields as DexBaseFields
+pub use Rattle.dex_base.specs.FirstFault

@@ -30,7 +30,7 @@ pub(crate) enum Flaw {
 }
 
 impl Flaw {
-    ghost use Rattle.dex_insn.specs.Flaws.{code_of};
+    ghost use Rattle.dex_insn.specs.inner.Flaws.{code_of};
 
     /// The number of the fault.
     pub(crate) fn code(self) -> u16

@@ -4,7 +4,8 @@ ghost use Rattle.std.specs.Prelude.{ℕ, ◌≡◌, ◌≤◌, ◌+◌, ◌*◌,
 ghost use Rattle.dex_insn.specs.Fields.{number, field, SwitchKeysRise};
 ghost use Rattle.dex_insn.specs.Raw.{raw};
 ghost use Rattle.dex_insn.specs.RawInsns.{SpellsInsn, IsElementWidth};
-ghost use Rattle.dex_insn.specs.Flaws.{InsnBreaks};
+ghost use Rattle.dex_insn.specs.Flaws.{PayloadBreaks};
+ghost use Rattle.dex_insn.specs.inner.Flaws.{code_of};
 
 use crate::flaw::Flaw;
 use crate::raw::RawInsn;
@@ -26,12 +27,12 @@ fn rises(keys: &[u8], n: usize) -> bool
 }
 
 /// Reads the packed-switch payload at the front of the bytes.
-#[tactic(auto, unfolding(crate::specs::Raw::raw))]
+#[tactic(auto, unfolding(crate::specs::Raw::raw, crate::specs::Flaws::PayloadBreaks))]
 pub(crate) fn read_packed(front: &[u8]) -> Result<RawInsn<'_>, Flaw>
     requires long { 2 ≤ length front.now }
     requires identifier { number front.now 0 1 ≡ 0x0100 }
     ensures ok { IfOk result (λ insn. SpellsInsn front.now (raw insn)) }
-    ensures err { IfErr result (λ flaw. (at : ℕ) → at % 2 ≡ 0 → InsnBreaks flaw at front.now) }
+    ensures err { IfErr result (λ flaw. (at : ℕ) → at % 2 ≡ 0 → PayloadBreaks at front.now (code_of flaw)) }
 {
     if front.len() < 4 {
         return Err(Flaw::CutHead);
@@ -47,12 +48,12 @@ pub(crate) fn read_packed(front: &[u8]) -> Result<RawInsn<'_>, Flaw>
 }
 
 /// Reads the sparse-switch payload at the front of the bytes.
-#[tactic(auto, unfolding(crate::specs::Raw::raw))]
+#[tactic(auto, unfolding(crate::specs::Raw::raw, crate::specs::Flaws::PayloadBreaks))]
 pub(crate) fn read_sparse(front: &[u8]) -> Result<RawInsn<'_>, Flaw>
     requires long { 2 ≤ length front.now }
     requires identifier { number front.now 0 1 ≡ 0x0200 }
     ensures ok { IfOk result (λ insn. SpellsInsn front.now (raw insn)) }
-    ensures err { IfErr result (λ flaw. (at : ℕ) → at % 2 ≡ 0 → InsnBreaks flaw at front.now) }
+    ensures err { IfErr result (λ flaw. (at : ℕ) → at % 2 ≡ 0 → PayloadBreaks at front.now (code_of flaw)) }
 {
     if front.len() < 4 {
         return Err(Flaw::CutHead);
@@ -79,12 +80,12 @@ fn is_width(width: u16) -> bool
 }
 
 /// Reads the array payload at the front of the bytes.
-#[tactic(auto, unfolding(crate::specs::Raw::raw))]
+#[tactic(auto, unfolding(crate::specs::Raw::raw, crate::specs::Flaws::PayloadBreaks))]
 pub(crate) fn read_data(front: &[u8]) -> Result<RawInsn<'_>, Flaw>
     requires long { 2 ≤ length front.now }
     requires identifier { number front.now 0 1 ≡ 0x0300 }
     ensures ok { IfOk result (λ insn. SpellsInsn front.now (raw insn)) }
-    ensures err { IfErr result (λ flaw. (at : ℕ) → at % 2 ≡ 0 → InsnBreaks flaw at front.now) }
+    ensures err { IfErr result (λ flaw. (at : ℕ) → at % 2 ≡ 0 → PayloadBreaks at front.now (code_of flaw)) }
 {
     if front.len() < 8 {
         return Err(Flaw::CutHead);

@@ -4,6 +4,7 @@ ghost use Rattle.std.specs.Prelude.{ℕ, ◌≡◌, ◌≤◌, length, IfOk, IfE
 ghost use Rattle.dex_insn.specs.Raw.{Raw};
 ghost use Rattle.dex_insn.specs.RawInsns.{SpellsInsn, IsPayload, register};
 ghost use Rattle.dex_insn.specs.Flaws.{InsnBreaks};
+ghost use Rattle.dex_insn.specs.inner.Flaws.{code_of};
 
 use crate::columns::format_of;
 use crate::flaw::Flaw;
@@ -15,12 +16,12 @@ use crate::units::{four_units, high_byte, low_byte, signed_nibble, signed_unit, 
 /// Reads the instruction at the front of the bytes, which isn't a payload, and answers what is made of it.
 #[inline(always)]
 #[rattlefmt::skip]
-#[tactic(auto, unfolding(crate::specs::Raw::raw))]
+#[tactic(auto, using(crate::proofs::Flaws::unused, crate::proofs::Flaws::count), unfolding(crate::specs::Raw::raw))]
 pub(crate) fn take_plain<'b, V: Take<'b>>(front: &'b [u8], v: V) -> Result<V::Out, Flaw>
     requires long { 2 ≤ length front.now }
     requires plain { ¬ IsPayload front.now }
     ensures ok { IfOk result (λ out. (r : Raw) × SpellsInsn front.now r × V.takes v r out) }
-    ensures err { IfErr result (λ flaw. (at : ℕ) → InsnBreaks flaw at front.now) }
+    ensures err { IfErr result (λ flaw. (at : ℕ) → InsnBreaks at front.now (code_of flaw)) }
 {
     let first = unit(front, 0);
     let (op, high) = (low_byte(first), high_byte(first));

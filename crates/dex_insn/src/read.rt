@@ -3,7 +3,8 @@
 ghost use Rattle.std.specs.Prelude.{◌≡◌, ◌≤◌, length, IfOk, IfErr, IsOk, IsOkAnd, ◌%◌};
 ghost use Rattle.dex_insn.specs.Raw.{Raw, raw};
 ghost use Rattle.dex_insn.specs.RawInsns.{SpellsInsn, IsPayload, InsnStands};
-ghost use Rattle.dex_insn.specs.Flaws.{InsnBreaks, IsFaultAt, code_of};
+ghost use Rattle.dex_insn.specs.Flaws.{InsnBreaks, IsFaultAt};
+ghost use Rattle.dex_insn.specs.inner.Flaws.{code_of};
 
 use crate::flaw::Flaw;
 use crate::payload::{read_data, read_packed, read_sparse};
@@ -15,11 +16,12 @@ use dex_base::Fault;
 
 /// Reads the instruction or payload at the front of the bytes, whose first unit is unit `at`, and answers what is made of it.
 #[inline(always)]
+#[tactic(auto, using(crate::proofs::Flaws::odd_payload, crate::proofs::Flaws::payload))]
 fn take_front<'b, V: Take<'b>>(front: &'b [u8], at: u32, v: V) -> Result<V::Out, Flaw>
     requires long { 2 ≤ length front.now }
     ensures ok { IfOk result (λ out. (r : Raw) × SpellsInsn front.now r × V.takes v r out) }
     ensures even { IfOk result (λ out. IsPayload front.now → at % 2 ≡ 0) }
-    ensures err { IfErr result (λ flaw. InsnBreaks flaw at front.now) }
+    ensures err { IfErr result (λ flaw. InsnBreaks at front.now (code_of flaw)) }
 {
     match unit(front, 0) {
         0x0100 | 0x0200 | 0x0300 if at % 2 == 1 => Err(Flaw::OddPayload),

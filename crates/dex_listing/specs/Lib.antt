@@ -1,5 +1,6 @@
 pub use Rattle.dex_base.specs.Descriptor
 pub use Rattle.dex_base.specs.Fault
+pub use Rattle.dex_base.specs.FirstFault
 pub use Rattle.dex_insn.specs.Mnemonics
 pub use Rattle.dex_insn.specs.Opcodes
 pub use Rattle.dex_insn.specs.RawInsns

@@ -2,6 +2,7 @@
 use Rattle.std.proofs.Common.{◌≡◌, ℕ, ◌+◌, ◌-◌, ◌≤◌, inl, inr, List, [], length, take, drop, None, sym, ap, ◌∙◌, subst, arith}
 use Rattle.std.proofs.lemmas.List.{take-take, take-append-drop}
 use Rattle.dex_base.specs.declared.fault.Fault.{Fault}
+use Rattle.dex_base.proofs.FirstFaultLaws.{later_clear}
 use Rattle.dex_container.specs.Frame.{IsFramed}
 use Rattle.dex_container.proofs.Framed.{IsSection-one}
 use Rattle.program_types.specs.Content.{Name, Value}
@@ -77,18 +78,15 @@ module _ (b : List ℕ) (framed : IsFramed b) where
 
   -- and so of both passes
   module _ (Holds : List ℕ → ℕ → Type 0) (Fails : List ℕ → ℕ → Fault → Type 0) (clear : (place : ℕ) (e : Fault) → Holds b place → Fails b place e → ⊥) where
-    codes_clear : (es : List MethodEntry) (e : Fault) → EachCodeHolds Holds b es → SomeCodeFails Holds Fails b es e → ⊥
-    codes_clear es e h m = clear m.numbers.1.1 e (h m.entry m.numbers m.there) m.fails
+    pub codes_clear : (es : List MethodEntry) (e : Fault) → EachCodeHolds Holds b es → SomeCodeFails Holds Fails b es e → ⊥
+    codes_clear es e h m = clear m.breaks.entry.1.1 e (h m.number m.breaks.entry m.breaks.there) m.breaks.breaks
 
     both_clear : (i : ℕ) (e : Fault) → ClassCodesHold Holds b i → MethodsBreak Holds Fails b i e → ⊥
     both_clear i e h m =
         let same = entries_one b framed (class_word b i 6) h.entries m.entries h.class_data m.class_data in
         let directs = subst (λ (x : Entries). EachCodeHolds Holds b x.directs) same h.directs in
         let virtuals = subst (λ (x : Entries). EachCodeHolds Holds b x.virtuals) same h.virtuals in
-        elim m.breaks [
-          | inl p ↦ codes_clear m.entries.directs e directs p
-          | inr p ↦ codes_clear m.entries.virtuals e virtuals p.1
-        ]
+        later_clear (codes_clear m.entries.directs e) (codes_clear m.entries.virtuals e virtuals) directs m.breaks
 
   pub bodies_clear : (i : ℕ) (e : Fault) → BodiesHold b i → BodiesBreak b i e → ⊥
   bodies_clear = both_clear BodyHolds BodyFails body_clear

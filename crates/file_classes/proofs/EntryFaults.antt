@@ -1,11 +1,10 @@
 -- Entries hold, or the first that doesn't breaks one rule.
-use Rattle.std.proofs.Common.{◌≡◌, ℕ, ◌<◌, ◌≤◌, inl, inr, List, length, refl, sym, ap, ◌∙◌, subst, arith}
-use Rattle.std.proofs.lemmas.Bool.{cases_lt}
+use Rattle.std.proofs.Common.{◌≡◌, ℕ, ◌<◌, ◌≤◌, List, length, refl, sym, ap, ◌∙◌, arith}
 use Rattle.std.proofs.lemmas.List.{length-map}
 use Rattle.dex_container.specs.Frame.{IsFramed}
 use Rattle.dex_container.specs.Layout.{size_of}
 use Rattle.program_types.specs.Content.{Units, Member, Method}
-use Rattle.tables_rows.proofs.Asked.{else_clear, else_one}
+use Rattle.dex_base.proofs.FirstFaultLaws.{else_clear, else_one, none_one, later_clear, later_one, first_clear, first_one}
 use Rattle.tables_rows.proofs.NameLaws.{field_one, method_one}
 use Rattle.file_classes.specs.ClassData.{FieldEntry, MethodEntry, Entries, steps, index_of, FirstEntriesAre, EntriesAre}
 use Rattle.file_classes.specs.Classes.{IsField, IsMethod}
@@ -53,22 +52,14 @@ module _ (IsOwner : ℕ → Units → Type 0) (size : ℕ) (row : (k : ℕ) (t :
   entry_clear k code h = else_clear (row (index_of differences k) class h.owned) (else_clear h.owned (else_clear h.rises (λ none. none)))
 
   entry_number : (k m n : ℕ) → EntryBreaks IsOwner size class differences k m → EntryBreaks IsOwner size class differences k n → m ≡ n
-  entry_number k m n = else_one (else_one (else_one (λ none _. absurd none)))
+  entry_number k m n = else_one (else_one (else_one none_one))
 
   entries_clear : (code : ℕ) → MemberEntriesHold IsOwner class differences → EntriesBreak IsOwner size class differences code → ⊥
-  entries_clear code hold b = entry_clear b.entry code (hold b.entry b.within) b.breaks
+  entries_clear code = first_clear entry_clear
 
   -- and of a list the first
   entries_number : (m n : ℕ) → EntriesBreak IsOwner size class differences m → EntriesBreak IsOwner size class differences n → m ≡ n
-  entries_number m n x y = elim (cases_lt x.entry y.entry) [
-    | inl less ↦ absurd (entry_clear x.entry m (y.before x.entry less) x.breaks)
-    | inr ge ↦ elim (cases_lt y.entry x.entry) [
-      | inl more ↦ absurd (entry_clear y.entry n (x.before y.entry more) y.breaks)
-      | inr le ↦
-          let same : x.entry ≡ y.entry = omega (arith, ge, le) in
-          entry_number y.entry m n (subst (λ (k : ℕ). EntryBreaks IsOwner size class differences k m) same x.breaks) y.breaks
-    ]
-  ]
+  entries_number m n = first_one entry_clear entry_number
 
 -- ---- a member is of one class
 
@@ -108,19 +99,13 @@ module _ (b : List ℕ) where
     methods_number es m n = entries_number (MethodOwner b) (size_of b 4) method_row class (steps es) m n
 
     pub members_clear : (code : ℕ) → MembersHold b class e → MembersBreak b class e code → ⊥
-    members_clear code h (inl p) = fields_clear e.statics code h.statics p
-    members_clear code h (inr (_, inl p)) = fields_clear e.instances code h.instances p
-    members_clear code h (inr (_, inr (_, inl p))) = methods_clear e.directs code h.directs p
-    members_clear code h (inr (_, inr (_, inr (_, p)))) = methods_clear e.virtuals code h.virtuals p
+    members_clear code h =
+        later_clear (fields_clear e.statics code) (
+        later_clear (fields_clear e.instances code) (
+        later_clear (methods_clear e.directs code) (methods_clear e.virtuals code h.virtuals) h.directs) h.instances) h.statics
 
     pub members_number : (m n : ℕ) → MembersBreak b class e m → MembersBreak b class e n → m ≡ n
-    members_number m n (inl x) (inl y) = fields_number e.statics m n x y
-    members_number m n (inl x) (inr y) = absurd (fields_clear e.statics m y.0 x)
-    members_number m n (inr x) (inl y) = absurd (fields_clear e.statics n x.0 y)
-    members_number m n (inr (_, inl x)) (inr (_, inl y)) = fields_number e.instances m n x y
-    members_number m n (inr (_, inl x)) (inr (_, inr y)) = absurd (fields_clear e.instances m y.0 x)
-    members_number m n (inr (_, inr x)) (inr (_, inl y)) = absurd (fields_clear e.instances n x.0 y)
-    members_number m n (inr (_, inr (_, inl x))) (inr (_, inr (_, inl y))) = methods_number e.directs m n x y
-    members_number m n (inr (_, inr (_, inl x))) (inr (_, inr (_, inr y))) = absurd (methods_clear e.directs m y.0 x)
-    members_number m n (inr (_, inr (_, inr x))) (inr (_, inr (_, inl y))) = absurd (methods_clear e.directs n x.0 y)
-    members_number m n (inr (_, inr (_, inr x))) (inr (_, inr (_, inr y))) = methods_number e.virtuals m n x.1 y.1
+    members_number m n =
+        later_one (fields_clear e.statics m) (fields_clear e.statics n) (fields_number e.statics m n) (
+        later_one (fields_clear e.instances m) (fields_clear e.instances n) (fields_number e.instances m n) (
+        later_one (methods_clear e.directs m) (methods_clear e.directs n) (methods_number e.directs m n) (methods_number e.virtuals m n)))

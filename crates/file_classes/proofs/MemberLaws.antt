@@ -9,7 +9,8 @@ use Rattle.program_types.specs.Content.{Units, FieldRef, Method}
 use Rattle.tables_rows.specs.Stands.{FieldStands, MethodStands}
 use Rattle.file_classes.specs.ClassData.{FieldEntry, MethodEntry, Entries, EntriesAt, steps, index_of, FirstEntriesAre, EntriesAre}
 use Rattle.tables_rows.specs.RowFields.{row_place}
-use Rattle.tables_rows.specs.TableFaults.{or_else, BreaksAt}
+use Rattle.dex_base.specs.FirstFault.{or_else}
+use Rattle.tables_rows.specs.TableFaults.{BreaksAt}
 use Rattle.file_classes.specs.ClassRows.{class_word, InOrder}
 use Rattle.file_classes.specs.ClassFaults.{MemberEntryHolds, EntryBreaks, ClassRowBreaks, ClassRowHolds}
 use Rattle.file_classes.proofs.EntryLaws.{entry_at}
@@ -73,7 +74,7 @@ module _ {E R : Type 0} (view : E → ℕ × R) where
       -- a fault of the row at the next index is one of the list
       pub index_fails : (e : Fault) → IndexFails IsOwner size class (index + step) place e → EntriesFail IsOwner size class (steps (map view es)) place e
       index_fails e f = record {
-        breaks = record { entry = k; within = inside; breaks = entry_breaks IsOwner size class (steps (map view es)) k (index + step) e.code (next_index index step last at) f.breaks; before = before };
+        breaks = record { number = k; within = inside; breaks = entry_breaks IsOwner size class (steps (map view es)) k (index + step) e.code (next_index index step last at) f.breaks; before = before };
         there = f.there;
       }
 
@@ -81,7 +82,7 @@ module _ {E R : Type 0} (view : E → ℕ × R) where
       pub step_fails : index + step < size → IsOwner (index + step) class → 0 < k → (view (get_or es k d)).0 ≡ 0 → EntriesFail IsOwner size class (steps (map view es)) place (record { code = 47; place = place })
       step_fails row owned some zero_step = record {
         breaks = record {
-          entry = k;
+          number = k;
           within = inside;
           breaks = inr (
             subst (λ (i : ℕ). i < size) (next_index index step last at) row,

@@ -55,7 +55,12 @@ module _ (b : List ℕ) (ms : List Bare) where
   }
 
   pub done_breaks : (n : ℕ) (vs : List Method) (m : Bare) (e : Fault) → AreDone b ms n vs → slice_get ms n ≡ Some m → BodyFails b m.code e → FirstCodeBreaks BodyHolds BodyFails b ms e
-  done_breaks n vs m e done there fails = record { entry = n; one = m; there = there; fails = fails; before = λ k x lt p. done.hold k x lt p }
+  done_breaks n vs m e done there fails = record {
+    number = n;
+    within = slice_get_within ms n m there;
+    breaks = record { entry = m; there = there; breaks = fails };
+    before = λ k lt x p. done.hold k x lt p;
+  }
 
   module _ (es : List MethodEntry) (codes : HaveCodes es ms) (size : length ms ≡ length es) where
     other : (k : ℕ) (e : MethodEntry) → slice_get es k ≡ Some e → (m : Bare) × (slice_get ms k ≡ Some m)
@@ -77,13 +82,13 @@ module _ (b : List ℕ) (ms : List Bare) where
 
       pub codes_break : (Fails : List ℕ → ℕ → Fault → Type 0) (e : Fault) → FirstCodeBreaks Holds Fails b ms e → SomeCodeFails Holds Fails b es e
       codes_break Fails e f =
-          let x = same f.entry f.one f.there in
+          let one = f.breaks in
+          let x = same f.number one.entry one.there in
           record {
-            entry = f.entry;
-            numbers = x.0;
-            there = x.1;
-            fails = subst (λ (n : ℕ). Fails b n e) (codes f.entry x.0 f.one x.1 f.there) f.fails;
-            before = λ k y lt at. let m = other k y at in subst (λ (n : ℕ). Holds b n) (codes k y m.0 at m.1) (f.before k m.0 lt m.1);
+            number = f.number;
+            within = slice_get_within es f.number x.0 x.1;
+            breaks = record { entry = x.0; there = x.1; breaks = subst (λ (n : ℕ). Fails b n e) (codes f.number x.0 one.entry x.1 one.there) one.breaks };
+            before = λ k lt y at. let m = other k y at in subst (λ (n : ℕ). Holds b n) (codes k y m.0 at m.1) (f.before k lt m.0 m.1);
           }
 
     pub done_hold : (vs : List Method) → AreDone b ms (length ms) vs → EachCodeHolds BodyHolds b es
@@ -237,7 +242,7 @@ module _ (b : List ℕ) (ms : List Bare) where
   ]
 
   pub bares_break : (Holds : List ℕ → ℕ → Type 0) (Fails : List ℕ → ℕ → Fault → Type 0) (n : ℕ) (m : Bare) (e : Fault) → n < length ms → m ≡ get_or ms n no_bare → CodesHoldUpTo Holds b ms n → Fails b m.code e → FirstCodeBreaks Holds Fails b ms e
-  bares_break Holds Fails n m e lt is all fails = record { entry = n; one = m; there = bare_there n m lt is; fails = fails; before = λ k x l at. all k x l at }
+  bares_break Holds Fails n m e lt is all fails = record { number = n; within = lt; breaks = record { entry = m; there = bare_there n m lt is; breaks = fails }; before = λ k l x at. all k x l at }
 
   pub up_more : (n : ℕ) (m : Bare) (o : Option Fault) → n < length ms → m ≡ get_or ms n no_bare → CodesUpTo CodeHolds RegistersFail b ms n None → IfNone o (CodeHolds b m.code) → IfSome o (RegistersFail b m.code) → CodesUpTo CodeHolds RegistersFail b ms (n + 1) o
   up_more n m None lt is u h f = record { none = bares_more CodeHolds n m lt is u.none h; some = tt }

@@ -1,8 +1,8 @@
 -- Of the passes over class rows each has one first fault.
-use Rattle.std.proofs.Common.{◌≡◌, ℕ, ◌⊎◌, inl, inr, List, length, sym, ap, ◌∙◌, subst, arith, slice_get}
-use Rattle.std.proofs.lemmas.Bool.{cases_lt}
-use Rattle.std.proofs.lemmas.Option.{same_Some}
+use Rattle.std.proofs.Common.{◌≡◌, ℕ, List, length, sym, ap, ◌∙◌, subst}
 use Rattle.dex_base.specs.declared.fault.Fault.{Fault}
+use Rattle.dex_base.specs.FirstFault.{or_later}
+use Rattle.dex_base.proofs.FirstFaultLaws.{later_one, first_entry_one}
 use Rattle.dex_container.specs.Frame.{IsFramed}
 use Rattle.tables_rows.specs.Names.{Names, NameIsAt}
 use Rattle.tables_rows.specs.RowFields.{row_place}
@@ -15,9 +15,9 @@ use Rattle.code_read.proofs.StandLaws.{NameIsAt-functional as code_names}
 use Rattle.code_read.proofs.OneItemFault.{code_one_fault, registers_one_fault}
 use Rattle.file_classes.specs.ClassRows.{class_word}
 use Rattle.file_classes.specs.ClassData.{MethodEntry, Entries}
-use Rattle.file_classes.specs.ClassFaults.{at_row, ValuesBreak, BodyHolds, BodyFails, CodeHolds, RegistersFail, EachCodeHolds, SomeCodeFails, MethodsBreak, BodiesBreak, RowRegistersBreak, IsFirstClass}
+use Rattle.file_classes.specs.ClassFaults.{at_row, ValuesBreak, BodyHolds, BodyFails, CodeHolds, RegistersFail, EachCodeHolds, SomeCodeFails, MethodsBreak, BodiesBreak, RowRegistersBreak}
 use Rattle.file_classes.proofs.EntryLaws.{entries_one}
-use Rattle.file_classes.proofs.ClearLaws.{body_clear, registers_clear}
+use Rattle.file_classes.proofs.ClearLaws.{body_clear, registers_clear, codes_clear}
 
 -- ---- of a row
 
@@ -46,29 +46,14 @@ module _ (b : List ℕ) (framed : IsFramed b) where
   module _ (Holds : List ℕ → ℕ → Type 0) (Fails : List ℕ → ℕ → Fault → Type 0) (clear : (place : ℕ) (e : Fault) → Holds b place → Fails b place e → ⊥)
       (one : (place : ℕ) (e f : Fault) → Fails b place e → Fails b place f → e ≡ f) where
     codes_one_fault : (es : List MethodEntry) (e f : Fault) → SomeCodeFails Holds Fails b es e → SomeCodeFails Holds Fails b es f → e ≡ f
-    codes_one_fault es e f x y = elim (cases_lt x.entry y.entry) [
-      | inl less ↦ absurd (clear x.numbers.1.1 e (y.before x.entry x.numbers less x.there) x.fails)
-      | inr ge ↦ elim (cases_lt y.entry x.entry) [
-        | inl more ↦ absurd (clear y.numbers.1.1 f (x.before y.entry y.numbers more y.there) y.fails)
-        | inr le ↦
-            let same : x.entry ≡ y.entry = omega (arith, ge, le) in
-            let numbers = same_Some x.numbers y.numbers (sym x.there ∙ ap (λ (k : ℕ). slice_get es k) same ∙ y.there) in
-            one y.numbers.1.1 e f (subst (λ (m : MethodEntry). Fails b m.1.1 e) numbers x.fails) y.fails
-      ]
-    ]
-
-    refuted : (es : List MethodEntry) (e : Fault) → EachCodeHolds Holds b es → SomeCodeFails Holds Fails b es e → ⊥
-    refuted es e all x = clear x.numbers.1.1 e (all x.entry x.numbers x.there) x.fails
+    codes_one_fault es = first_entry_one es (λ k m. Holds b m.1.1) (λ k m. Fails b m.1.1) (λ k m e. clear m.1.1 e) (λ k m e f. one m.1.1 e f)
 
     -- direct methods, then virtual ones
     abbrev Both : Entries → Fault → Type 0
-    Both z e = SomeCodeFails Holds Fails b z.directs e ⊎ (EachCodeHolds Holds b z.directs × SomeCodeFails Holds Fails b z.virtuals e)
+    Both z e = or_later (SomeCodeFails Holds Fails b z.directs e) (EachCodeHolds Holds b z.directs) (SomeCodeFails Holds Fails b z.virtuals e)
 
     both_one_fault : (z : Entries) (e f : Fault) → Both z e → Both z f → e ≡ f
-    both_one_fault z e f (inl x) (inl y) = codes_one_fault z.directs e f x y
-    both_one_fault z e f (inl x) (inr y) = absurd (refuted z.directs e y.0 x)
-    both_one_fault z e f (inr x) (inl y) = absurd (refuted z.directs f x.0 y)
-    both_one_fault z e f (inr x) (inr y) = codes_one_fault z.virtuals e f x.1 y.1
+    both_one_fault z e f = later_one (codes_clear b framed Holds Fails clear z.directs e) (codes_clear b framed Holds Fails clear z.directs f) (codes_one_fault z.directs e f) (codes_one_fault z.virtuals e f)
 
     methods_one_fault : (i : ℕ) (e f : Fault) → MethodsBreak Holds Fails b i e → MethodsBreak Holds Fails b i f → e ≡ f
     methods_one_fault i e f x y =
@@ -80,17 +65,3 @@ module _ (b : List ℕ) (framed : IsFramed b) where
 
   pub registers_of_row_one_fault : (i : ℕ) (e f : Fault) → RowRegistersBreak b i e → RowRegistersBreak b i f → e ≡ f
   registers_of_row_one_fault = methods_one_fault CodeHolds RegistersFail (registers_clear b framed) register_one_fault
-
--- ---- of all rows
-
-pub first_class_one : (Breaks : List ℕ → ℕ → Fault → Type 0) (Holds : List ℕ → ℕ → Type 0) (b : List ℕ) → ((i : ℕ) (e : Fault) → Holds b i → Breaks b i e → ⊥) → ((i : ℕ) (e f : Fault) → Breaks b i e → Breaks b i f → e ≡ f)
-    → (e f : Fault) → IsFirstClass Breaks Holds b e → IsFirstClass Breaks Holds b f → e ≡ f
-first_class_one Breaks Holds b clear one e f x y = elim (cases_lt x.row y.row) [
-  | inl less ↦ absurd (clear x.row e (y.before x.row less) x.broken)
-  | inr ge ↦ elim (cases_lt y.row x.row) [
-    | inl more ↦ absurd (clear y.row f (x.before y.row more) y.broken)
-    | inr le ↦
-        let row : x.row ≡ y.row = omega (arith, ge, le) in
-        one y.row e f (subst (λ (i : ℕ). Breaks b i e) row x.broken) y.broken
-  ]
-]

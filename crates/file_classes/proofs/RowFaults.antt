@@ -6,7 +6,7 @@ use Rattle.dex_container.specs.Frame.{IsFramed}
 use Rattle.dex_container.specs.Layout.{size_of}
 use Rattle.program_types.specs.Content.{Units}
 use Rattle.tables_rows.specs.Stands.{StringStands, TypeStands}
-use Rattle.tables_rows.proofs.Asked.{else_clear, else_one}
+use Rattle.dex_base.proofs.FirstFaultLaws.{else_clear, else_one}
 use Rattle.tables_rows.proofs.TypeLists.{type_one}
 use Rattle.file_classes.specs.ClassRows.{class_word, no_index, IndexOrNone, InOrder}
 use Rattle.file_classes.specs.ClassData.{Entries, EntriesAt}

@@ -76,4 +76,4 @@ other_fault place own e is ne same = ne (is ∙ ap (at_row place) same)
 
 -- the fault of a row, where the rows before hold
 pub first_class : (Breaks : List ℕ → ℕ → Fault → Type 0) (Holds : List ℕ → ℕ → Type 0) (b : List ℕ) (i : ℕ) (e : Fault) → i < size_of b 5 → RowsHold Holds b i → Breaks b i e → IsFirstClass Breaks Holds b e
-first_class Breaks Holds b i e within before broken = record { row = i; within = within; broken = broken; before = before }
+first_class Breaks Holds b i e within before broken = record { number = i; within = within; breaks = broken; before = before }

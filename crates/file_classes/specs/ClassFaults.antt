@@ -1,7 +1,8 @@
 -- The faults of class rows, static values, code and its registers. Each is stated so that it has a meaning for any file; it
 -- is asked only where the groups before, and the rows before, hold.
-use Rattle.std.specs.Prelude.{◌≡◌, ◌≢◌, ℕ, ◌<◌, ◌⊎◌, ◌==◌, ◌||◌, if◌then◌else◌, MatchBool, None, List, length, Option, Some, slice_index}
+use Rattle.std.specs.Prelude.{◌≡◌, ◌≢◌, ℕ, ◌<◌, ◌==◌, ◌||◌, if◌then◌else◌, MatchBool, None, List, length, Option, Some, slice_index}
 use Rattle.std.specs.List.{slice_get}
+use Rattle.dex_base.specs.FirstFault.{or_later, or_else, First, FirstEntry}
 use Rattle.dex_base.specs.declared.fault.Fault.{Fault}
 use Rattle.dex_container.specs.Layout.{size_of}
 use Rattle.dex_container.specs.Frame.{IsFramed}
@@ -11,7 +12,7 @@ use Rattle.tables_rows.specs.RowFields.{row_place}
 use Rattle.tables_rows.specs.Names.{Names, AreNamesOf, NameIsAt}
 use Rattle.tables_rows.specs.Sorted.{RowsHold, TablesHold}
 use Rattle.tables_rows.specs.Stands.{TypeStands, FieldStands, MethodStands, NameStands}
-use Rattle.tables_rows.specs.TableFaults.{or_else, IsFirstRow}
+use Rattle.tables_rows.specs.TableFaults.{IsFirstRow}
 use Rattle.dex_value.specs.Faults.{ArrayBreaksAt}
 use Rattle.code_read.specs.Code.{BodyStands}
 use Rattle.code_read.specs.Faults.{CodeBreaks, CodeOverruns}
@@ -59,11 +60,9 @@ MemberEntriesHold IsOwner class differences =
     (k : ℕ) → k < length differences → MemberEntryHolds IsOwner class differences k
 
 -- The first entry of a list that breaks a rule.
-pub record EntriesBreak (IsOwner : ℕ → Units → Type 0) (size : ℕ) (class : Units) (differences : List ℕ) (code : ℕ) : Type 0 where
-  pub entry : ℕ
-  pub within : entry < length differences
-  pub breaks : EntryBreaks IsOwner size class differences entry code
-  pub before : (k : ℕ) → k < entry → MemberEntryHolds IsOwner class differences k
+abbrev pub EntriesBreak : (ℕ → Units → Type 0) → ℕ → Units → List ℕ → ℕ → Type 0
+EntriesBreak IsOwner size class differences =
+    First (length differences) (MemberEntryHolds IsOwner class differences) (EntryBreaks IsOwner size class differences)
 
 -- Each of these is a field of the class, and their indices rise.
 abbrev pub FieldEntriesHold : List ℕ → Units → List FieldEntry → Type 0
@@ -84,10 +83,10 @@ MethodEntriesBreak b class es code = EntriesBreak (MethodOwner b) (size_of b sec
 -- The first of the four lists that doesn't: static fields, instance fields, direct methods, virtual methods.
 abbrev pub MembersBreak : List ℕ → Units → Entries → ℕ → Type 0
 MembersBreak b class e code =
-    FieldEntriesBreak b class e.statics code
-    ⊎ (FieldEntriesHold b class e.statics × (FieldEntriesBreak b class e.instances code
-    ⊎ (FieldEntriesHold b class e.instances × (MethodEntriesBreak b class e.directs code
-    ⊎ (MethodEntriesHold b class e.directs × MethodEntriesBreak b class e.virtuals code)))))
+    or_later (FieldEntriesBreak b class e.statics code) (FieldEntriesHold b class e.statics) (
+    or_later (FieldEntriesBreak b class e.instances code) (FieldEntriesHold b class e.instances) (
+    or_later (MethodEntriesBreak b class e.directs code) (MethodEntriesHold b class e.directs) (
+    MethodEntriesBreak b class e.virtuals code)))
 
 -- 45 to 47: an entry of the row's class data breaks one.
 pub record MemberBreaks (b : List ℕ) (i code : ℕ) : Type 0 where
@@ -184,13 +183,9 @@ pub record RegistersFail (b : List ℕ) (place : ℕ) (fault : Fault) : Type 0 w
 abbrev pub EachCodeHolds : (List ℕ → ℕ → Type 0) → List ℕ → List MethodEntry → Type 0
 EachCodeHolds Holds b es = (k : ℕ) (e : MethodEntry) → slice_get es k ≡ Some e → Holds b (code_off e)
 
--- The first of a list that doesn't, and its fault.
-pub record SomeCodeFails (Holds : List ℕ → ℕ → Type 0) (Fails : List ℕ → ℕ → Fault → Type 0) (b : List ℕ) (es : List MethodEntry) (fault : Fault) : Type 0 where
-  pub entry : ℕ
-  pub numbers : MethodEntry
-  pub there : slice_get es entry ≡ Some numbers
-  pub fails : Fails b (code_off numbers) fault
-  pub before : (k : ℕ) (e : MethodEntry) → k < entry → slice_get es k ≡ Some e → Holds b (code_off e)
+-- The fault of the first of a list that doesn't.
+abbrev pub SomeCodeFails : (List ℕ → ℕ → Type 0) → (List ℕ → ℕ → Fault → Type 0) → List ℕ → List MethodEntry → Fault → Type 0
+SomeCodeFails Holds Fails b es = FirstEntry es (λ k e. Holds b (code_off e)) (λ k e. Fails b (code_off e))
 
 -- All code of row i holds.
 pub record ClassCodesHold (Holds : List ℕ → ℕ → Type 0) (b : List ℕ) (i : ℕ) : Type 0 where
@@ -203,7 +198,7 @@ pub record ClassCodesHold (Holds : List ℕ → ℕ → Type 0) (b : List ℕ) (
 pub record MethodsBreak (Holds : List ℕ → ℕ → Type 0) (Fails : List ℕ → ℕ → Fault → Type 0) (b : List ℕ) (i : ℕ) (fault : Fault) : Type 0 where
   pub entries : Entries
   pub class_data : EntriesAt b (class_data_off b i) entries
-  pub breaks : SomeCodeFails Holds Fails b entries.directs fault ⊎ (EachCodeHolds Holds b entries.directs × SomeCodeFails Holds Fails b entries.virtuals fault)
+  pub breaks : or_later (SomeCodeFails Holds Fails b entries.directs fault) (EachCodeHolds Holds b entries.directs) (SomeCodeFails Holds Fails b entries.virtuals fault)
 
 -- The two passes.
 abbrev pub BodiesHold : List ℕ → ℕ → Type 0
@@ -224,11 +219,8 @@ RowRegistersBreak = MethodsBreak CodeHolds RegistersFail
 -- ---- in the order of the groups
 
 -- The fault is that of a class row, and all rows before it hold.
-pub record IsFirstClass (Breaks : List ℕ → ℕ → Fault → Type 0) (Holds : List ℕ → ℕ → Type 0) (b : List ℕ) (fault : Fault) : Type 0 where
-  pub row : ℕ
-  pub within : row < size_of b section.class_defs
-  pub broken : Breaks b row fault
-  pub before : RowsHold Holds b row
+abbrev pub IsFirstClass : (List ℕ → ℕ → Fault → Type 0) → (List ℕ → ℕ → Type 0) → List ℕ → Fault → Type 0
+IsFirstClass Breaks Holds b = First (size_of b section.class_defs) (Holds b) (Breaks b)
 
 -- The first fault of the class rows, where header, map and checksums and all tables hold.
 pub record IsClassFault (b : List ℕ) (fault : Fault) : Type 0 where

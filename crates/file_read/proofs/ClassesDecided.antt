@@ -122,7 +122,7 @@ module _ {R V : Type 0} (M : ℕ → ℕ × R → V → Type 0) (IsOwner : ℕ �
 
   -- what entry n breaks is the first, where those before it stand for members
   first : (n : ℕ) (vs : List V) (code : ℕ) → suc n ≤ length es → FirstEntriesAre M es n vs → EntryBreaks IsOwner size class (steps es) n code → EntriesBreak IsOwner size class (steps es) code
-  first n vs code le run breaks = record { entry = n; within = inside n le; breaks = breaks; before = run_holds M IsOwner class owns es n vs (omega (arith, le)) run }
+  first n vs code le run breaks = record { number = n; within = inside n le; breaks = breaks; before = run_holds M IsOwner class owns es n vs (omega (arith, le)) run }
 
   run_or_breaks : (n : ℕ) → n ≤ length es → RunOrBreaks n
   run_or_breaks zero le = inl ([], runs_none M es)
@@ -262,7 +262,7 @@ module _ (b : List ℕ) (framed : IsFramed b) (tables : TablesHold b) (i : ℕ) 
   ]
 
 pub classes_are_decided : (b : List ℕ) → IsFramed b → TablesHold b → ClassRowsHold b ⊎ ((e : Fault) × IsClassFault b e)
-classes_are_decided b framed tables = elim (first_break ClassRowBreaks ClassRowHolds b 5 (λ i lt. class_row b framed tables i lt) (size_of b 5) (omega arith)) [
+classes_are_decided b framed tables = elim (first_break ClassRowBreaks ClassRowHolds b 5 (λ i lt. class_row b framed tables i lt)) [
   | inl hold ↦ inl hold
   | inr f ↦ inr (f.0, record { framed = framed; tables = tables; first = f.1 })
 ]

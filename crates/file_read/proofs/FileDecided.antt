@@ -1,8 +1,8 @@
 -- A file means a program, or a fault refuses it.
-use Rattle.std.proofs.Common.{◌≡◌, ℕ, zero, suc, ◌<◌, ◌≤◌, ◌⊎◌, inl, inr, List, [], length, Option, Some, None, refl, sym, ap, ◌∙◌, subst, arith, slice_get}
-use Rattle.std.proofs.lemmas.Bool.{cases_lt, cases_eq}
-use Rattle.std.proofs.lemmas.Option.{slice_get_within}
+use Rattle.std.proofs.Common.{◌≡◌, ℕ, ◌<◌, ◌⊎◌, inl, inr, List, [], length, Some, None, refl, slice_get}
+use Rattle.std.proofs.lemmas.Bool.{cases_eq}
 use Rattle.dex_base.specs.declared.fault.Fault.{Fault}
+use Rattle.dex_base.proofs.FirstFaultLaws.{first_decided, entries_decided}
 use Rattle.dex_container.specs.Frame.{IsFramed}
 use Rattle.dex_container.specs.Layout.{size_of}
 use Rattle.program_types.specs.Content.{Code, Program}
@@ -27,7 +27,7 @@ use Rattle.file_classes.specs.ClassFaults.{ClassRowHolds, ValuesHold, ValuesBrea
 use Rattle.file_read.specs.Groups.{Classes, Values, Codes, Registers}
 use Rattle.file_read.specs.Means.{Means}
 use Rattle.file_read.specs.Refused.{IsRefused}
-use Rattle.file_classes.proofs.EntryLaws.{entry_at, at_some}
+use Rattle.file_classes.proofs.EntryLaws.{at_some}
 use Rattle.file_read.proofs.PassLaws.{program_meant, table_refused}
 use Rattle.file_read.proofs.FirstLaws.{means_clear, refused_broken}
 use Rattle.code_read.proofs.CodesDecided.{body-decided, registers-decided}
@@ -37,19 +37,9 @@ use Rattle.file_classes.proofs.StaticsLaws.{at_other, at_none}
 
 -- ---- offsets
 
--- the first n rows hold, or there is a first that breaks a rule
-first_class_break : (Breaks : List ℕ → ℕ → Fault → Type 0) (Holds : List ℕ → ℕ → Type 0) (b : List ℕ) → ((i : ℕ) → i < size_of b 5 → Holds b i ⊎ ((f : Fault) × Breaks b i f)) → (n : ℕ) → n ≤ size_of b 5 → RowsHold Holds b n ⊎ ((f : Fault) × IsFirstClass Breaks Holds b f)
-first_class_break Breaks Holds b row zero le = inl (λ i lt. absurd (omega (arith, lt)))
-first_class_break Breaks Holds b row (suc n) le = elim (first_class_break Breaks Holds b row n (omega (arith, le))) [
-  | inl before ↦ elim (row n (omega (arith, le))) [
-    | inl here ↦ inl (λ i lt. elim (cases_lt i n) [
-      | inl less ↦ before i less
-      | inr ge ↦ let e : n ≡ i = omega (arith, ge, lt) in subst (λ (j : ℕ). Holds b j) e here
-    ])
-    | inr u ↦ inr (u.0, record { row = n; within = omega (arith, le); broken = u.1; before = before })
-  ]
-  | inr first ↦ inr first
-]
+-- all rows hold, or there is a first that breaks a rule
+first_class_break : (Breaks : List ℕ → ℕ → Fault → Type 0) (Holds : List ℕ → ℕ → Type 0) (b : List ℕ) → ((i : ℕ) → i < size_of b 5 → Holds b i ⊎ ((f : Fault) × Breaks b i f)) → RowsHold Holds b (size_of b 5) ⊎ ((f : Fault) × IsFirstClass Breaks Holds b f)
+first_class_break Breaks Holds b row = first_decided row
 
 -- ---- static values
 
@@ -81,37 +71,8 @@ module _ (b : List ℕ) (are : AreBytes b) (framed : IsFramed b) (tables : Table
 
 -- what is decided at each offset is decided of each list and each row
 module _ (b : List ℕ) (Holds : List ℕ → ℕ → Type 0) (Fails : List ℕ → ℕ → Fault → Type 0) where
-  abbrev HoldUpTo : List MethodEntry → ℕ → Type 0
-  HoldUpTo es n = (k : ℕ) (e : MethodEntry) → k < n → slice_get es k ≡ Some e → Holds b e.1.1
-
-  last_holds : (es : List MethodEntry) (n : ℕ) (e : MethodEntry) → slice_get es n ≡ Some e → Holds b e.1.1 → HoldUpTo es n → HoldUpTo es (suc n)
-  last_holds es n e at here before k d lt there = elim (cases_lt k n) [
-    | inl less ↦ before k d less there
-    | inr ge ↦
-        let same : n ≡ k = omega (arith, ge, lt) in
-        let both : ◌≡◌ {A = Option MethodEntry} (Some e) (Some d) = sym at ∙ ap (slice_get es) same ∙ there in
-        let is : e ≡ d = cc in
-        subst (λ (x : MethodEntry). Holds b x.1.1) is here
-  ]
-
-  -- the first n of the methods, where it is decided at the offset of each
-  codes_up_to : (es : List MethodEntry) → ((k : ℕ) (e : MethodEntry) → slice_get es k ≡ Some e → Holds b e.1.1 ⊎ ((f : Fault) × Fails b e.1.1 f)) → (n : ℕ) → n ≤ length es → HoldUpTo es n ⊎ ((f : Fault) × SomeCodeFails Holds Fails b es f)
-  codes_up_to es here zero le = inl (λ k e lt. absurd (omega (arith, lt)))
-  codes_up_to es here (suc n) le = elim (codes_up_to es here n (omega (arith, le))) [
-    | inl before ↦
-        let at = entry_at es n (omega (arith, le)) in
-        elim (here n at.0 at.1) [
-          | inl c ↦ inl (last_holds es n at.0 at.1 c before)
-          | inr u ↦ inr (u.0, record { entry = n; numbers = at.0; there = at.1; fails = u.1; before = before })
-        ]
-    | inr f ↦ inr f
-  ]
-
   codes_row : (es : List MethodEntry) → ((k : ℕ) (e : MethodEntry) → slice_get es k ≡ Some e → Holds b e.1.1 ⊎ ((f : Fault) × Fails b e.1.1 f)) → EachCodeHolds Holds b es ⊎ ((f : Fault) × SomeCodeFails Holds Fails b es f)
-  codes_row es here = elim (codes_up_to es here (length es) (omega arith)) [
-    | inl all ↦ inl (λ k e at. all k e (slice_get_within es k e at) at)
-    | inr f ↦ inr f
-  ]
+  codes_row es here = entries_decided es (λ k e. Holds b e.1.1) (λ k e. Fails b e.1.1) here
 
   method_row : (i : ℕ) (entries : Entries) → EntriesAt b (class_word b i 6) entries → ((k : ℕ) (e : MethodEntry) → slice_get entries.directs k ≡ Some e → Holds b e.1.1 ⊎ ((f : Fault) × Fails b e.1.1 f))
       → ((k : ℕ) (e : MethodEntry) → slice_get entries.virtuals k ≡ Some e → Holds b e.1.1 ⊎ ((f : Fault) × Fails b e.1.1 f)) → ClassCodesHold Holds b i ⊎ ((f : Fault) × MethodsBreak Holds Fails b i f)
@@ -167,12 +128,12 @@ framed_is_decided b are framed = elim (tables_are_decided b framed) [
   | inr f ↦ inr (f.0, table_refused b f.0 f.1)
   | inl tables ↦ elim (classes_are_decided b framed tables) [
     | inr f ↦ inr (f.0, (Classes, f.1))
-    | inl classes ↦ elim (first_class_break ValuesBreak ValuesHold b (λ i lt. value_row b are framed tables i (classes i lt)) (size_of b 5) (omega arith)) [
+    | inl classes ↦ elim (first_class_break ValuesBreak ValuesHold b (λ i lt. value_row b are framed tables i (classes i lt))) [
       | inr f ↦ inr (f.0, (Values, record { framed = framed; tables = tables; classes = classes; first = f.1 }))
       | inl values ↦
-          elim (first_class_break BodiesBreak BodiesHold b (λ i lt. bodies_decided b are framed tables i (classes i lt)) (size_of b 5) (omega arith)) [
+          elim (first_class_break BodiesBreak BodiesHold b (λ i lt. bodies_decided b are framed tables i (classes i lt))) [
             | inr f ↦ inr (f.0, (Codes, record { framed = framed; tables = tables; classes = classes; values = values; first = f.1 }))
-            | inl bodies ↦ elim (first_class_break RowRegistersBreak RowRegistersHold b (λ i lt. registers_decided b framed tables i (bodies i lt)) (size_of b 5) (omega arith)) [
+            | inl bodies ↦ elim (first_class_break RowRegistersBreak RowRegistersHold b (λ i lt. registers_decided b framed tables i (bodies i lt))) [
               | inr f ↦ inr (f.0, (Registers, record { framed = framed; tables = tables; classes = classes; values = values; bodies = bodies; first = f.1 }))
               | inl methods ↦ inl (program_meant b framed tables classes values methods)
             ]

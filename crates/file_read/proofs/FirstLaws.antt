@@ -58,7 +58,7 @@ asked b g h e x before = first_of (assumption x, grind (arith, before))
 
 pub stands : (b : List ℕ) (g : Group) (e : Fault) → IsGroupFault g b e → GroupBreaks g b e
 stands b Frame e x = x.stands
-stands b g e x = (x.first.row, x.first.within, x.first.broken)
+stands b g e x = (x.first.number, x.first.within, x.first.breaks)
 
 pub first : (b : List ℕ) (g h : Group) (e f : Fault) → IsGroupFault g b e → IsAskedBefore h g → GroupBreaks h b f → ⊥
 first b g h e f x before = let hold = asked b g h e x before in clear b h f hold.0 hold.1

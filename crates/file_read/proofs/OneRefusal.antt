@@ -2,13 +2,14 @@
 use Rattle.std.proofs.Common.{◌≡◌, ℕ, inl, inr, List, arith}
 use Rattle.std.proofs.lemmas.Bool.{cases_lt}
 use Rattle.dex_base.specs.declared.fault.Fault.{Fault}
+use Rattle.dex_base.proofs.FirstFaultLaws.{first_one}
 use Rattle.dex_container.proofs.OneFault.{one_fault}
 use Rattle.program_types.specs.Content.{Program}
-use Rattle.tables_rows.proofs.OneFault.{first_one, one_table_fault}
-use Rattle.file_classes.specs.ClassFaults.{ClassRowBreaks, ClassRowHolds, ValuesBreak, ValuesHold, BodiesBreak, BodiesHold, RowRegistersBreak, RowRegistersHold}
+use Rattle.tables_rows.proofs.OneFault.{first_row_one, one_table_fault}
+use Rattle.file_classes.specs.ClassFaults.{ClassRowBreaks, ClassRowHolds}
 use Rattle.file_classes.proofs.RowFaults.{class_clear, class_number}
 use Rattle.file_classes.proofs.ClearLaws.{values_clear, bodies_clear, methods_clear}
-use Rattle.file_classes.proofs.OneFault.{first_class_one, values_one_fault, bodies_one_fault, registers_of_row_one_fault}
+use Rattle.file_classes.proofs.OneFault.{values_one_fault, bodies_one_fault, registers_of_row_one_fault}
 use Rattle.file_read.specs.Groups.{Group, Frame, Strings, Types, Protos, Fields, Methods, Classes, Values, Codes, Registers}
 use Rattle.file_read.specs.inner.Groups.{turn}
 use Rattle.file_read.specs.Means.{Means}
@@ -24,10 +25,10 @@ module _ (b : List ℕ) where
   one_of_groups Protos Protos e f x y = one_table_fault b e f (inr (inr (inl x))) (inr (inr (inl y)))
   one_of_groups Fields Fields e f x y = one_table_fault b e f (inr (inr (inr (inl x)))) (inr (inr (inr (inl y))))
   one_of_groups Methods Methods e f x y = one_table_fault b e f (inr (inr (inr (inr x)))) (inr (inr (inr (inr y))))
-  one_of_groups Classes Classes e f x y = first_one ClassRowBreaks ClassRowHolds b 5 e f (class_clear b x.framed) (class_number b x.framed) x.first y.first
-  one_of_groups Values Values e f x y = first_class_one ValuesBreak ValuesHold b (values_clear b x.framed) (values_one_fault b x.framed) e f x.first y.first
-  one_of_groups Codes Codes e f x y = first_class_one BodiesBreak BodiesHold b (bodies_clear b x.framed) (bodies_one_fault b x.framed) e f x.first y.first
-  one_of_groups Registers Registers e f x y = first_class_one RowRegistersBreak RowRegistersHold b (methods_clear b x.framed) (registers_of_row_one_fault b x.framed) e f x.first y.first
+  one_of_groups Classes Classes e f x y = first_row_one ClassRowBreaks ClassRowHolds b 5 e f (class_clear b x.framed) (class_number b x.framed) x.first y.first
+  one_of_groups Values Values e f x y = first_one (values_clear b x.framed) (values_one_fault b x.framed) x.first y.first
+  one_of_groups Codes Codes e f x y = first_one (bodies_clear b x.framed) (bodies_one_fault b x.framed) x.first y.first
+  one_of_groups Registers Registers e f x y = first_one (methods_clear b x.framed) (registers_of_row_one_fault b x.framed) x.first y.first
   one_of_groups g h e f x y = elim (cases_lt (turn g) (turn h)) [
     | inl before ↦ absurd (first b h g f e y before (stands b g e x))
     | inr after ↦ absurd (first b g h e f x (omega (arith, after)) (stands b h f y))

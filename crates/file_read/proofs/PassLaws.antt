@@ -48,10 +48,10 @@ module _ (b : List ℕ) (p : Program) (m : Means b p) where
 
 -- no first fault where all rows hold
 pub no_first_class : (Breaks : List ℕ → ℕ → Fault → Type 0) (Holds : List ℕ → ℕ → Type 0) (b : List ℕ) (e : Fault) → ((i : ℕ) → Holds b i → Breaks b i e → ⊥) → RowsHold Holds b (size_of b 5) → IsFirstClass Breaks Holds b e → ⊥
-no_first_class Breaks Holds b e clear all first = clear first.row (all first.row first.within) first.broken
+no_first_class Breaks Holds b e clear all first = clear first.number (all first.number first.within) first.breaks
 
 pub no_class_fault : (b : List ℕ) (p : Program) (e : Fault) → Means b p → IsFirstRow ClassRowBreaks ClassRowHolds b 5 e → ⊥
-no_class_fault b p e m first = class_clear b m.framed first.row e.code (means_classes b p m first.row first.within) first.broken.breaks
+no_class_fault b p e m first = class_clear b m.framed first.number e.code (means_classes b p m first.number first.within) first.breaks.breaks
 
 pub no_value_fault : (b : List ℕ) (p : Program) (e : Fault) → Means b p → IsFirstClass ValuesBreak ValuesHold b e → ⊥
 no_value_fault b p e m first = no_first_class ValuesBreak ValuesHold b e (λ i. values_clear b m.framed i e) (means_values b p m) first

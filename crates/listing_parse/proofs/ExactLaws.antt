@@ -1,10 +1,9 @@
 -- A text is one program, and none where a fault stands.
 use Rattle.std.proofs.Common.{◌≡◌, ◌⊎◌, ℕ, Bool, true, false, inl, inr, List, [], ◌∷◌, ◌++◌, Some, None, sym, ap, subst, ◌∙◌, append_assoc}
 use Rattle.std.proofs.lemmas.List.{append-nil}
-use Rattle.dex_base.specs.declared.fault.Fault.{Fault}
 use Rattle.program_types.specs.Content.{Program}
-use Rattle.program_rules.specs.Rules.{RulesHold, RuleBreaks}
-use Rattle.program_rules.proofs.OneRule.{class_keeps}
+use Rattle.program_rules.specs.Rules.{RuleBreaks}
+use Rattle.program_rules.proofs.OneRule.{rules_clear}
 use Rattle.listing_words.specs.Words.{Word}
 use Rattle.listing_words.proofs.WordLaws.{words_one}
 use Rattle.listing_slots.specs.declared.slot.Slot.{Slot}
@@ -125,9 +124,6 @@ pub refused_takes : (r : Reading) (ls : List (List ℕ)) (line : List ℕ) (t : 
 refused_takes r ls line t code w (inl a) = not_both (is_skipped line) a.0 w.not_skipped
 refused_takes r ls line t code w (inr a) = refused_adds (line_counted r) ls line t code w a.1
 
-not_both_ways : (p : Program) (e : Fault) → RuleBreaks p e → RulesHold p → ⊥
-not_both_ways p e b h = class_keeps p b.number b.class e b.breaks (h b.number b.class b.there)
-
 -- Where these lines are read, a line that stands among them is taken after those before it.
 pub reads_over : (before : List (List ℕ)) (l : List ℕ) (after rest : List (List ℕ)) (r t u : Reading) → Reads r before (l ∷ (after ++ rest)) t → Reads r (before ++ l ∷ after) rest u → (v : Reading) × TakesLine t (after ++ rest) l v
 reads_over [] l after rest r t u p q = (q.0, subst (λ (x : Reading). TakesLine x (after ++ rest) l q.0) p q.1)
@@ -153,5 +149,5 @@ listing_none text p code place b a = elim b [
   | inr (inr (inr w)) ↦
       let e = reads_one (lines text) [] begin w.state a.end w.accepted a.read in
       let q : w.state.base.done ≡ p = ap (λ (r : Reading). r.base.done) e ∙ a.classes in
-      not_both_ways p (record { code = code; place = place }) (subst (λ (x : Program). RuleBreaks x (record { code = code; place = place })) q w.breaks) a.formed.rules
+      rules_clear p (record { code = code; place = place }) a.formed.rules (subst (λ (x : Program). RuleBreaks x (record { code = code; place = place })) q w.breaks)
 ]

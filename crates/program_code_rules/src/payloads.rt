@@ -212,7 +212,7 @@ fn are_plain(insns: &[Insn<'_>]) -> bool
 /// The first instruction that refers to no payload of its kind, or is the payload of a switch and hasn't exactly one, in time that
 /// grows with the code: it takes a byte an instruction, and nothing where no instruction has to do with payloads.
 pub fn first_bad_use(alloc: Global, insns: &[Insn<'_>]) -> Result<Option<usize>, AllocError>
-    ensures some { IfOk result (λ found. IfSome found (IsFirstBroken (PayloadHolds (map insn insns.now)) (PayloadHolds (map insn insns.now)) (length insns.now))) }
+    ensures some { IfOk result (λ found. IfSome found (IsFirstBroken (PayloadHolds (map insn insns.now)) (length insns.now))) }
     ensures none { IfOk result (λ found. IfNone found (AllHold (PayloadHolds (map insn insns.now)) (length insns.now))) }
 {
     if are_plain(insns) {

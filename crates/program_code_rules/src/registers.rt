@@ -76,7 +76,7 @@ fn register_holds(count: u16, insns: &[Insn<'_>], k: usize) -> bool
 
 /// The first instruction that names a register past the first `count`.
 pub fn first_past(count: u16, insns: &[Insn<'_>]) -> Option<usize>
-    ensures some { IfSome result (IsFirstBroken (λ k. AreAmong count (insn_at (map insn insns.now) k)) (λ k. AreAmong count (insn_at (map insn insns.now) k)) (length insns.now)) }
+    ensures some { IfSome result (IsFirstBroken (λ k. AreAmong count (insn_at (map insn insns.now) k)) (length insns.now)) }
     ensures none { IfNone result (AllHold (λ k. AreAmong count (insn_at (map insn insns.now) k)) (length insns.now)) }
 {
     for k in 0..insns.len() {

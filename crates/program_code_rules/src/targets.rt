@@ -127,7 +127,7 @@ fn switch_lands(insns: &[Insn<'_>], k: usize) -> bool
 
 /// The first branch that leads to no instruction, to a payload, or to itself where it may not.
 pub fn first_bad_branch(insns: &[Insn<'_>]) -> Option<usize>
-    ensures some { IfSome result (IsFirstBroken (BranchHolds (map insn insns.now)) (BranchHolds (map insn insns.now)) (length insns.now)) }
+    ensures some { IfSome result (IsFirstBroken (BranchHolds (map insn insns.now)) (length insns.now)) }
     ensures none { IfNone result (AllHold (BranchHolds (map insn insns.now)) (length insns.now)) }
 {
     for k in 0..insns.len() {
@@ -140,7 +140,7 @@ pub fn first_bad_branch(insns: &[Insn<'_>]) -> Option<usize>
 
 /// The first payload of a switch one of whose targets is no instruction, or a payload.
 pub fn first_bad_switch(insns: &[Insn<'_>]) -> Option<usize>
-    ensures some { IfSome result (IsFirstBroken (SwitchLands (map insn insns.now)) (SwitchLands (map insn insns.now)) (length insns.now)) }
+    ensures some { IfSome result (IsFirstBroken (SwitchLands (map insn insns.now)) (length insns.now)) }
     ensures none { IfNone result (AllHold (SwitchLands (map insn insns.now)) (length insns.now)) }
 {
     for k in 0..insns.len() {

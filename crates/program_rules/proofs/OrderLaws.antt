@@ -36,7 +36,12 @@ abbrev Kept : List content.Class → ℕ → Type 0
 Kept p n = (i : ℕ) (c : content.Class) → i < n → slice_get p i ≡ Some c → ClassHolds p i c × ClassInRange c
 
 pub first-broken : (xs : List Class) (i : ℕ) (d : Class) (e : Fault) → i < length xs → Kept (map class xs) i → ClassBreaks (map class xs) i (class (get_or xs i d)) e → RuleBreaks (map class xs) e
-first-broken xs i d e l h b = record { number = i; class = class (get_or xs i d); there = class-at xs i d l; breaks = b; earlier = λ j c m g. (h j c m g).0 }
+first-broken xs i d e l h b = record {
+  number = i;
+  within = let m = length-map xs class in omega (arith, l, m);
+  breaks = record { entry = class (get_or xs i d); there = class-at xs i d l; breaks = b };
+  before = λ j m c g. (h j c m g).0;
+}
 
 pub one-more : (xs : List Class) (i : ℕ) (d : Class) → i < length xs → Kept (map class xs) i → ClassHolds (map class xs) i (class (get_or xs i d)) → ClassInRange (class (get_or xs i d)) → Kept (map class xs) (i + 1)
 one-more xs i d l h k r = λ j c m g.

@@ -1,9 +1,10 @@
 -- The rules that a program keeps, class by class, in the order of their faults.
 -- Page: "Dalvik Executable format": class_def_item, class_data_item, encoded_array, code_item.
-use Rattle.std.specs.Prelude.{◌≡◌, ◌≢◌, ℕ, ◌+◌, ◌<◌, ◌≤◌, ◌⊎◌, List, [], ◌∷◌, length, map, slice_index_or, Some, IfSome}
+use Rattle.std.specs.Prelude.{◌≡◌, ◌≢◌, ℕ, ◌+◌, ◌<◌, ◌≤◌, List, [], ◌∷◌, length, map, slice_index_or, Some, IfSome}
 use Rattle.std.specs.List.{AllByRecursion, slice_get}
 use Rattle.std.specs.declared.cmp.Ordering.TheVariants.{Less}
 use Rattle.dex_base.specs.Descriptor.{IsClass}
+use Rattle.dex_base.specs.FirstFault.{or_else, FirstEntry}
 use Rattle.dex_base.specs.declared.fault.Fault.{Fault}
 use Rattle.program_types.specs.Content.{Descriptor, Code, Member, Method, Class, Program}
 use Rattle.program_types.specs.Depth.{depth, most_depth}
@@ -113,32 +114,24 @@ RulesHold p = (i : ℕ) (c : Class) → slice_get p i ≡ Some c → ClassHolds 
 abbrev pub broken : ℕ → ℕ → Fault
 broken number i = record { code = number; place = i }
 
--- Class i breaks the rule of this number, or else what comes after it.
-abbrev pub or_else : ℕ → ℕ → Fault → Type 0 → Type 0 → Type 0
-or_else number i fault rule after = ((¬ rule) × (fault ≡ broken number i)) ⊎ (rule × after)
-
 -- The fault is that of the first rule of code that class i breaks.
 abbrev pub CodesBreak : ℕ → Class → Fault → Type 0
 CodesBreak i c fault =
-    or_else 114 i fault (CodesHold OperandsHold c) (
-    or_else 115 i fault (CodesHold TargetsHold c) (
-    or_else 116 i fault (CodesHold PayloadsHold c) (
-    or_else 117 i fault (CodesHold TriesHold c) (
-    (¬ CodesHold RegistersHold c) × (fault ≡ broken 118 i)))))
+    or_else (broken 114 i) fault (CodesHold OperandsHold c) (
+    or_else (broken 115 i) fault (CodesHold TargetsHold c) (
+    or_else (broken 116 i) fault (CodesHold PayloadsHold c) (
+    or_else (broken 117 i) fault (CodesHold TriesHold c) (
+    or_else (broken 118 i) fault (CodesHold RegistersHold c) ⊥))))
 
 -- The fault is that of the first rule that class i breaks.
 abbrev pub ClassBreaks : Program → ℕ → Class → Fault → Type 0
 ClassBreaks p i c fault =
-    or_else 110 i fault (NamesAreValid c) (
-    or_else 111 i fault (MembersRise c) (
-    or_else 112 i fault (OrderHolds p i c) (
-    or_else 113 i fault (ValuesFit c) (
+    or_else (broken 110 i) fault (NamesAreValid c) (
+    or_else (broken 111 i) fault (MembersRise c) (
+    or_else (broken 112 i) fault (OrderHolds p i c) (
+    or_else (broken 113 i) fault (ValuesFit c) (
     CodesBreak i c fault))))
 
 -- The fault is that of the first rule that is broken by the first class that breaks one.
-pub record RuleBreaks (p : Program) (e : Fault) : Type 0 where
-  pub number : ℕ
-  pub class : Class
-  pub there : slice_get p number ≡ Some class
-  pub breaks : ClassBreaks p number class e
-  pub earlier : (i : ℕ) (c : Class) → i < number → slice_get p i ≡ Some c → ClassHolds p i c
+abbrev pub RuleBreaks : Program → Fault → Type 0
+RuleBreaks p = FirstEntry p (ClassHolds p) (ClassBreaks p)

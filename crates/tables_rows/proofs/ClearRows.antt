@@ -2,6 +2,7 @@
 use Rattle.std.proofs.Common.{◌≡◌, ◌≢◌, ℕ, ◌<◌, ◌≤◌, ◌⊎◌, refl, inl, inr, List, [], length, drop, ap, ◌∙◌, subst, arith, length-take, length-append, ◌∷◌}
 use Rattle.std.proofs.lemmas.Bool.{cases_lt}
 use Rattle.dex_base.specs.declared.fault.Fault.{Fault}
+use Rattle.dex_base.proofs.FirstFaultLaws.{else_clear, first_clear}
 use Rattle.dex_base.specs.Fault.{memory}
 use Rattle.dex_base.specs.Descriptor.{IsDescriptor, IsClass, IsArray, IsMemberName}
 use Rattle.dex_base.specs.Mutf8.{SpellsText}
@@ -16,7 +17,6 @@ use Rattle.tables_rows.specs.Sorted.{RowRises, StringIsBelow, TypeIsBelow, Proto
 use Rattle.tables_rows.specs.TableFaults.{StringBreaks, TypeBreaks, ProtoBreaks, FieldBreaks, MethodBreaks, ParametersAt, MemberIsIn, IsFirstRow}
 use Rattle.tables_rows.specs.Stands.{StringStands, TypeStands, ProtoStands, FieldStands, MethodStands}
 use Rattle.dex_container.proofs.Standing.{at_place}
-use Rattle.tables_rows.proofs.Asked.{else_clear}
 use Rattle.tables_rows.proofs.RowReading.{string_one}
 use Rattle.tables_rows.proofs.TypeLists.{type_one, types_one}
 
@@ -152,7 +152,7 @@ module _ (b : List ℕ) (i code : ℕ) where
 
 -- a table whose rows hold has no first fault
 pub no_first : (Breaks : List ℕ → ℕ → ℕ → Type 0) (Holds : List ℕ → ℕ → Type 0) (b : List ℕ) (k : ℕ) (e : Fault) → ((i code : ℕ) → Holds b i → Breaks b i code → ⊥) → RowsHold Holds b (size_of b k) → IsFirstRow Breaks Holds b k e → ⊥
-no_first Breaks Holds b k e clear all first = clear first.row e.code (all first.row first.within) first.broken.breaks
+no_first Breaks Holds b k e clear = first_clear (λ i x h broken. clear i x.code h broken.breaks)
 
 -- a fault that is not other than out of memory
 pub only_memory : (e : Fault) → ((e ≢ memory) → ⊥) → e ≡ memory

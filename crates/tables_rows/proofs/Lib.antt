@@ -2,7 +2,6 @@ pub mod RowReading
 pub mod HalvesLaws
 pub mod TypeLists
 pub mod ShortyLaws
-pub mod Asked
 pub mod ClearRows
 pub mod NameLaws
 pub mod Marks

@@ -93,7 +93,7 @@ string_none b rest s i place is same at none text st =
 
 -- the fault of a row, where the rows before hold
 pub first_row : (Breaks : List ℕ → ℕ → ℕ → Type 0) (Holds : List ℕ → ℕ → Type 0) (b : List ℕ) (k i : ℕ) (e : Fault) → i < size_of b k → RowsHold Holds b i → BreaksAt Breaks b k i e → IsFirstRow Breaks Holds b k e
-first_row Breaks Holds b k i e within before broken = record { row = i; within = within; broken = broken; before = before }
+first_row Breaks Holds b k i e within before broken = record { number = i; within = within; breaks = broken; before = before }
 
 -- the row before row i is row i - 1
 pub rises_from : (Below : List ℕ → ℕ → ℕ → Type 0) (b : List ℕ) (i : ℕ) → 0 < i → Below b (i - 1) i → RowRises Below b i

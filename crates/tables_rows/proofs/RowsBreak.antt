@@ -1,5 +1,5 @@
 -- A row of a table holds, or it breaks a rule.
-use Rattle.std.proofs.Common.{◌≡◌, ℕ, zero, suc, ◌<◌, ◌≤◌, ◌⊎◌, inl, inr, List, ◌∷◌, refl, subst, arith, nat_cmp}
+use Rattle.std.proofs.Common.{◌≡◌, ℕ, zero, suc, ◌<◌, ◌⊎◌, inl, inr, List, ◌∷◌, refl, subst, arith, nat_cmp}
 use Rattle.std.proofs.lemmas.Bool.{cases_lt}
 use Rattle.std.specs.declared.cmp.Ordering.{Ordering}
 use Rattle.std.specs.declared.cmp.Ordering.TheVariants.{Less}
@@ -18,6 +18,7 @@ use Rattle.tables_rows.proofs.ClearRows.{string_unplaced, string_spelling, strin
 use Rattle.tables_rows.proofs.RowReading.{string_one}
 use Rattle.tables_rows.proofs.TypeLists.{protos_below, below_protos, protos_below_none, protos_none_below}
 use Rattle.dex_base.specs.Deciding.{Decided}
+use Rattle.dex_base.proofs.FirstFaultLaws.{first_decided}
 use Rattle.dex_base.proofs.Deciding.{decide_like, decide_either, decide_lt, decide_list}
 use Rattle.dex_base.proofs.NamesDecided.{decide_descriptor, decide_class, decide_array, decide_member}
 use Rattle.dex_container.proofs.PlacesDecided.{decide_in}
@@ -187,36 +188,29 @@ module _ (b : List ℕ) (framed : IsFramed b) (i : ℕ) where
 
 -- ---- tables
 
--- the first n rows hold, or there is a first that breaks a rule
-pub first_break : (Breaks : List ℕ → ℕ → ℕ → Type 0) (Holds : List ℕ → ℕ → Type 0) (b : List ℕ) (k : ℕ) → ((i : ℕ) → i < size_of b k → HoldsOrBreaks Holds Breaks b i) → (n : ℕ) → n ≤ size_of b k → RowsHold Holds b n ⊎ ((e : Fault) × IsFirstRow Breaks Holds b k e)
+-- all rows hold, or there is a first that breaks a rule
+pub first_break : (Breaks : List ℕ → ℕ → ℕ → Type 0) (Holds : List ℕ → ℕ → Type 0) (b : List ℕ) (k : ℕ) → ((i : ℕ) → i < size_of b k → HoldsOrBreaks Holds Breaks b i) → RowsHold Holds b (size_of b k) ⊎ ((e : Fault) × IsFirstRow Breaks Holds b k e)
 unfolding HoldsOrBreaks
-first_break Breaks Holds b k row zero le = inl (λ i lt. absurd (omega (arith, lt)))
-first_break Breaks Holds b k row (suc n) le = elim (first_break Breaks Holds b k row n (omega (arith, le))) [
-  | inl before ↦ elim (row n (omega (arith, le))) [
-    | inl here ↦ inl (λ i lt. elim (cases_lt i n) [
-      | inl less ↦ before i less
-      | inr ge ↦ let e : n ≡ i = omega (arith, ge, lt) in subst (λ (j : ℕ). Holds b j) e here
-    ])
-    | inr u ↦ inr (record { code = u.0; place = row_place b k n }, record { row = n; within = omega (arith, le); broken = record { breaks = u.1; place = refl }; before = before })
-  ]
-  | inr first ↦ inr first
-]
+first_break Breaks Holds b k row = first_decided (λ i lt. elim (row i lt) [
+  | inl hold ↦ inl hold
+  | inr u ↦ inr (record { code = u.0; place = row_place b k i }, record { breaks = u.1; place = refl })
+])
 
 pub tables_are_decided : (b : List ℕ) → IsFramed b → TablesHold b ⊎ ((e : Fault) × IsTableFault b e)
 tables_are_decided b framed =
-    elim (first_break StringBreaks StringHolds b 0 (string_row b framed) (size_of b 0) (omega arith)) [
+    elim (first_break StringBreaks StringHolds b 0 (string_row b framed)) [
       | inr f ↦ inr (f.0, inl (record { framed = framed; first = f.1 }))
       | inl strings ↦
-          elim (first_break TypeBreaks TypeHolds b 1 (λ i. type_row b framed i strings) (size_of b 1) (omega arith)) [
+          elim (first_break TypeBreaks TypeHolds b 1 (λ i. type_row b framed i strings)) [
             | inr f ↦ inr (f.0, inr (inl (record { framed = framed; strings = strings; first = f.1 })))
             | inl types ↦
-                elim (first_break ProtoBreaks ProtoHolds b 2 (λ i. proto_row b framed i strings types) (size_of b 2) (omega arith)) [
+                elim (first_break ProtoBreaks ProtoHolds b 2 (λ i. proto_row b framed i strings types)) [
                   | inr f ↦ inr (f.0, inr (inr (inl (record { framed = framed; strings = strings; types = types; first = f.1 }))))
                   | inl protos ↦
-                      elim (first_break FieldBreaks FieldHolds b 3 (λ i. field_row b framed i strings types) (size_of b 3) (omega arith)) [
+                      elim (first_break FieldBreaks FieldHolds b 3 (λ i. field_row b framed i strings types)) [
                         | inr f ↦ inr (f.0, inr (inr (inr (inl (record { framed = framed; strings = strings; types = types; protos = protos; first = f.1 })))))
                         | inl fields ↦
-                            elim (first_break MethodBreaks MethodHolds b 4 (λ i. method_row b framed i strings types protos) (size_of b 4) (omega arith)) [
+                            elim (first_break MethodBreaks MethodHolds b 4 (λ i. method_row b framed i strings types protos)) [
                               | inr f ↦ inr (f.0, inr (inr (inr (inr (record { framed = framed; strings = strings; types = types; protos = protos; fields = fields; first = f.1 })))))
                               | inl methods ↦
                                   inl (record { strings = strings; types = types; protos = protos; fields = fields; methods = methods })

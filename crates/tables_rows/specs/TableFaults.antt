@@ -3,6 +3,7 @@
 use Rattle.std.specs.Prelude.{◌≡◌, ◌≢◌, ℕ, ◌<◌, ◌⊎◌, List}
 use Rattle.std.specs.List.{AllByRecursion}
 use Rattle.dex_base.specs.declared.fault.Fault.{Fault}
+use Rattle.dex_base.specs.FirstFault.{or_else, First}
 use Rattle.dex_container.specs.Layout.{size_of}
 use Rattle.dex_container.specs.Frame.{IsFramed}
 use Rattle.program_types.specs.Content.{Units, Proto, FieldRef, MethodRef}
@@ -11,11 +12,7 @@ use Rattle.dex_container.specs.Section as section
 use Rattle.tables_rows.specs.RowFields.{row_place, string_place, type_string, proto_shorty, proto_return, proto_parameters, member_class, member_kind, member_name}
 use Rattle.program_types.specs.Kinds.{void}
 use Rattle.tables_rows.specs.Stands.{StringStands, TypeStands, TypesAt, ProtoStands, FieldStands, MethodStands}
-use Rattle.tables_rows.specs.Sorted.{RowRises, StringIsBelow, TypeIsBelow, ProtoIsBelow, MemberIsBelow, StringHolds, TypeHolds, ProtoHolds, FieldHolds, MethodHolds, RowsHold, StringsHold, TypesHold, ProtosHold, FieldsHold}
-
--- The rule of this number is broken, or else what comes after it.
-abbrev pub or_else : ℕ → ℕ → Type 0 → Type 0 → Type 0
-or_else number code rule after = ((¬ rule) × (code ≡ number)) ⊎ (rule × after)
+use Rattle.tables_rows.specs.Sorted.{RowRises, StringIsBelow, TypeIsBelow, ProtoIsBelow, MemberIsBelow, StringHolds, TypeHolds, ProtoHolds, FieldHolds, MethodHolds, StringsHold, TypesHold, ProtosHold, FieldsHold}
 
 -- The rule that row i of string_ids breaks: the first, since each is asked only where those before it hold.
 unfoldable pub StringBreaks : List ℕ → ℕ → ℕ → Type 0
@@ -70,11 +67,8 @@ pub record BreaksAt (Breaks : List ℕ → ℕ → ℕ → Type 0) (b : List ℕ
   pub place : fault.place ≡ row_place b k i
 
 -- The fault is that of a row of table k, and all rows before it hold.
-pub record IsFirstRow (Breaks : List ℕ → ℕ → ℕ → Type 0) (Holds : List ℕ → ℕ → Type 0) (b : List ℕ) (k : ℕ) (fault : Fault) : Type 0 where
-  pub row : ℕ
-  pub within : row < size_of b k
-  pub broken : BreaksAt Breaks b k row fault
-  pub before : RowsHold Holds b row
+abbrev pub IsFirstRow : (List ℕ → ℕ → ℕ → Type 0) → (List ℕ → ℕ → Type 0) → List ℕ → ℕ → Fault → Type 0
+IsFirstRow Breaks Holds b k = First (size_of b k) (Holds b) (BreaksAt Breaks b k)
 
 -- The first fault of string_ids, in a framed file.
 pub record IsStringFault (b : List ℕ) (fault : Fault) : Type 0 where

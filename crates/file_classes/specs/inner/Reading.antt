@@ -1,6 +1,7 @@
 -- What the private functions of reading say.
 use Rattle.std.specs.Prelude.{◌≡◌, ◌≢◌, ℕ, ◌<◌, List, [], length, map, option_map, Option, Some, None, IfSome, IfNone}
 use Rattle.std.specs.List.{slice_get}
+use Rattle.dex_base.specs.FirstFault.{or_else, FirstEntry}
 use Rattle.dex_base.specs.declared.fault.Fault.{Fault}
 use Rattle.program_types.specs.Content as content
 use Rattle.program_types.specs.View.{str, desc, proto, member, value, code}
@@ -12,7 +13,6 @@ use Rattle.file_classes.specs.declared.members.Bare.{Bare}
 use Rattle.file_classes.specs.declared.heads.Head.{Head}
 use Rattle.file_classes.specs.declared.members.Members.{Members}
 use Rattle.file_classes.specs.declared.methods.FoundCode.{FoundCode}
-use Rattle.tables_rows.specs.TableFaults.{or_else}
 use Rattle.file_classes.specs.ClassData.{EntriesAre}
 use Rattle.file_classes.specs.declared.statics.Statics.{Statics}
 use Rattle.file_classes.specs.ClassData as numbers
@@ -144,12 +144,8 @@ pub record AreDone (b : List ℕ) (ms : List Bare) (n : ℕ) (vs : List content.
   pub hold : CodesHoldUpTo BodyHolds b ms n
 
 -- The fault is that of the first of the methods whose code doesn't hold.
-pub record FirstCodeBreaks (Holds : List ℕ → ℕ → Type 0) (Fails : List ℕ → ℕ → Fault → Type 0) (b : List ℕ) (ms : List Bare) (fault : Fault) : Type 0 where
-  pub entry : ℕ
-  pub one : Bare
-  pub there : slice_get ms entry ≡ Some one
-  pub fails : Fails b one.code fault
-  pub before : (k : ℕ) (m : Bare) → k < entry → slice_get ms k ≡ Some m → Holds b m.code
+abbrev pub FirstCodeBreaks : (List ℕ → ℕ → Type 0) → (List ℕ → ℕ → Fault → Type 0) → List ℕ → List Bare → Fault → Type 0
+FirstCodeBreaks Holds Fails b ms = FirstEntry ms (λ k m. Holds b m.code) (λ k m. Fails b m.code)
 
 -- Each of the methods has the body of its entry.
 abbrev pub BodiesAre : List ℕ → List numbers.MethodEntry → List content.Method → Type 0
