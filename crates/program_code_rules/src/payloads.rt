@@ -4,7 +4,8 @@ ghost use Rattle.std.specs.Prelude.{◌≡◌, ◌↔◌, ◌<◌, ◌≤◌, �
 ghost use Rattle.program_types.specs.Formed.{insn_at, insn_wants, insn_reach, WantsPayload, RefersToPayload, PayloadHolds};
 ghost use Rattle.program_types.specs.View.{insn, code};
 ghost use Rattle.program_code_rules.specs.CodeRules.{PayloadsHold};
-ghost use Rattle.program_code_rules.specs.First.{AllHold, IsFirstBroken};
+ghost use Rattle.program_code_rules.specs.First.{AllHold};
+ghost use Rattle.program_code_rules.specs.inner.First.{IsFirstBroken};
 ghost use Rattle.program_code_rules.specs.inner.Parts.{HasNoPayload, IsUsedOnce};
 ghost use Rattle.program_code_rules.specs.inner.Uses.{AreUses, used_again};
 

@@ -4,7 +4,8 @@ ghost use Rattle.std.specs.Prelude.{◌↔◌, ◌<◌, length, map, take, IsTru
 ghost use Rattle.std.specs.List.{AllByRecursion, range_with_len};
 ghost use Rattle.program_types.specs.Formed.{insn_at, insn_registers, AreAmong, RegistersHold};
 ghost use Rattle.program_types.specs.View.{insn, code};
-ghost use Rattle.program_code_rules.specs.First.{AllHold, IsFirstBroken};
+ghost use Rattle.program_code_rules.specs.First.{AllHold};
+ghost use Rattle.program_code_rules.specs.inner.First.{IsFirstBroken};
 
 use program_types::{Code, Insn};
 

@@ -6,7 +6,8 @@ ghost use Rattle.program_types.specs.Formed.{insn_branch, insn_short_branch, IsT
 ghost use Rattle.program_types.specs.View.{insn, code};
 ghost use Rattle.program_code_rules.specs.Branches.{BranchLands, BranchMoves, BranchHolds, SwitchLands};
 ghost use Rattle.program_code_rules.specs.inner.Branches.{BranchStays};
-ghost use Rattle.program_code_rules.specs.First.{AllHold, IsFirstBroken};
+ghost use Rattle.program_code_rules.specs.First.{AllHold};
+ghost use Rattle.program_code_rules.specs.inner.First.{IsFirstBroken};
 ghost use Rattle.program_code_rules.specs.CodeRules.{TargetsHold};
 
 use program_types::{Code, Insn, payload_of, targets_of};
