@@ -142,5 +142,5 @@ class Callers(CallersTest):
         seen = run(*words, *(word for pair in pairs for word in pair), cwd=self.work)
         self.check_equal("valgrind: all jobs", seen, (0, b"", ""))
         for number, (job, path) in enumerate(pairs):
-            out, said, status = (self.get(f"{number}.{end}") for end in ("out", "err", "status"))
-            self.check_equal(f"{job} of {path}", (int(status), out, said.decode()), self.command(job, path))
+            out, line, ended = (self.get(f"{number}.{end}") for end in ("out", "err", "status"))
+            self.check_equal(f"{job} of {path}", (int(ended), out, line.decode()), self.command(job, path))
