@@ -1,8 +1,11 @@
-"""The program beside the second reading: comparing.py says how."""
+"""The program beside the second reading (comparing.py says how), and the test vectors."""
+import os
+import subprocess
 import sys
 
 from .. import tried
-from ..base import TestCase
+from ..base import TestCase, get
+from . import vectors
 from .comparing import CheckComparison, Comparison, FileComparison, TextComparison
 
 
@@ -32,3 +35,19 @@ class SecondReading(TestCase):
 
     def test_files(self) -> None:
         self.compare("files", FileComparison(self.program))
+
+
+class Vectors(TestCase):
+    def test_program(self) -> None:
+        """The program does what the manifest of tests/vectors expects."""
+        for one in vectors.vectors():
+            path = os.path.join(vectors.FOLDER, one.name)
+            done = subprocess.run([tried.program(), one.command, path], capture_output=True, text=True)
+            with self.subTest(one.name):
+                wanted = (0, "ok\n", "") if one.expected == "ok" else (1, "", f"{one.expected}\n")
+                self.assertEqual((done.returncode, done.stdout, done.stderr), wanted)
+
+    def test_folder(self) -> None:
+        """tests/vectors is as it would be written."""
+        self.assertEqual({name: get(os.path.join(vectors.FOLDER, name)) for name in sorted(os.listdir(vectors.FOLDER))},
+                         dict(sorted(vectors.contents().items())))

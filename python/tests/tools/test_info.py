@@ -12,7 +12,9 @@ from collections.abc import Iterable
 from dexasm.tools.info.dump import Dump, dump
 from dexasm.tools.info.tables import Readable, rows_read, sections, tables
 from tests.oracle import examples, making, mutating
-from .rooms import ESC, HEAD, LISTING, NAMES, Ended, HelperTest, assembled, dexasm, is_one_line, put, room, shell, tool
+from .rooms import (
+    ESC, HEAD, LISTING, NAMES, TOP, Ended, HelperTest, assembled, dexasm, get, is_one_line, put, room, shell, tool,
+)  # fmt: skip
 
 ROW = re.compile(r"([0-9a-f]{8})  ((?:[0-9a-f]{2} )*[0-9a-f]{2})(?:  |$)")
 LARGE = 4000  # bytes of an example that takes no time
@@ -343,3 +345,10 @@ class Info(HelperTest):
             seen = tool("dexasm-info", "--hex", said, "bad.dex", at=at)
             is_so = seen[0] == 1 and seen[1].count(">>>>>>>>  refused 8 Checksum at 0x8\n") == marks
             self.check(f"dexasm-info --hex {said}, the fault", is_so, seen)
+
+    def test_file_of_format(self) -> None:
+        """The file that FORMAT shows byte by byte is shown as it prints it."""
+        at, page = room("info page"), get(TOP, "docs/FORMAT.md").decode()
+        put(at, "a.dex", get(TOP, "tests/vectors/one-method.dex"))
+        shown = tool("dexasm-info", "--hex", "a.dex", at=at)
+        self.assertEqual(shown, (0, page.split("## A file byte by byte")[1].split("```")[1].removeprefix("text\n"), ""))

@@ -156,7 +156,7 @@ def page(said: dict[str, str]) -> str:
 def faults(path: str) -> list[tuple[str, str, str, str]]:
     """The rows of a document's tables of faults: number, name, meaning, place."""
     with open(path, encoding="utf8") as file:
-        return re.findall(r"^\| (\d+) \| (\w+) \| (.*) \| (.*) \|$", file.read(), re.M)
+        return re.findall(r"^\| (\d+) \| ([A-Z]\w+) \| (.*) \| (.*) \|$", file.read(), re.M)
 
 
 def rows_of(path: str, numbers: Container[int]) -> list[str]:

@@ -149,38 +149,42 @@ def layers_picture(layers: dict[str, list[str]]) -> str:
 
 # Which part refers to which, by the words of FORMAT that say so.
 REFERS = (
-    ("string_ids", "texts", "| string_ids | the offset of a string_data_item |"),
-    ("proto_ids", "type lists", "and the offset of a type_list (the parameters; 0 for none)"),
-    ("class_defs", "type lists", "the offset of a type_list (the interfaces; 0 for none)"),
-    ("class_defs", "class data", "the offset of the class data"),
-    ("class_defs", "static values", "the offset of the static values"),
-    ("class data", "code items", "and the offset of its code, 0 for none"),
-    ("header", "the map", "| 52 | map_off | where the map stands |"),
+    ("string_ids", "texts", "| string_data_off | the offset of a string_data_item |"),
+    ("proto_ids", "type lists", "| parameters_off | the offset of a type_list, or 0 for no parameters |"),
+    ("class_defs", "type lists", "| interfaces_off | the offset of a type_list"),
+    ("class_defs", "class data", "| class_data_off | the offset of a class_data_item"),
+    ("class_defs", "static values", "| static_values_off | the offset of an encoded_array_item"),
+    ("class data", "code items", "code_off: the offset of a code_item"),
+    ("header", "the map", "| map_off | the offset of the map |"),
 )
-OF_METHODS = "| method_ids | the indices of a type (the class), a prototype, and a string (the name) |"
+OF_FIELDS, OF_METHODS = (
+    f"| {table}_ids | 0 | u2 | class_idx | the index of a type | | | 2 | u2 | {second}"
+    " | | | 4 | u4 | name_idx | the index of a string |"
+    for table, second in (("field", "type_idx | the index of a type"), ("method", "proto_idx | the index of a prototype"))
+)
 INDEXES = (
-    ("type_ids", "string_ids", "| type_ids | the index of a string |"),
-    ("proto_ids", "string_ids", "the indices of a string (the shorty) and of a type (the return type)"),
-    ("proto_ids", "type_ids", "the indices of a string (the shorty) and of a type (the return type)"),
-    ("field_ids", "type_ids", "| field_ids | the indices of a type (the class), a type, and a string (the name) |"),
-    ("field_ids", "string_ids", "| field_ids | the indices of a type (the class), a type, and a string (the name) |"),
+    ("type_ids", "string_ids", "| descriptor_idx | the index of a string"),
+    ("proto_ids", "string_ids", "| shorty_idx | the index of a string |"),
+    ("proto_ids", "type_ids", "| return_type_idx | the index of a type |"),
+    ("field_ids", "type_ids", OF_FIELDS),
+    ("field_ids", "string_ids", OF_FIELDS),
     ("method_ids", "type_ids", OF_METHODS),
     ("method_ids", "proto_ids", OF_METHODS),
     ("method_ids", "string_ids", OF_METHODS),
-    ("class_defs", "type_ids", "the class, its access flags, the superclass"),
-    ("class_defs", "string_ids", "a string (the source file)"),
+    ("class_defs", "type_ids", "| class_idx | the index of a class type |"),
+    ("class_defs", "string_ids", "| source_file_idx | the index of a string"),
 )
 INDEXES_TOO = "type lists, code, values and class", "data have indices of rows, too"
 SAID_OF_INDEXES = (
-    "then so many type indices of two bytes",
-    "An index is that of a row of its table",
+    "entry k: the index of a type",
+    "An index must be that of a row of its table",
     "an index of its table, unsigned",
-    "A field's entry is the difference of its index to that of the entry before",
+    "field_idx_diff, access_flags",
 )
 ALIGNED = {
-    "type lists": "A **type_list** stands 4-aligned in its section",
-    "code items": "A **code_item** is 4-aligned",
-    "the map": "At map_off, 4-aligned and within the data section",
+    "type lists": "A **type_list** must be aligned",
+    "code items": "A **code_item** must be aligned",
+    "the map": "The map_list is at map_off. It must be aligned",
 }
 ROW = 34
 
@@ -196,12 +200,12 @@ def parts_of_file() -> list[tuple[str, str, str]]:
     """Each part of a written file in its order, as FORMAT has it: its kind, its name, and what is said of it."""
     page = read(FORMAT)
     said = re.search(r"^Header; (string_ids, [^;]*); (type lists .*?), the map\.", page, re.M | re.S)
-    sizes = re.search(r"size and offset of (string_ids.*?) \| rows of ([\d, and]*) bytes \|", page)
+    sizes = re.findall(r"^\| \d+ \| u4, u4 \| (\w+)_size, \w+_off \| rows of (\d+) bytes", page, re.M)
     size = re.search(r"^## Header \((\d+) bytes\)$", page, re.M)
     if not (said and sizes and size):
         raise Missing(f"{FORMAT} doesn't say the parts of a written file, or the sizes of rows, as this reads them")
-    tables, rows = said[1].split(", "), re.findall(r"\d+", sizes[2])
-    if sizes[1].split(", ") != tables or len(rows) != len(tables):
+    tables, rows = said[1].split(", "), [row for _, row in sizes]
+    if [table for table, _ in sizes] != tables:
         raise Missing(f"{FORMAT} names the tables in two orders")
     parts = [("header", "header", f"{size[1]} bytes")]
     parts += [("table", name, f"rows of {row} bytes") for name, row in zip(tables, rows)]

@@ -11,7 +11,7 @@ from collections.abc import Iterator
 from . import Seen
 
 WIDTH, WORDS = 120, 7500
-LONG = {"docs/FORMAT.md", "docs/LISTING.md", "docs/FILES.md"}  # to be looked up in, or generated
+LONG = {"docs/FORMAT.md", "docs/LISTING.md", "docs/FILES.md", "docs/OPCODES.md"}  # to be looked up in, or generated
 CODE = re.compile(r"^ *```.*?^ *```", re.S | re.M)
 
 

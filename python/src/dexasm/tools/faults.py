@@ -34,6 +34,6 @@ def sentences() -> dict[int, tuple[str, str, str]]:
     """Of each number its name, the sentence of its row, and what its place is."""
     rows = {}
     for text in (page("FORMAT.md"), page("LISTING.md")):
-        for number, name, where, place in re.findall(r"^\| (\d+) \| (\w+) \| (.*) \| (.*) \|$", text, re.MULTILINE):
+        for number, name, where, place in re.findall(r"^\| (\d+) \| ([A-Z]\w+) \| (.*) \| (.*) \|$", text, re.MULTILINE):
             rows[int(number)] = name, ALONE.get(int(number), where), place
     return rows
