@@ -10,8 +10,10 @@ import socket
 import stat
 import threading
 import time
+import unittest.mock
 from typing import Any
 
+from dexasm import deliver
 from . import outs
 from .outs import LATE, NEW, OLD, holds, loaded, made, mode_of, only, outcome
 from .tools.rooms import get, put, seen_in
@@ -193,6 +195,15 @@ class Deliver(outs.OutTest):
         self.says("the mask, after a failure", signal.pthread_sigmask(signal.SIG_BLOCK, ()), set())
         out = made(at, "limited")
         self.says("a limit that kills", self.ran(out, most=1000), "EFBIG", holds(out, OLD), only(at, "out", "limited"))
+
+    def test_umask(self) -> None:
+        """The umask is read, not set: another thread would make a file with the wrong mode meanwhile."""
+        before = os.umask(0o027)
+        self.addCleanup(os.umask, before)
+        with unittest.mock.patch("os.umask", side_effect=AssertionError("set")):
+            self.check_equal("the umask", deliver.umask(), 0o027)
+        with unittest.mock.patch("builtins.open", side_effect=FileNotFoundError):
+            self.check_equal("the umask without /proc", deliver.umask(), 0o027)
 
     def test_changing(self) -> None:
         """Somebody changes OUT all the time: nothing is written through it, and nothing waits."""

@@ -88,7 +88,8 @@ def deliver(path: Path, answer: bytes, *, through: bool = True) -> None:
 
 @contextlib.contextmanager
 def held() -> Iterator[None]:
-    """The signals to end wait meanwhile, and a limit on the size of files ends no run."""
+    """Signals that end a process wait meanwhile, and a limit on file sizes ends none. This is so of the calling thread: a program with
+    more threads blocks these signals in the others itself."""
     before = signal.pthread_sigmask(signal.SIG_BLOCK, ())
     try:
         signal.pthread_sigmask(signal.SIG_BLOCK, ENDING | {signal.SIGXFSZ})
@@ -438,7 +439,11 @@ def new_mode(folder: bytes | int, most: int) -> int:
 
 
 def umask() -> int:
-    # (Python can only ask for it by setting it; what another thread makes in between is its own)
+    """The umask, from /proc; without that Python can only set it to learn it, which other threads notice."""
+    with contextlib.suppress(OSError), open("/proc/self/status", "rb") as status:
+        for row in status:
+            if row.startswith(b"Umask:"):
+                return int(row.split()[1], 8)
     mask = os.umask(0o077)
     os.umask(mask)
     return mask

@@ -100,7 +100,7 @@ class Method:
 class Class:
     """A class: its name, what stands before its members, and its members in four lists."""
 
-    renamed: ClassVar[int] = 0  # how often a class got another name
+    renamed: ClassVar[object] = object()  # another one after each renaming of a class
 
     name: Type
     flags: int = 0x1
@@ -114,7 +114,7 @@ class Class:
 
     def __setattr__(self, name: str, value: object) -> None:
         if name == "name" and hasattr(self, "name"):
-            Class.renamed += 1
+            Class.renamed = object()  # (one store: threads can lose an increment)
         object.__setattr__(self, name, value)
 
     @classmethod

@@ -29,7 +29,8 @@ class Classes(MutableSequence[Class]):
     def __init__(self, text: str) -> None:
         self._text = text
         self._rows: list[Class | tuple[int, int]] = []
-        self._changed, self._index = 0, ((-1, -1), dict[str, int]())
+        self._changed = 0
+        self._index: tuple[tuple[object, int], dict[str, int]] = (None, -1), {}
         at = len(HEAD)
         while at < len(text):
             end = text.index(_END, at) + len(_END)

@@ -12,7 +12,7 @@ import signal
 import subprocess
 import sys
 import tempfile
-import unittest
+import unittest.mock
 from collections.abc import Callable, Collection, Iterable, Sequence
 from typing import Any, TypeVar
 
@@ -82,6 +82,12 @@ class HelperTest(TestCase):
         signal.signal(signal.SIGINT, signal.default_int_handler)
         if signal.getsignal(signal.SIGHUP) == signal.SIG_IGN:
             signal.signal(signal.SIGHUP, lambda *_: None)
+
+    def use_program(self) -> None:
+        """Has the module in this process run the program that is tried, until the test ends."""
+        named = unittest.mock.patch.dict(os.environ, {"DEXASM_COMMAND": tried.program()} | os.environ)
+        named.start()
+        self.addCleanup(named.stop)
 
 
 @functools.cache

@@ -891,7 +891,7 @@ class LintCode(HelperTest):
     def test_said(self) -> None:
         """What is said where a register is set on some ways, and where it is an array on some; of handlers and calls."""
         rows = [(number, ("", head, text)) for number, (head, text, _) in enumerate(SAID)]
-        os.environ.setdefault("DEXASM_COMMAND", tried.program())
+        self.use_program()
         told = [one.text for one in lint_code.look(programs.Program.parse(listing(0, rows)))]
         self.check_equal("dexasm-lint --code, sentences", told, [said for *_, said in SAID])
 
@@ -1075,7 +1075,7 @@ class LintCode(HelperTest):
 
     def test_shared(self) -> None:
         """A code that methods share is judged once for each signature, and told of in each method."""
-        os.environ.setdefault("DEXASM_COMMAND", tried.program())
+        self.use_program()
         same = "code 1 1 1\nneg-int v0 v0\nreturn-void\nend code\n"
         asks = "code 1 1 1\ninvoke-direct { v0 } LQ;->p()V\nreturn-void\nend code\n"
         text = HEAD.decode()
@@ -1104,7 +1104,7 @@ class LintCode(HelperTest):
 
     def test_bounds(self) -> None:
         """A method beyond what is looked at isn't called right."""
-        os.environ.setdefault("DEXASM_COMMAND", tried.program())
+        self.use_program()
         program = programs.Program.of_listing(dexasm("list", given=assembled(LISTED)).decode("ascii"))
         for bounds in (("MOST_WORK", "MOST_EACH"), ("MOST_CELLS",)):
             kept = {name: getattr(verify, name) for name in bounds}

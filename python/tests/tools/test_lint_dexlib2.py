@@ -12,7 +12,6 @@ from dexasm.program import Program
 from dexasm.tools.lint.classes import Classes
 from dexasm.tools.lint.kinds import Kind, Kinds
 from dexasm.tools.lint.verify import Method
-from tests import tried
 from .rooms import HEAD, TOP, HelperTest, assembled, dexasm, put, room, run
 
 JARS = [f"/usr/share/java/{name}.jar" for name in ("dexlib2", "guava", "jsr305", "smali-util")]
@@ -154,7 +153,7 @@ class BesideDexlib2(HelperTest):
     def test_beside(self) -> None:
         if not all(map(os.path.exists, JARS)) or not shutil.which("javac") or not shutil.which("java"):
             self.skipTest("dexlib2 isn't tried here: no javac, or no libsmali-java")
-        os.environ.setdefault("DEXASM_COMMAND", tried.program())
+        self.use_program()
         file = assembled(listing(20))
         found, refused = theirs(room("lint dexlib2"), file)
         program = Program.of_listing(dexasm("list", given=file).decode("ascii"))

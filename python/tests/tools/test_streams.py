@@ -16,7 +16,7 @@ from .rooms import (
 from .streaming import answers, each, fake, is_line
 
 
-# Of each helper words that it ends well with.
+# For each helper words with which it exits well.
 WORDS = {
     "apk": "check a.apk",
     "browse": "a.dex --output pages",
@@ -30,13 +30,15 @@ WORDS = {
     "lint": "b.dex",
     "merge": "b.dex c.txt --output merged",
     "query": "classes a.dex",
+    "rename": "a.dex A=Z --output renamed",
     "size": "a.dex",
     "split": "--join classes",
 }
+HELPERS = [*WORDS]
 if not has_pages():
     del WORDS["browse"]
 ENDS, FAILS = {"diff": 1}, {"diff": 2}  # statuses, where they aren't 0 and 3
-SILENT = ("browse", "merge")  # on standard output
+SILENT = ("browse", "merge", "rename")  # on standard output
 UNREAD = "( sleep 0.3; {} ) | true; exit ${{PIPESTATUS[0]}}"
 
 
@@ -53,6 +55,10 @@ def prepared(name: str) -> str:
 
 
 class Streams(HelperTest):
+    def test_helpers(self) -> None:
+        """Each entry point is run here."""
+        self.check_equal("helpers", [f"dexasm-{name}" for name in HELPERS], sorted(os.listdir(TOOLS)))
+
     def test_streams(self) -> None:
         """Closed, full, and not read."""
         at = prepared("streams")

@@ -13,7 +13,7 @@ app.apk 2>&1 | dexasm-explain app.apk`: each line then names one of its .dex fil
 
 With --json it prints a line of JSON for each refusal, and nothing else: `number`, `name`, `place`; `sentence` and
 `place_is`, as the pages have them; `found`, lines of what stands there; `hints`; and `line`, `column`, `class`,
-`member`, `insn` (the number of an instruction in its code, from 0) and `word` where they are known, else null.
+`member`, `instruction` (its number in its code, from 0) and `word` where they are known, else null.
 
 The pages are those of the repository, or those that the package put below share/doc/dexasm.
 

@@ -245,8 +245,7 @@ def invoke(method: Method, insn: Named, line: Line, place: int) -> None:
         takes = f"{needed} register{'s' * (needed != 1)}" + ("" if kind == "static" else ", its object among them")
         method.tell(place, "argument-count", f"the method takes {takes}, and the call gives {len(registers)}")
         return
-    if method.is_short(place, len(registers)):
-        return
+    method.check_outs(place, len(registers))
     arguments(method, line, place, call, registers[kind != "static" :])
     if call.name == "<init>" and kind == "direct":
         initialize(method, line, registers[0], place, call)

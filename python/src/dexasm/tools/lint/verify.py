@@ -98,13 +98,12 @@ class Method:
             return str(insn.name)
         return self.classes.call(insn.name).returns  # type: ignore[arg-type]
 
-    def is_short(self, place: int, count: int) -> bool:
-        """Whether the outs aren't enough for a call of so many registers."""
+    def check_outs(self, place: int, count: int) -> None:
+        """That the outs are enough for a call of so many registers."""
         if count <= self.code.outs:
-            return False
+            return
         said = f"outs of the code are {self.code.outs}, and the call takes {count}"
         self.tell(place, "outs-short", f"{said}: write {count} as the third number of the line that says code")
-        return False
 
     def tell(self, place: int, rule: str, text: str, register: int = -1, kind: Kind = UNSET) -> None:
         self.is_suspect = True
