@@ -1,8 +1,9 @@
-"""What hatchling can't be told by pyproject.toml of the wheel: the library, the manual pages and the pages that helpers
-read stand in the repository around this folder; its tag is the platform's; and README is as `described` has it.
+"""What hatchling can't be told by pyproject.toml of the wheel: the library, the command and the manual pages are in the
+repository around this folder; its tag is the platform's; and README is as `described` has it.
 
-The library is the file that the variable DEXASM_LIBRARY names, or the one that tools/build library has made. A file
-PROVED-BY beside it, which tools/package writes, goes along: helpers know by it which build they have.
+Library and command are the files that the variables DEXASM_LIBRARY and DEXASM_COMMAND name, or those that tools/build
+has made. The command is a script of the wheel, as it is: pip puts it into the environment's bin. A file PROVED-BY beside
+the library, which tools/package writes, goes along: helpers know by it which build they have.
 """
 from __future__ import annotations
 
@@ -15,16 +16,15 @@ from hatchling.builders.hooks.plugin.interface import BuildHookInterface
 from hatchling.metadata.plugin.interface import MetadataHookInterface
 
 TOP = os.path.dirname(os.path.dirname(os.path.abspath(__file__)))
-BUILT = os.path.join(TOP, "crates", "dexasm_c", "out", "built", "libdexasm.so")
-# What pip looks at: a Linux with glibc 2.17 or later, where the library loads (the program asks for 2.34).
-TAG = "py3-none-manylinux_2_17_x86_64"
-PAGES = "FORMAT", "LISTING"  # that dexasm-explain and others read
+# What pip checks: a Linux with glibc 2.34 or later, where the command starts (the library needs 2.17).
+TAG = "py3-none-manylinux_2_34_x86_64"
 
 
-def library() -> str:
-    path = os.environ.get("DEXASM_LIBRARY") or BUILT
+def built(crate: str, name: str, variable: str) -> str:
+    """The path of what tools/build made, or of what the variable names."""
+    path = os.environ.get(variable) or os.path.join(TOP, "crates", crate, "out", "built", name)
     if not os.path.exists(path):
-        raise SystemExit(f"libdexasm.so isn't at {path}: `tools/build library` makes it, or DEXASM_LIBRARY names its file")
+        raise SystemExit(f"{name} isn't at {path}: `tools/build library` makes it, or {variable} names its file")
     return os.path.abspath(path)
 
 
@@ -39,11 +39,13 @@ class Wheel(BuildHookInterface[Any]):
             return
         named = f"dexasm-{self.metadata.version}"
         share = f"{named}.data/data/share"
-        files = {library(): "dexasm/libdexasm.so", f"{TOP}/LICENSE": f"{named}.dist-info/LICENSE"}
-        proved_by = os.path.join(os.path.dirname(library()), "PROVED-BY")
+        library = built("dexasm_c", "libdexasm.so", "DEXASM_LIBRARY")
+        command = built("dexasm", "dexasm", "DEXASM_COMMAND")
+        files = {library: "dexasm/libdexasm.so", command: f"{named}.data/scripts/dexasm"}
+        files[f"{TOP}/LICENSE"] = f"{named}.dist-info/LICENSE"
+        proved_by = os.path.join(os.path.dirname(library), "PROVED-BY")
         if os.path.exists(proved_by):
             files[proved_by] = f"{share}/doc/dexasm/PROVED-BY"
-        files |= {f"{TOP}/docs/{name}.md": f"{share}/doc/dexasm/docs/{name}.md" for name in PAGES}
         for path in sorted(glob.glob(f"{TOP}/docs/man/*.[15]")):
             files[path] = f"{share}/man/man{path[-1]}/{os.path.basename(path)}"
         build_data["force_include"].update(files)

@@ -1,5 +1,5 @@
 """The module for Python over libdexasm: the buffers that the library is given, too small, of no bytes, with room after
-the answer; names, streams and OUT of the module as a command; 1,000 calls in a limited memory, and several threads."""
+the answer; names; 1,000 calls in a limited memory, and several threads."""
 import ctypes
 import os
 import resource
@@ -130,7 +130,7 @@ class Binding(LibraryTest):
                     pass
 
     def test_python(self) -> None:
-        """What the module does beside its calls: names, a library that isn't there, OUT."""
+        """What the module does beside its calls: names, and a library that isn't there."""
         words: list[str] | str
         env = {**os.environ, "PYTHONPATH": os.path.join(TOP, "python", "src"), "PYTHONDONTWRITEBYTECODE": "1"}
         words = [
@@ -151,9 +151,9 @@ class Binding(LibraryTest):
             f"{self.work}/alone/dexasm",
             ignore=shutil.ignore_patterns("__pycache__"),
         )
-        alone = {name: value for name, value in env.items() if name != "DEXASM_LIBRARY"} | {
+        alone = {name: value for name, value in env.items() if name not in ("DEXASM_LIBRARY", "DEXASM_COMMAND")} | {
             "PYTHONPATH": f"{self.work}/alone",
-            "DEXASM_COMMAND": "/none",
+            "PATH": "/none",
         }
         status, _, said = run(sys.executable, "-c", "import dexasm; dexasm.version()", env=alone)
         self.check(
@@ -161,43 +161,6 @@ class Binding(LibraryTest):
             status == 1 and "ImportError" in said and "DEXASM_LIBRARY" in said and "tools/build library" in said,
             said,
         )
-        file, out = self.put("given.dex", dexasm.assemble(LISTINGS["one class"])), self.put("out.txt", b"kept")
-        os.chmod(out, 0o640)
-        strip = [sys.executable, "-m", "dexasm", "list", file, "--output"]
-        for number in range(3):
-            self.put(f"out.txt.{number}.part", b"")
-        before = os.stat(out).st_ino
-        self.check_equal("Python: OUT", run(*strip, out, env=env), (0, b"", ""))
-        with open(out, encoding="ascii") as made:
-            there = os.stat(out)
-            is_so = (made.read(), there.st_mode & 0o777, there.st_ino != before) == (LISTINGS["one class"], 0o640, True)
-            self.check("Python: OUT is replaced, with its mode", is_so and not os.path.exists(f"{out}.3.part"), there)
-        os.link(out, f"{self.work}/other")
-        self.check(
-            "Python: an OUT of two names", run(*strip, out, env=env) == (0, b"", "") and os.stat(out).st_nlink == 2
-        )
-        self.check_equal("Python: a device", run(*strip, "/dev/full", env=env), (3, b"", "dexasm: cannot write\n"))
-        self.check_equal(
-            "Python: OUT in no folder",
-            run(*strip, f"{self.work}/none/out", env=env),
-            (3, b"", "dexasm: cannot write\n"),
-        )
-        os.symlink("made.txt", f"{self.work}/link")
-        got = run(*strip, f"{self.work}/link", env=env)
-        self.check(
-            "Python: a link to nothing",
-            got == (0, b"", "") and os.path.islink(f"{self.work}/link") and os.path.exists(f"{self.work}/made.txt"),
-            got,
-        )
-        for words, want in (
-            ("check <&-", (3, b"", "dexasm: cannot read\n")),
-            ('list "$1" >&-', (3, b"", "dexasm: cannot write\n")),
-            ('list "$1" >/dev/full', (3, b"", "dexasm: cannot write\n")),
-            ('list "$1" --output /dev/full 2>&-', (3, b"", "")),
-            ("check $'n\\xff'", (2, b"", "dexasm: an argument is not UTF-8\n")),
-        ):
-            got = run("bash", "-c", f'"$0" -m dexasm {words}', sys.executable, file, env=env)
-            self.check_equal(f"Python: {words}", got, want)
 
     def test_memory(self) -> None:
         """1,000 calls and more in a limited memory, where no call keeps any; and a call that can't have what it

@@ -1,6 +1,5 @@
-"""The built program with each call of the system failed, or ended by a signal, in turn: OUT isn't lost. The module for
-Python as a command and dexasm-close too, from the call that first names OUT on. (Not the launcher, a script with calls
-of its own.)
+"""The built program with each call of the system failed, or ended by a signal, in turn: OUT isn't lost. dexasm-close
+too, from the call that first names OUT on. (Not the launcher, a script with calls of its own.)
 
 Every call after FILE is opened is made to fail once with each of some errors, and once the program is killed, and once
 interrupted, at that call, in each setting of OUT: absent, present, with two names, behind a link, a mount point (as
@@ -75,11 +74,6 @@ def program_of(program: str) -> Subject:
 
 def environment(program: str) -> dict[str, str]:
     return {**os.environ, "DEXASM_COMMAND": program, "PYTHONPATH": os.path.join(TOP, "python/src")}
-
-
-def module_of(program: str) -> Subject:
-    words = [sys.executable, "-B", "-m", "dexasm", "strip"]
-    return Subject("python3 -m dexasm, ", words, FILE, ANSWER, '"out"', FEW, SOME, environment(program))
 
 
 def close_of(program: str) -> Subject:
@@ -318,10 +312,6 @@ class Faults(TestCase):
 
     def test_program(self) -> None:
         self.check_settings(program_of(self.program))
-
-    def test_module(self) -> None:
-        """The module for Python as a command."""
-        self.check_settings(module_of(self.program))
 
     def test_close(self) -> None:
         """dexasm-close."""

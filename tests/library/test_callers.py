@@ -5,13 +5,22 @@ cargo is, valgrind is asked about the caller in C where it is. Java is tried by 
 of the module for Python."""
 import os
 import shutil
-import sys
+from collections.abc import Callable
 
+import dexasm
 from .. import TOP
-from ..base import Ended, compiler
+from ..base import Ended, compiler, get
 from .calls import JOBS, LISTINGS, LibraryTest, run
 
 Words = dict[str, list[str]]  # of each caller, by its name
+# The module's calls, with the command's output of each.
+MODULE: dict[str, Callable[[bytes], bytes]] = {
+    "check": lambda given: dexasm.check(given) or b"ok\n",
+    "list": lambda given: dexasm.list(given).encode("ascii"),
+    "assemble": dexasm.assemble,
+    "align": lambda given: dexasm.assemble(given, align=True),
+    "strip": dexasm.strip,
+}
 # Where a version stands, and how.
 VERSIONS = (
     ("crates/dexasm_c/include/dexasm.h", 'DEXASM_VERSION "{}"'),
@@ -59,10 +68,12 @@ class CallersTest(LibraryTest):
         words = ["-O2", "-Wall", "-Wextra", "-Werror", "-I", self.library, f"{TOP}/bindings/c/example.c"]
         return made, run(*compiler(), *words, *libraries[kind], "-o", made)
 
-    def module(self, *words: str) -> Ended:
-        """What the module for Python answers as a command."""
-        env = {**os.environ, "PYTHONPATH": os.path.join(TOP, "python", "src"), "PYTHONDONTWRITEBYTECODE": "1"}
-        return run(sys.executable, "-m", "dexasm", *words, env=env)
+    def module(self, job: str, path: str) -> Ended:
+        """What the module for Python returns or raises, as the command has it."""
+        try:
+            return 0, MODULE[job](get(path)), ""
+        except dexasm.Refused as refused:
+            return 1, b"", f"dexasm: {refused.args[0]}\n"
 
     def check_answers(self, callers: Words) -> None:
         """Of each file and of none."""
@@ -117,9 +128,9 @@ class Callers(CallersTest):
     def test_python(self) -> None:
         for path in self.paths:
             for job in JOBS:
-                words = ["assemble", "--align"] if job == "align" else [job]
-                self.check_equal(f"Python: {job} of {path}", self.module(*words, path), self.command(job, path))
-        self.check_equal("Python: the version", self.module("--version"), run(self.program, "--version"))
+                self.check_equal(f"Python: {job} of {path}", self.module(job, path), self.command(job, path))
+        version = f"dexasm {dexasm.version()}\n".encode()
+        self.check_equal("Python: the version", (0, version, ""), run(self.program, "--version"))
 
     def test_versions(self) -> None:
         """What each binding says of its version is what the command says."""

@@ -31,6 +31,7 @@ if command -v pkg-config >/dev/null; then pkg-config --modversion dexasm; else e
 if command -v man >/dev/null; then man -w dexasm-check | sed "s=^$PWD/=="; else echo none; fi
 complete -p dexasm | cut -c1-8
 """
+LEFT_OUT = ("PYTHONPATH", "DEXASM_LIBRARY", "DEXASM_COMMAND")  # of the environment of a wheel
 NO_PAGES = "pages need jinja2 (Debian: python3-jinja2; pip: dexasm[pages])"
 # A helper over the module that they share, over a page, and over both modules.
 HELPED = (
@@ -297,7 +298,7 @@ class PackageTest(TestCase):
         with tempfile.TemporaryDirectory() as room:
             with open(f"{room}/hello.dex", "wb") as file:
                 file.write(self.sample)
-            env = {name: value for name, value in os.environ.items() if name not in ("PYTHONPATH", "DEXASM_LIBRARY")}
+            env = {name: value for name, value in os.environ.items() if name not in LEFT_OUT}
             with zipfile.ZipFile(wheel) as held:
                 by_end = {name.rpartition("/")[2]: name for name in held.namelist()}
                 told = held.read(by_end["METADATA"]).decode()
@@ -314,7 +315,7 @@ class PackageTest(TestCase):
                     "python",
                     [backend() or "", *by_backend],
                     from_folder,
-                    {**env, "DEXASM_LIBRARY": f"{self.library}/libdexasm.so"},
+                    {**env, "DEXASM_LIBRARY": f"{self.library}/libdexasm.so", "DEXASM_COMMAND": tried.program()},
                     "unknown",  # (nothing beside the library says whether it was proved)
                 ),
             ):
@@ -329,6 +330,8 @@ class PackageTest(TestCase):
         python = f"{place}/bin/python"
         self.runs(f"{what}: check", python, "-m", "dexasm", "check", "hello.dex", want="ok\n", env=env, cwd=room)
         self.runs(f"{what}: its command", f"{place}/bin/dexasm", "check", "hello.dex", want="ok\n", env=env, cwd=room)
+        is_same = get(f"{place}/bin/dexasm") == get(tried.program()) and os.access(f"{place}/bin/dexasm", os.X_OK)
+        self.check(f"{what}: its command is the program", is_same)
         typed = "import dexasm, pathlib; print(pathlib.Path(dexasm.__file__).with_name('py.typed').exists())"
         self.runs(f"{what}: its types", python, "-c", typed, want="True\n", env=env, cwd=room)
         self.runs(f"{what}: programs", python, "-c", PROGRAM, want="LHello; True\n", env=env, cwd=room)

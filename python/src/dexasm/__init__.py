@@ -9,9 +9,9 @@ Program has a file's program as objects: it is read, changed and written. One ma
 
 What is refused raises Refused, with the fault's number, name and place; want of memory raises MemoryError. The library
 is looked for at the first call: the one that the variable DEXASM_LIBRARY names, or libdexasm.so beside this file, or
-the one that tools/build made in this repository, or the system's. Where there is none, each call runs the command: the
-one that the variable DEXASM_COMMAND names, or `dexasm` on the PATH, or this repository's. Where there is neither, a
-call is an ImportError.
+the one that tools/build made in this repository, or the system's. Where there is none, or where only the variable
+DEXASM_COMMAND names a command, each call runs the command: the named one, or `dexasm` on the PATH, or the one that came
+with this package. Where there is neither, a call is an ImportError.
 `from dexasm import *` leaves out `list`, so that Python's own stays.
 """
 from __future__ import annotations
@@ -116,8 +116,8 @@ class Refused(ValueError):
         return Refused, (self.number, self.name, self.place, self.where)
 
 
-def _asked() -> Library | Command:
-    """What answers: the library, or the command. It is looked for once, when it is first asked."""
+def core() -> Library | Command:
+    """The library or the command that the calls run. It is looked for once, at the first call."""
     global _answering
     if _answering is None:
         from dexasm.calls import found
@@ -134,20 +134,20 @@ def _bytes(data: Data) -> bytes:
 def check(data: Data) -> None:
     """Returns if the bytes are a file that keeps every rule of the format."""
     given = _bytes(data)
-    _asked().check(given)
+    core().check(given)
 
 
 def list(data: Data) -> str:
     """The listing of a file's program."""
     given = _bytes(data)
-    return _asked().list(given).decode("ascii")
+    return core().list(given).decode("ascii")
 
 
 def assemble(text: str | Data, align: bool = False) -> bytes:
     """The file of a listed program; with align a nop is put before each payload that would stand at an odd address."""
     given = text.encode("utf8", "surrogatepass") if isinstance(text, str) else _bytes(text)
     try:
-        return _asked().assemble(given, align)
+        return core().assemble(given, align)
     except Refused as refused:
         refused._listing = given, align
         raise
@@ -156,17 +156,17 @@ def assemble(text: str | Data, align: bool = False) -> bytes:
 def strip(data: Data) -> bytes:
     """A file's program, written again without what it doesn't need."""
     given = _bytes(data)
-    return _asked().strip(given)
+    return core().strip(given)
 
 
 def fault_name(number: int) -> str:
     """The name of a fault's number. Only the library tells it: without one this is a NotImplementedError, and Refused has the name."""
-    return _asked().fault_name(number)
+    return core().fault_name(number)
 
 
 def version() -> str:
     """The version of the library, or of the command."""
-    return _asked().version()
+    return core().version()
 
 
 if not TYPE_CHECKING:  # (by which a checker of types would take any name for one of this module)

@@ -1,27 +1,49 @@
-"""Who answers for this module: libdexasm, by ctypes, or where there is none the command. It is read when it is first
-asked, so that whoever asks neither of them waits for neither.
+"""Finds libdexasm or the command dexasm, runs jobs by it, and knows how it was built.
 
-The library is the one that the variable DEXASM_LIBRARY names, or libdexasm.so beside this file, or the one that
-tools/build made in this repository, or the system's. The command is the one that the variable DEXASM_COMMAND names, or
-`dexasm` on the PATH, or this repository's.
+Each job raises `Refused` if dexasm refuses its input, MemoryError if memory runs out, ImportError if there is neither a
+library nor a command, and OSError if the command fails otherwise. The first of these is taken:
+
+- the library that the variable DEXASM_LIBRARY names, the command that the variable DEXASM_COMMAND names;
+- libdexasm.so beside this file, or the one that tools/build made in this repository, or the one of an unpacked package,
+  or the system's;
+- `dexasm` on the PATH, or the one that came with this package.
+
+It is imported at the first call.
 """
 from __future__ import annotations
 
 import ctypes
 import os
+import re
+from typing import Any, NamedTuple
 
 from dexasm import Refused
 
-TYPE_CHECKING = False  # (as in typing, which takes as long to read as all that is here)
-if TYPE_CHECKING:
-    from typing import Any
-
 ANSWERED, REFUSED, MEMORY = 0, 1, 4
-LARGE = 1 << 20  # bytes of an answer
-INSIDE = "DEXASM_RUN_BY_PYTHON"  # set for a command that this module runs: that of a wheel is this module again
-HERE = os.path.dirname(os.path.abspath(__file__))
-TOP = os.path.join(HERE, *[".."] * 3)  # of this repository, where this is in it
-BUILT = os.path.join(TOP, "crates", "dexasm_c", "out", "built")
+LARGE = 1 << 20  # bytes of output
+HERE = os.path.dirname(os.path.realpath(__file__))
+SOURCES = os.path.dirname(HERE)  # the folder that has the package
+PROVED, QUICK, UNKNOWN = "proved", "quick", "unknown"
+
+
+def _top() -> tuple[str, bool]:
+    """The folder that has all that came along, and whether it is a checkout of the repository."""
+    folder, name = os.path.split(SOURCES)
+    if name == "src" and os.path.basename(folder) == "python":
+        return os.path.dirname(folder), True
+    if name in ("site-packages", "dist-packages"):
+        return os.path.dirname(os.path.dirname(folder)), False
+    return SOURCES, False  # (as by `pip install --target`)
+
+
+TOP, IS_CHECKOUT = _top()
+PROGRAM = os.path.join(TOP, *(() if IS_CHECKOUT else ("bin",)), "dexasm")
+LIBRARIES = (
+    os.path.join(HERE, "libdexasm.so"),
+    os.path.join(TOP, "crates", "dexasm_c", "out", "built", "libdexasm.so"),
+    os.path.join(TOP, "lib", "libdexasm.so.0"),
+)
+PROVED_BY = os.path.join(TOP, "share", "doc", "dexasm", "PROVED-BY")  # of a package
 
 
 class Fault(ctypes.Structure):
@@ -127,15 +149,13 @@ class Command:
         self.path = path
 
     def run(self, job: str, given: bytes, *words: str) -> bytes:
-        """The command's answer to a job."""
-        import re
+        """The command's output of a job."""
         import subprocess
 
-        from dexasm.answers import is_answer
-
-        env = {**os.environ, INSIDE: "1"}
-        command = [self.path, job, *words]
-        done = subprocess.run(command, input=given, stdout=subprocess.PIPE, stderr=subprocess.PIPE, env=env)
+        try:
+            done = subprocess.run([self.path, job, *words], input=given, capture_output=True)
+        except OSError as error:
+            raise OSError(f"{self.path} doesn't run: {error.strerror}") from None
         line = done.stderr.decode("utf8", "replace").strip().rpartition("\n")[2]
         refused = re.search(r"refused (\d{1,5}) (\w+) at (\d{1,20})\b", line)
         if done.returncode == REFUSED and refused:
@@ -144,8 +164,8 @@ class Command:
             raise MemoryError("dexasm: out of memory")
         if done.returncode:
             raise OSError(f"{self.path} ended with status {done.returncode}: {ascii(line)[1:-1]}")
-        if not is_answer(job, done.stdout):
-            raise OSError(f"{self.path}: what it answers is no answer to `{job}`")
+        if not is_output(job, done.stdout):
+            raise OSError(f"{self.path}: unexpected output of `{job}`")
         return done.stdout
 
     def check(self, given: bytes) -> None:
@@ -167,37 +187,106 @@ class Command:
         return self.run("--version", b"").decode("ascii").split()[-1]
 
 
-def load() -> ctypes.CDLL | None:
-    named = os.environ.get("DEXASM_LIBRARY")
-    if named:
-        return ctypes.CDLL(named)
-    for folder in (HERE, BUILT):
-        path = os.path.join(folder, "libdexasm.so")
-        if os.path.exists(path):
-            return ctypes.CDLL(path)
+def is_output(job: str, given: bytes) -> bool:
+    """Whether the bytes begin and end as the command's output of a job: of another program's nothing is read."""
+    if job == "check":
+        return given == b"ok\n"
+    if job == "list":
+        return given.startswith(b"dex 035 listing 2\n") and given.endswith(b"\n") and given.isascii()
+    if job == "--version":
+        return re.fullmatch(rb"dexasm [!-~]+\n", given) is not None
+    return given.startswith(b"dex\n") and int.from_bytes(given[32:36], "little") == len(given)
+
+
+# ---- which one
+
+
+def find_library() -> ctypes.CDLL | None:
+    path = next(filter(os.path.exists, LIBRARIES), "libdexasm.so.0")
     try:
-        return ctypes.CDLL("libdexasm.so.0")
+        return ctypes.CDLL(path)
     except OSError:
+        if os.path.isabs(path):
+            raise
         return None
 
 
 def find_command() -> str:
-    """The command, for where there is no library."""
+    """The path of the command that DEXASM_COMMAND names, or of the one on the PATH, or of the one that came along."""
     import shutil
 
-    if os.environ.get(INSIDE):
-        raise ImportError("libdexasm isn't found, and the command that was run for want of it is this module itself")
-    asked = os.environ.get("DEXASM_COMMAND")
-    for named in [asked] if asked else ["dexasm", os.path.join(TOP, "dexasm")]:
-        found = shutil.which(named)
-        if found:
-            return os.path.abspath(found)
+    named = os.environ.get("DEXASM_COMMAND")
+    for name in [named] if named else ["dexasm", PROGRAM]:
+        if path := shutil.which(name):
+            return os.path.abspath(path)
+    if named:
+        raise ImportError(f"DEXASM_COMMAND names no command: {ascii(named)[1:-1]}")
     raise ImportError(
         "neither libdexasm nor the command dexasm is found: DEXASM_LIBRARY or DEXASM_COMMAND may name its file; "
-        "`tools/build library` makes the library, `tools/quick library` makes it in 3 to 20 minutes and without its proof"
+        "`tools/build library` makes the library, `tools/quick library` makes one without its proof in 3 to 20 minutes"
     )
 
 
 def found() -> Library | Command:
-    library = load()
+    """The library or command that this module's calls run."""
+    if named := os.environ.get("DEXASM_LIBRARY"):
+        return Library(ctypes.CDLL(named))
+    library = None if os.environ.get("DEXASM_COMMAND") else find_library()
     return Command(find_command()) if library is None else Library(library)
+
+
+# ---- how it was built
+
+
+class Build(NamedTuple):
+    """Which library or command runs; `build` is proved, quick (the same source without its proof) or unknown."""
+
+    version: str
+    build: str
+    sha256: str
+
+    def __str__(self) -> str:
+        return f"answered by the {self.build} build with the SHA-256 {self.sha256}"
+
+
+def build_of(core: Library | Command) -> Build:
+    import hashlib
+
+    path = core.path
+    if _is_launcher(os.path.realpath(path)):
+        path = _run_by_launcher(path)
+    with open(path, "rb") as file:
+        sha = hashlib.sha256(file.read()).hexdigest()
+    return Build(core.version(), _kind_of_build(os.path.realpath(path), sha), sha)
+
+
+def _is_launcher(path: str) -> bool:
+    """Whether it is the script of a checkout, which runs a program of it."""
+    with open(path, "rb") as file:
+        return os.path.isdir(os.path.join(os.path.dirname(path), "crates", "dexasm")) and file.read(2) == b"#!"
+
+
+def _run_by_launcher(path: str) -> str:
+    """The program that the launcher of a checkout runs."""
+    import subprocess
+
+    done = subprocess.run([path], env={**os.environ, "DEXASM_WHICH": "1"}, stdout=subprocess.PIPE)
+    program = done.stdout.rstrip(b"\n").partition(b" ")[2]
+    if done.returncode or not program:
+        raise OSError(f"{path} ended with status {done.returncode}")
+    return os.fsdecode(program)
+
+
+def _kind_of_build(path: str, sha: str) -> str:
+    """By the folder in which tools/build or tools/quick put it, or by the sums in the PROVED-BY of its package."""
+    folder = os.path.dirname(path)
+    if os.path.exists(os.path.join(folder, "NOT-PROVED")):
+        return QUICK
+    place = folder.split(os.sep)[-4:]
+    if place[0] == "crates" and place[2] == "out" and place[3] in ("built", "quick"):
+        return PROVED if place[3] == "built" else QUICK
+    if not os.path.exists(PROVED_BY):
+        return UNKNOWN
+    with open(PROVED_BY, encoding="utf8", errors="replace") as file:
+        text = file.read()
+    return PROVED if text.startswith("Proved and built of ") and sha in text.split() else UNKNOWN

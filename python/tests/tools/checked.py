@@ -4,7 +4,7 @@ import os
 import re
 import shutil
 
-from .rooms import TOP, get, put, room
+from .rooms import TOP, room
 
 # What GitHub's runner undoes (actions/runner, ActionCommand.cs), in its order.
 RUNNER = (("%0D", "\r"), ("%0A", "\n"), ("%3A", ":"), ("%2C", ","), ("%25", "%"))
@@ -16,8 +16,6 @@ def alone() -> str:
     at = room("check alone")
     for folder in ("python/bin", "python/src"):
         shutil.copytree(os.path.join(TOP, folder), os.path.join(at, folder), ignore=shutil.ignore_patterns("*.so*"))
-    for page in ("FORMAT.md", "LISTING.md"):
-        put(at, f"docs/{page}", get(TOP, "docs", page))
     return os.path.join(at, "python", "bin")
 
 

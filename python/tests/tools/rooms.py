@@ -105,7 +105,8 @@ def environment() -> dict[str, str]:
     """What a command is given: the program that is tried first on its PATH, and the helpers."""
     ways = [path("bin"), TOOLS, os.path.dirname(sys.executable), os.environ["PATH"]]
     kept = {name: value for name, value in os.environ.items() if not name.startswith(("DEXASM", "GIT_", "PYTHON"))}
-    return kept | {"PATH": os.pathsep.join(ways), "LANG": "C.UTF-8", "HOME": scratch(), "NO_PWNED": "1"}
+    named = {"DEXASM_COMMAND": path("bin", "dexasm")}  # (no library that is built here)
+    return kept | named | {"PATH": os.pathsep.join(ways), "LANG": "C.UTF-8", "HOME": scratch(), "NO_PWNED": "1"}
 
 
 def path(*parts: str) -> str:

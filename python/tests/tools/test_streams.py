@@ -4,16 +4,14 @@ command or a graphviz that answers what is no answer: a line and a status, and n
 import os
 import re
 import shlex
-import shutil
 import sys
 
-from tests import tried
 from .archives import archive
 from .browsed import CODE
 from .rooms import (
-    HEAD, LISTING, TOOLS, TOP, HelperTest, assembled, dexasm, environment, get, has_pages, is_one_line, put, room, shell
+    HEAD, LISTING, TOOLS, TOP, HelperTest, assembled, environment, has_pages, is_one_line, put, room, shell
 )  # fmt: skip
-from .streaming import answers, each, fake, is_line
+from .streaming import each, fake, is_line
 
 
 # For each helper words with which it exits well.
@@ -161,42 +159,25 @@ class Streams(HelperTest):
         for text, seen in each([f"dexasm-{name} {words}" for name, words in good.items()], at, **strict):
             self.check(f"{text}, {strict}", (seen[0], seen[2]) == ("diff" in text, ""), seen)
 
-    def test_commands(self) -> None:
-        """Over such a command: one line, and the status of what failed. (Of a class by its name alone a line is
-        made.)"""
-        at = prepared("streams commands")
-        jobs = ["diff a.dex b.dex", "graph --calls a.dex", "lint a.dex"] + ["browse a.dex --output pages"] * has_pages()
-        sizes = ["size a.dex", "size --by string a.dex b.dex"]
-        for number, (command, path) in enumerate(answers(at)):
-            words = "query calls a.dex", sizes[number % 2], jobs[number % len(jobs)], "merge a.dex --output merged"
-            texts = [f"dexasm-{one}" for one in words]
-            for text, seen in each(texts, at, DEXASM_COMMAND=path):
-                said = re.sub(r"^.*: it can't be stripped, so .*\n", "", seen[2])  # (what dexasm-browse says before)
+    def test_unexpected(self) -> None:
+        """A command whose output can't be parsed is one line, and the status of what failed."""
+        at = prepared("streams unexpected")
+        listing = shlex.quote(put(at, "given", HEAD + b"class LA; 0x1\nvirtual m\nend class\n"))
+        commands = {
+            "unexpected output of `": fake(at, "nothing", "true"),
+            "ended with status 7": fake(at, "seven", "exit 7"),
+            "unexpected output": fake(at, "other", f"cat {listing}"),
+        }
+        words = ["query calls a.dex", "lint a.dex", "size --by string a.dex b.dex", "merge a.dex --output merged"]
+        words += ["graph --calls a.dex", "diff a.dex b.dex"] + ["browse a.dex --output pages"] * has_pages()
+        for said, path in commands.items():
+            for text, seen in each([f"dexasm-{one}" for one in words], at, DEXASM_COMMAND=path):
+                # (what dexasm-browse says before)
+                line = re.sub(r"^.*: it can't be stripped, so .*\n", "", seen[2])
                 # (two classes of one text are the same without being read)
-                is_same = "diff" in text and command.startswith(("a member", "a code")) and seen == (0, "", "")
-                is_so = seen[0] == (2 if "diff" in text else 3) and is_line(said) or is_same
-                self.check(f"{text} by a command that answers {command}", is_so and "\x1b" not in seen[1], seen)
-
-    def test_lies(self) -> None:
-        """Over a command that lists another text than it should, a line or a word of which is another one: whatever goes
-        wrong with that is told of dexasm."""
-        at = prepared("streams lies")
-        good = dexasm("list", given=get(at, "a.dex"))
-        lies = [b"virtual n - 0x1", b"super end code", b"class x 0x1", b"static s { 0x9", b"", b"code 1 0", b"move-wide"]
-        words = ["query calls a.dex", "query show a.dex LA;", "lint --code a.dex", "graph --calls a.dex", "split a.dex cut"]
-        words += ["merge a.dex --output merged", "diff a.dex c.txt"] + ["browse a.dex --output pages"] * has_pages()
-        program = shlex.quote(tried.program())
-        for number, lie in enumerate(lies):
-            rows = good.split(b"\n")
-            place = next((at for at, row in enumerate(rows) if row[:4] == lie[:4]), 9)
-            rows[place] = lie
-            given = shlex.quote(put(at, f"lies/{number}", b"\n".join(rows)))
-            does = f'[ "$1" = list ] || exec {program} "$@"\ncat >"$0.$$"\nexec cat {given}'
-            command = fake(at, f"fake/lies {number}", does)
-            for text, seen in each([f"dexasm-{one}" for one in words], at, DEXASM_COMMAND=command):
-                said = re.sub(r"^.*: it can't be stripped, so .*\n", "", seen[2])
-                is_so = seen[0] in (0, 1) and said == "" or seen[0] in (1, 2, 3) and is_line(said)
-                self.check(f"{text}, dexasm lists {lie!r}", is_so and ": unexpected " not in said, seen)
+                is_same = text.startswith("dexasm-diff") and path.endswith("other") and seen == (0, "", "")
+                is_so = seen[0] == (2 if "diff" in text else 3) and is_line(line) and said in line or is_same
+                self.check(f"{text} by {os.path.basename(path)}", is_so, seen)
 
     def test_graphviz(self) -> None:
         """Over a graphviz that answers what is no picture."""
@@ -224,21 +205,6 @@ class Streams(HelperTest):
             for text, seen in each([words] * has_pages(), at, PATH=ways):
                 is_so = seen == (0, f"{number}/pages/class/1.html\n", "")
                 self.check(f"{text}, by a graphviz that answers {given[:60]!r}", is_so, seen)
-
-    def test_module(self) -> None:
-        """The module for Python over such a command: a line and 3, where that isn't a listing or a file of that
-        length."""
-        at = prepared("streams module")
-        shutil.copytree(os.path.join(TOP, "python/src/dexasm"), os.path.join(at, "modules", "dexasm"))
-        python = f"{shlex.quote(sys.executable)} -B -m dexasm"
-        for number, (command, path) in enumerate(answers(at)):
-            other = ("check a.dex", "strip a.dex", "--version")[number % 3]
-            texts = [f"{python} {words}" for words in ("list a.dex", other)]
-            for text, seen in each(texts, at, DEXASM_COMMAND=path, PYTHONPATH=os.path.join(at, "modules")):
-                is_one = "list" in text and command.startswith(("a class", "a member", "a code", "a listing"))
-                is_one = is_one or "strip" in text and command == "a header"
-                is_so = seen[:2] == (3, "") and is_line(seen[2])
-                self.check(f"{text[-12:]}, by a command that answers {command}", is_so or is_one and seen[0] == 0, seen)
 
     def test_long_lines(self) -> None:
         """Lines without end, of which whatever grows with the square would take minutes."""

@@ -4,11 +4,14 @@ from docs/LISTING.md; a page of each helper of python/ from its docstring, which
 from the help too; the files of python/bin. And whether the tables name each fault as the code does.
 """
 import ast
+import json
 import re
+import textwrap
 from collections.abc import Container
 
 from .. import helpers as programs, sought
 from .making import Made, Missing, Program
+from .opcodes import FAST
 
 TEXTS = "crates/dexasm_plan/src/texts.rt"
 NUMBERS, NAMES = "crates/dex_base/src/fault.rt", "crates/dex_base/src/fault_names.rt"
@@ -27,6 +30,12 @@ with open(LAUNCHER, encoding="utf8") as file:
 exec(launcher, {"__file__": LAUNCHER, "HELPER": "%s"})
 """
 JOBS = ("check", "list", "assemble", "strip")
+FAULT_TABLE = """\
+\"\"\"The faults, written by tools/generate from docs/FORMAT.md and docs/LISTING.md: the name of each number, the sentence
+of its row, and what its place is.
+\"\"\"
+FAULTS = {
+"""
 
 # What the texts don't say.
 OUT_PART = (
@@ -77,7 +86,8 @@ WORDS = (
 )
 # What each helper heeds.
 COMMAND = (
-    "The command that the helper runs. Without it that is \\fBdexasm\\fR on the PATH, or else the one that came with the helper."
+    "The command that the helper runs, if \\fBDEXASM_LIBRARY\\fR names no library for it. Without both it is the library that came with "
+    "the helper or the system's, or \\fBdexasm\\fR on the PATH."
 )
 
 
@@ -166,6 +176,17 @@ def rows_of(path: str, numbers: Container[int]) -> list[str]:
             continue
         out += [".TP", f"\\fB{number} {name}\\fR", inline(f"{meaning}. Place: {place}.")]
     return out
+
+
+def fault_table() -> str:
+    """A module with the rows of all faults for the helpers, which read no page."""
+    rows = {int(number): words for path in (FORMAT, LISTING) for number, *words in faults(path)}
+    lines = []
+    for number, (name, sentence, place) in sorted(rows.items()):
+        parts = re.findall(r".{1,90}(?:\s|$)", sentence)
+        due = [f'{number}: ("{name}",', *map(json.dumps, parts[:-1]), f"{json.dumps(parts[-1])},", f"{json.dumps(place)}),"]
+        lines += textwrap.wrap(" ".join(one.replace(" ", FAST) for one in due), 116, break_on_hyphens=False, break_long_words=False)
+    return FAULT_TABLE + "".join(f"    {line}\n" for line in lines).replace(FAST, " ") + "}  # fmt: skip\n"
 
 
 def inline(text: str) -> str:
@@ -391,6 +412,7 @@ def made() -> Made:
     pages |= {f"docs/man/{name}.1": helper_page(name, doc, said) for name, doc in helpers().items()}
     pages |= {f"contrib/completion/{name}": words(said) for name, words in (("dexasm.bash", bash), ("_dexasm", zsh), ("dexasm.fish", fish))}
     pages |= {f"python/bin/{name}": Program(HELPER % (name, name)) for name in helpers() if name != LAUNCHER}
+    pages["python/src/dexasm/tools/fault_table.py"] = fault_table()
     if misnamed():
         raise Missing(f"{FORMAT} and {LISTING} don't name these faults as {NAMES} does: {', '.join(misnamed())}")
     look_at_version(said)

@@ -38,7 +38,8 @@ def pack(program: str, library: str, folder: str) -> str:
         alone = jars
     else:
         proved_by = bytes_of(held, "share/doc/dexasm/PROVED-BY")
-        alone = dict([wheel_of(bytes_of(held, "lib/libdexasm.so.0"), proved_by, time)]) | jars
+        wheel = wheel_of(bytes_of(held, "bin/dexasm"), bytes_of(held, "lib/libdexasm.so.0"), proved_by, time)
+        alone = dict([wheel]) | jars
     for name, whole in alone.items():
         made.append(f"{folder}/{name}")
         with open(made[-1], "wb") as file:

@@ -21,15 +21,17 @@ def backend() -> str | None:
     return None
 
 
-def wheel_of(library: bytes, proved_by: bytes, when: int) -> tuple[str, bytes]:
+def wheel_of(program: bytes, library: bytes, proved_by: bytes, when: int) -> tuple[str, bytes]:
     """Its name and its bytes: the same for the same files and the same time."""
     python = backend()
     assert python is not None
     with tempfile.TemporaryDirectory() as room:
-        for made, given in (("libdexasm.so", library), ("PROVED-BY", proved_by)):
+        for made, given in (("dexasm", program), ("libdexasm.so", library), ("PROVED-BY", proved_by)):
             with open(f"{room}/{made}", "wb") as file:
                 file.write(given)
-        env = {**os.environ, "DEXASM_LIBRARY": f"{room}/libdexasm.so", "SOURCE_DATE_EPOCH": str(when), "PYTHONDONTWRITEBYTECODE": "1"}
+        os.chmod(f"{room}/dexasm", 0o755)
+        named = {"DEXASM_COMMAND": f"{room}/dexasm", "DEXASM_LIBRARY": f"{room}/libdexasm.so"}
+        env = {**os.environ, **named, "SOURCE_DATE_EPOCH": str(when), "PYTHONDONTWRITEBYTECODE": "1"}
         words = [python, "-c", BUILD, room]
         done = subprocess.run(words, cwd=f"{TOP}/python", env=env, stdout=subprocess.PIPE, stderr=subprocess.STDOUT)
         said = done.stdout.decode("utf8", "replace")

@@ -1,89 +1,90 @@
-"""Runs the command dexasm for a helper, and has its answers: files, listings, programs as objects."""
+"""Runs jobs of dexasm for a helper, and reads its inputs: files, listings, programs as objects."""
 from __future__ import annotations
 
+import functools
 import os
 import re
+from typing import NamedTuple
 
-from dexasm.tools.basis import DEX, FAILED, MEMORY, REFUSED, ZIP, Failed, reason
+import dexasm
+from dexasm.tools.basis import DEX, FAILED, MEMORY, REFUSED, ZIP, Failed
 from dexasm.tools.escapes import escaped
 from dexasm.tools.files import name_of
 from dexasm.tools.inputs import inputs_of, one_input
-from dexasm.tools.places import PROGRAM
 
-TYPE_CHECKING = False  # (as in typing, which takes a while to read)
+TYPE_CHECKING = False  # (as in typing, where only some helpers need what is imported)
 if TYPE_CHECKING:
-    from subprocess import CompletedProcess
-
+    from dexasm.calls import Build
     from dexasm.program import Program
 
-# (what only some helpers call is imported where it is: that takes longer than most of what they do)
-OF_TEXTS = range(100, 120)  # faults of a listing, and of a program that one lists
 REFUSAL = re.compile(r".*\brefused (\d{1,5}) (\w+) at (\d{1,20})(?:: .*)?$")
 
 
-def command() -> str:
-    """The path of dexasm: the one that DEXASM_COMMAND names, or the PATH's, or the one that came with the helpers."""
-    import shutil
+class Ended(NamedTuple):
+    """The result of a job: the command's exit status, its output, its line on standard error, and the refusal."""
 
-    named = os.environ.get("DEXASM_COMMAND")
-    for path in [named] if named else ["dexasm", PROGRAM]:
-        found = shutil.which(path)
-        if found:
-            return os.path.abspath(found)
-    if named:
-        raise Failed(f"DEXASM_COMMAND names no command: {escaped(named)}")
-    raise Failed("no command dexasm: it has to be on the PATH, or DEXASM_COMMAND has to name it")
+    status: int
+    answer: bytes = b""
+    line: str = ""
+    refused: dexasm.Refused | None = None
 
-
-class Ended:
-    """How a run of dexasm ended: its status, its answer, and what it told, by lines. What isn't the end of such a run
-    (it was killed, it answers what is no answer to the job, its status is another one) is a failure, and a line says
-    so.
-    """
-
-    def __init__(self, job: str, done: CompletedProcess[bytes]) -> None:
-        from dexasm.answers import is_answer
-
-        self.status, self.answer = done.returncode, done.stdout or b""
-        self.told = done.stderr.decode("utf8", "replace").splitlines()
-        if self.status < 0:
-            self.fail(f"killed by signal {-self.status}")
-        elif self.status == 0 and not is_answer(job, self.answer):
-            self.fail(f"what it answers is no answer to `{job}`")
-        elif self.status not in (0, FAILED, MEMORY) and not self.refusal():
-            self.fail(None if self.told else f"status {self.status}")
-
-    def fail(self, why: str | None) -> None:
-        self.status, self.answer = FAILED, b""
-        self.told += [f"dexasm: {why}"] if why else []
+    @property
+    def told(self) -> list[str]:
+        return [f"dexasm: {self.line}"] if self.status else []
 
     def last(self) -> str:
-        """Its last line, which says why there is no answer."""
-        return escaped(self.told[-1]) if self.told else f"dexasm: status {self.status}"
+        """Its line, which says why there is no output."""
+        return f"dexasm: {escaped(self.line)}"
 
     def refusal(self) -> tuple[int, str, int] | None:
         """Number, name and place of a refusal, or None."""
-        found = REFUSAL.match(self.told[-1]) if self.status == REFUSED and self.told else None
-        return (int(found[1]), found[2], int(found[3])) if found else None
+        return (self.refused.number, self.refused.name, self.refused.place) if self.refused else None
 
 
-def ask(*words: str, given: bytes = b"") -> Ended:
-    """Runs dexasm over these bytes; the first of the words is the job."""
-    import subprocess
-
+def ask(job: str, *words: str, given: bytes = b"") -> Ended:
+    """Runs a job over these bytes, `assemble` maybe with --align."""
     try:
-        done = subprocess.run([command(), *words], input=given, stdout=subprocess.PIPE, stderr=subprocess.PIPE)
+        return Ended(0, output(job, "--align" in words, given))
+    except dexasm.Refused as refused:
+        return Ended(REFUSED, line=refused.args[0], refused=refused)
+    except MemoryError:
+        return Ended(MEMORY, line="out of memory")
+    except ImportError as error:
+        raise Failed(escaped(str(error))) from None
     except OSError as error:
-        raise Failed(f"dexasm doesn't run: {reason(error)}") from None
-    return Ended(words[0], done)
+        return Ended(FAILED, line=str(error))
 
 
-def answer(*words: str, given: bytes, name: str) -> bytes:
-    """The answer of dexasm to these bytes of a file of that name; where there is none, its own line and status."""
-    ended = ask(*words, given=given)
+def output(job: str, is_aligned: bool, given: bytes) -> bytes:
+    if job == "check":
+        dexasm.check(given)
+        return b"ok\n"
+    if job == "list":
+        return dexasm.list(given).encode("ascii")
+    return dexasm.assemble(given, is_aligned) if job == "assemble" else dexasm.strip(given)
+
+
+def answer(job: str, *words: str, given: bytes, name: str) -> bytes:
+    """The output of a job over the bytes of a file of that name; where there is none, dexasm's line and status."""
+    ended = ask(job, *words, given=given)
     if ended.status:
         raise Failed(f"{name}: {ended.last()}", ended.status)
     return ended.answer
+
+
+@functools.cache
+def build() -> Build:
+    """Which library or command runs the jobs; with DEXASM=proved in the environment only one known to be proved."""
+    from dexasm.calls import PROVED, build_of
+
+    try:
+        core = dexasm.core()
+        made = build_of(core)
+    except (ImportError, OSError, AttributeError) as error:
+        raise Failed(f"no dexasm: {escaped(str(error))}") from None
+    if os.environ.get("DEXASM") == PROVED and made.build != PROVED:
+        raise Failed(f"DEXASM={PROVED}, but {escaped(core.path)} is the {made.build} build")
+    return made
 
 
 # How a listing begins, and one that lacks its first line or has a byte order mark before it.
@@ -106,7 +107,7 @@ def dex_from(given: bytes, name: str) -> bytes:
     if is_listing(given):
         given = answer("assemble", given=given, name=name)
     if given.startswith(ZIP):
-        raise Failed(f"{name}: a zip archive, whose .dex files can be read where it is a file that is named")
+        raise Failed(f"{name}: a zip archive: name it as a file, since its .dex files can't be read from a stream")
     return given
 
 
@@ -137,21 +138,6 @@ def together(programs: list[Program]) -> Program:
     return Program.of_listing(HEAD + "".join(str(program).removeprefix(HEAD) for program in programs))
 
 
-listings: list[str] = []  # that programs are read from
-
-
-def is_a_lie() -> bool:
-    """Whether dexasm answered a listing that it refuses itself, or lists otherwise: what goes wrong with it isn't the
-    helper's fault.
-    """
-    return any("\n\n" in listing or is_refused(listing) for listing in listings)
-
-
-def is_refused(listing: str) -> bool:
-    refusal = ask("assemble", given=listing.encode("ascii")).refusal()
-    return refusal is not None and refusal[0] in OF_TEXTS
-
-
 def listed(data: bytes, name: str) -> Program:
     """The program of the bytes of a file of that name, by what dexasm lists of it."""
     return program_in(answer("list", given=data, name=name).decode("ascii"), name)
@@ -159,10 +145,9 @@ def listed(data: bytes, name: str) -> Program:
 
 def program_in(listing: str, name: str) -> Program:
     """The program of what dexasm listed of a file of that name."""
-    listings.append(listing)
     from dexasm.program import Program
 
     try:
         return Program.of_listing(listing)
     except ValueError:
-        raise Failed(f"{name}: dexasm: what it answers is no listing") from None
+        raise Failed(f"{name}: dexasm: unexpected output of `list`") from None

@@ -15,8 +15,6 @@ With --json it prints a line of JSON for each refusal, and nothing else: `number
 `place_is`, as the pages have them; `found`, lines of what stands there; `hints`; and `line`, `column`, `class`,
 `member`, `instruction` (its number in its code, from 0) and `word` where they are known, else null.
 
-The pages are those of the repository, or those that the package put below share/doc/dexasm.
-
 Exit status: 0 done, 2 wrong words, 3 something can't be read or written.
 """
 from __future__ import annotations
@@ -30,7 +28,7 @@ import zlib
 from dexasm.tools.asking import REFUSAL, ask
 from dexasm.tools.basis import DEX, Failed
 from dexasm.tools.escapes import escaped, shortened
-from dexasm.tools.faults import MENDS, OF_CLASSES, OF_COUNTS, OF_LINES, sentences
+from dexasm.tools.faults import MENDS, OF_CLASSES, OF_COUNTS, OF_LINES, SENTENCES
 from dexasm.tools.files import get, name_of
 from dexasm.tools.helper import helper
 from dexasm.tools.inputs import Input, inputs_of, parted
@@ -320,7 +318,7 @@ def main(words: Words) -> int:
     words.add_argument("--json", action="store_true")
     words.add_argument("file", nargs="?")
     asked = words.parse_args()
-    rows, given = sentences(), given_of(asked.file)
+    rows, given = SENTENCES, given_of(asked.file)
     if sys.stdin is None:
         raise Failed("standard input: it is closed")
     for told in sys.stdin.buffer.read().decode("utf8", "surrogateescape").removesuffix("\n").split("\n"):

@@ -1,10 +1,7 @@
-"""What the pages say of each fault: its name, a sentence, and what its place is."""
+"""What docs/FORMAT.md and docs/LISTING.md say of each fault: its name, a sentence, and what its place is."""
 from __future__ import annotations
 
-import functools
-import re
-
-from dexasm.tools.places import page
+from dexasm.tools.fault_table import FAULTS
 
 # Faults whose place is a line, how many are needed, a class of a program.
 OF_LINES, OF_COUNTS, OF_CLASSES = range(100, 110), range(80, 82), (*range(82, 90), *range(110, 120))
@@ -29,11 +26,5 @@ ALONE = {
 }
 
 
-@functools.cache
-def sentences() -> dict[int, tuple[str, str, str]]:
-    """Of each number its name, the sentence of its row, and what its place is."""
-    rows = {}
-    for text in (page("FORMAT.md"), page("LISTING.md")):
-        for number, name, where, place in re.findall(r"^\| (\d+) \| ([A-Z]\w+) \| (.*) \| (.*) \|$", text, re.MULTILINE):
-            rows[int(number)] = name, ALONE.get(int(number), where), place
-    return rows
+# Of each number its name, the sentence of its row, and what its place is.
+SENTENCES = FAULTS | {number: (FAULTS[number][0], text, FAULTS[number][2]) for number, text in ALONE.items()}

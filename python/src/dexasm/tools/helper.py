@@ -12,7 +12,6 @@ import sys
 from collections.abc import Callable
 
 from dexasm.answers import NoListing
-from dexasm.tools.asking import answer, is_a_lie
 from dexasm.tools.basis import FAILED, MEMORY, USAGE, Failed, reason
 from dexasm.tools.escapes import disarmed, escaped
 from dexasm.tools.files import get
@@ -41,8 +40,12 @@ class Version(argparse.Action):
         parser.exit()
 
     def told(self, prog: str) -> str:
-        said = answer("--version", given=b"", name=prog).decode("ascii")
-        return f"{prog} {said.split()[-1]}"
+        import dexasm
+
+        try:
+            return f"{prog} {dexasm.version()}"
+        except (ImportError, OSError, dexasm.Refused) as error:
+            raise Failed(f"dexasm: {escaped(str(error))}") from None
 
 
 class Words(argparse.ArgumentParser):
@@ -151,9 +154,9 @@ def run(does: Callable[[Words], int], trouble: int | None, unread: int) -> NoRet
 
 
 def unexpected(error: Exception) -> str:
-    """What is told of a failure that nobody thought of, but that dexasm may answer what is no listing."""
-    if isinstance(error, NoListing) or is_a_lie():
-        return "dexasm: what it answers is no listing"
+    """The line of an error that isn't foreseen, and of output of dexasm that can't be parsed."""
+    if isinstance(error, NoListing):
+        return "dexasm: unexpected output of `list`"
     return f"unexpected {type(error).__name__}: {escaped(str(error))}"
 
 

@@ -12,10 +12,10 @@ from typing import TYPE_CHECKING, Any
 from dexasm.tools.basis import FAILED, MEMORY, REFUSED
 from dexasm.tools.check.checkers import Verdict
 from dexasm.tools.escapes import JSON, TEXT, XML, disarmed, escaped
-from dexasm.tools.faults import OF_CLASSES, OF_COUNTS, sentences
+from dexasm.tools.faults import OF_CLASSES, OF_COUNTS, SENTENCES
 
 if TYPE_CHECKING:
-    from dexasm.tools.answering import Answering
+    from dexasm.calls import Build
 
 # (what isn't here couldn't be looked at)
 STATUSES = {"ok": 0, "empty": 0, "skipped": 0, "refused": REFUSED, "broken": REFUSED, "memory": MEMORY}
@@ -59,7 +59,7 @@ def sentence_of(verdict: Verdict) -> str | None:
         return said_of().get(verdict.rule)
     if verdict.number is None:
         return verdict.why
-    return sentences().get(verdict.number, ("", "", ""))[1] or None
+    return SENTENCES.get(verdict.number, ("", "", ""))[1] or None
 
 
 def place_of(verdict: Verdict) -> str:
@@ -114,7 +114,7 @@ class Text:
 
     form = TEXT  # in which a character stands that mustn't be itself
     tells_build = False
-    build: Answering | None = None  # of dexasm, where it was asked which one answers
+    build: Build | None = None  # of dexasm, where it was asked which one answers
 
     def __init__(self, has_colors: bool = False) -> None:
         self.ok, self.bad, self.plain = (OK, BAD, PLAIN) if has_colors else ("", "", "")
@@ -284,7 +284,7 @@ class Sarif(Text):
     def named(self, rule: str) -> tuple[str, str]:
         """A rule's name and its sentence."""
         if rule.isdecimal():
-            return sentences().get(int(rule), ("Unknown", "", ""))[:2]
+            return SENTENCES.get(int(rule), ("Unknown", "", ""))[:2]
         from dexasm.tools.lint.rules import said_of
 
         return rule, said_of().get(rule, "")

@@ -56,9 +56,9 @@ from __future__ import annotations
 import os
 import sys
 
-from dexasm.tools.answering import PROVED, answering
+from dexasm.tools.asking import build
 from dexasm.tools.basis import FAILED
-from dexasm.tools.check.checkers import inputs, judge_all, lead
+from dexasm.tools.check.checkers import inputs, judge_all
 from dexasm.tools.helper import Version, helper, positive, say, seconds, size
 from dexasm.tools.terminal import Line, is_colored
 from dexasm.tools.verdicts import ACCEPTED, GitHub, JUnit, Json, Sarif, Text, is_of_member, status_of
@@ -121,8 +121,7 @@ class Build(Version):
     """Prints the version, and which build of dexasm answers."""
 
     def told(self, prog: str) -> str:
-        lead()
-        return f"{super().told(prog)}\n{answering()}"
+        return f"{super().told(prog)}\n{build()}"
 
 
 def words_of(words: Words) -> Namespace:
@@ -156,9 +155,8 @@ def main(words: Words) -> int:
     asked = words_of(words)
     form = form_of(asked)
     found = [*inputs(asked.paths)]
-    lead()
-    if form.tells_build or os.environ.get("DEXASM") == PROVED:
-        form.build = answering()
+    if form.tells_build or os.environ.get("DEXASM") == "proved":
+        form.build = build()
     told = Told(form, asked.quiet, len(found))
     try:
         for verdict in judge_all(found, asked, told.wait):

@@ -4,17 +4,13 @@ files each and have limits of memory and of time.
 from __future__ import annotations
 
 import collections
-import contextlib
-import os
 import time
 from collections.abc import Callable, Generator, Iterable, Iterator
 from typing import Any, NamedTuple
 
-from dexasm.tools.asking import command
-from dexasm.tools.basis import Failed, reason
+from dexasm.tools.basis import reason
 from dexasm.tools.check.judge import NOTED
 from dexasm.tools.paths import begins_as_one, is_named_as_one, named, passed_over, walked
-from dexasm.tools.places import LIBRARY
 from dexasm.tools.workers import looker
 from dexasm.tools.workers.looker import ENDS, TRIES, Looker
 from dexasm.tools.workers.loop import SAID
@@ -137,16 +133,6 @@ class Checker(Looker):
 
 
 # ---- all of them
-
-
-def lead() -> None:
-    """Leads the workers to what came with the helpers: the library, or else the command."""
-    if os.path.exists(LIBRARY):
-        os.environ.setdefault("DEXASM_LIBRARY", LIBRARY)
-    if os.environ.get("DEXASM_LIBRARY"):
-        return
-    with contextlib.suppress(Failed):
-        os.environ.setdefault("DEXASM_COMMAND", command())
 
 
 def inputs(words: list[str]) -> Iterator[tuple[bytes, int] | Verdict]:

@@ -13,7 +13,7 @@ from itertools import accumulate
 from typing import TYPE_CHECKING, Any, NamedTuple
 
 from dexasm.tools.basis import Failed
-from dexasm.tools.check.checkers import Verdict, lead
+from dexasm.tools.check.checkers import Verdict
 from dexasm.tools.escapes import LONGEST
 from dexasm.tools.lint.classes import BOOT, Classes
 from dexasm.tools.lint.kinds import NO_ARRAY, Kind, Kinds
@@ -271,7 +271,6 @@ class Worker(Looker):
 
 def look_by_workers(program: Program, jobs: int, is_boot_skipped: bool) -> Iterator[Told]:
     """The same, by several workers."""
-    lead()
     listing = str(program)
     workers = [Worker(SECONDS, MEMORY, listing) for _ in range(jobs)]
     idle = [*workers]

@@ -13,7 +13,7 @@ import threading
 import weakref
 
 from dexasm.tools.basis import MEMORY, Failed
-from dexasm.tools.places import SOURCES
+from dexasm.calls import SOURCES
 
 TYPE_CHECKING = False  # (as in typing)
 if TYPE_CHECKING:

@@ -1,0 +1,127 @@
+"""The faults, written by tools/generate from docs/FORMAT.md and docs/LISTING.md: the name of each number, the sentence
+of its row, and what its place is.
+"""
+FAULTS = {
+    1: ("TooShort", "there are fewer than 112 bytes", "the length"),
+    2: ("Magic", "bytes 0 to 3 or byte 7 differ: not a .dex file", "0"),
+    3: ("Version", "bytes 4 to 6 aren't `035`", "4"),
+    4: ("FileSize", "file_size isn't the length", "32"),
+    5: ("HeaderSize", "header_size isn't 0x70", "36"),
+    6: ("Endian", "endian_tag isn't 0x12345678", "40"),
+    7: ("Linked", "link_size isn't 0", "44"),
+    8: ("Checksum", "the Adler-32 differs: the file was damaged or changed", "8"),
+    9: ("Signature", "the SHA-1 differs: the file was changed after it was signed, or D8 before 1.6.20 wrote it "
+    "(`dexasm-explain` says which, `dexasm-close` mends it)", "12"),
+    10: ("SectionRange", "a section of size above 0 is misaligned (tables), below 0x70, or runs past the end",
+    "its size field"),
+    11: ("TooManyRows", "more than 65535 types or protos", "64 (types) or 72 (protos)"),
+    12: ("MapPlace", "the map is misaligned, or not within the data section with all its entries", "52"),
+    13: ("MapEntry", "an entry of the map breaks a rule", "the entry"),
+    14: ("MapMissing", "the map has no entry of its own; a table with rows has no entry", "52; its size field"),
+    20: ("StringPlace", "a string's offset lies outside the section (its end is outside)", "the row"),
+    21: ("StringSpelling", "no string_data_item stands there within the section", "the row"),
+    22: ("StringOrder", "a string isn't above the row before", "the row"),
+    23: ("TypeIndex", "a type's string isn't there", "the row"),
+    24: ("TypeText", "a type's string is no descriptor", "the row"),
+    25: ("TypeOrder", "a type isn't above the row before", "the row"),
+    26: ("ProtoIndex", "a prototype's string or return type isn't there", "the row"),
+    27: ("Shorty", "the shorty isn't that of the types", "the row"),
+    28: ("ParameterList", "the parameters' offset, alignment, spelling or an index, or a parameter V", "the row"),
+    29: ("ProtoOrder", "a prototype isn't above the row before", "the row"),
+    30: ("FieldIndex", "a field's class, type or name isn't there", "the row"),
+    31: ("FieldKind", "a field's class, type or name is of a wrong kind", "the row"),
+    32: ("FieldOrder", "a field isn't above the row before", "the row"),
+    33: ("MethodIndex", "a method's class, prototype or name isn't there", "the row"),
+    34: ("MethodKind", "a method's class or name is of a wrong kind", "the row"),
+    35: ("MethodOrder", "a method isn't above the row before", "the row"),
+    40: ("ClassIndex", "class, superclass or source file isn't there", "the class row"),
+    41: ("ClassKind", "class or superclass is no class type", "the class row"),
+    42: ("ClassOrder", "the superclass or an interface is defined in this row or later, whether or not in an "
+    "earlier one too, or the class in an earlier one", "the class row"),
+    43: ("InterfaceList", "no list of distinct class types stands at the offset", "the class row"),
+    44: ("ClassData", "no class_data_item stands at the offset", "the class row"),
+    45: ("MemberIndex", "a member's index is past its table", "the class row"),
+    46: ("MemberOwner", "a member is of another class", "the class row"),
+    47: ("MemberOrder", "a member has the index of the one before", "the class row"),
+    48: ("Values", "the static values' offset; a count or a value runs past the section; a count is misspelled",
+    "the class row"),
+    49: ("TooManyValues", "more values than static fields", "the class row"),
+    50: ("ValueKind", "a value's type, argument or index", "the value"),
+    51: ("ValueDepth", "an array within 64 others; the encoded_array of the row is no value, and isn't counted",
+    "the value"),
+    60: ("CodePlace", "the offset is misaligned or outside the section, or the item runs past it before its "
+    "handlers", "the offset"),
+    61: ("EmptyCode", "a code of no units", "the offset"),
+    62: ("Opcode", "an opcode that isn't used", "the instruction"),
+    63: ("Cut", "an instruction runs past the units", "the instruction"),
+    64: ("NonZero", "a bit that has to be zero is set, or a unit with the low byte 00 is neither a nop nor a "
+    "payload", "the instruction"),
+    65: ("OperandIndex", "an index without a row", "the instruction"),
+    66: ("RegisterCount", "more than five registers in a list", "the instruction"),
+    67: ("Payload", "a payload at an odd unit, of another width, with keys that don't rise", "the instruction"),
+    68: ("BranchTarget", "a branch or a switch leads to no instruction, or to a payload",
+    "the instruction; of a switch its payload"),
+    69: ("BranchZero", "a branch other than goto/32 to itself", "the instruction"),
+    70: ("PayloadUse", "an instruction that leads to no payload of its kind, or a switch's payload without exactly "
+    "one user", "the instruction, or the payload"),
+    71: ("Try", "a try begins at no instruction, covers nothing, ends after the units or overlaps the one " "before",
+    "the try_item"),
+    72: ("Handler", "the handlers can't be read, a type or an address in them is wrong, or a handler_off is no "
+    "handler's begin", "the list"),
+    73: ("Register", "more ins than registers, or an instruction names a register that the code doesn't have",
+    "the code_item; the first such instruction"),
+    80: ("TooManyTypes", "more than 65535 types are needed", "how many"),
+    81: ("TooManyProtos", "more than 65535 prototypes are needed", "how many"),
+    82: ("StringOutOfReach", "a string's index doesn't fit its instruction's 16 bits (`const-string/jumbo` has 32)",
+    "the class"),
+    83: ("FieldOutOfReach", "a field's index doesn't fit 16 bits", "the class"),
+    84: ("MethodOutOfReach", "a method's index doesn't fit 16 bits", "the class"),
+    85: ("BranchOutOfReach", "an offset doesn't fit its field (`goto/16` and `goto/32` reach further than `goto`)",
+    "the class"),
+    86: ("Misaligned", "a payload at an odd address (`--align` mends it)", "the class"),
+    87: ("TryTooLong", "the last covered instruction begins more than 65534 units after the try's start", "the class"),
+    88: ("TooManyTries", "more than 65535 in a code", "the class"),
+    89: ("HandlerTooFar", "a handler more than 65535 bytes after the start of the list, where 90 doesn't stand",
+    "the class"),
+    90: ("TooBig", "the plain sum, below, is above 4294967295; in `align` also: a code would have more than "
+    "2147483647 instructions", "0"),
+    100: ("Word", "a character that can't be, an escape that can't be in a text, a text that isn't closed, an "
+    "unknown first word, mnemonic or keyword, or words that the line's form doesn't have: too "
+    "many or too few, another keyword, missing braces or more of them (a brace in the place of "
+    "a register or another operand is 102), a text in quotes where another word is wanted or "
+    "the reverse; a label with more words on its line; in the first form, a `K:` whose K is no " "number", "the line"),
+    101: ("Name", "the first word that isn't what its slot takes, where that is a name, a type, a prototype, "
+    "a field, a method or a label, a malformed escape in it too; a label's line whose label is " "malformed",
+    "the line"),
+    102: ("Number", "the first word that isn't what its slot takes, where that is a number of its range, a "
+    "register, bits, bytes or, in the first form, a target", "the line"),
+    103: ("Order", "the line may not stand here: also a label outside the instructions of a code, a `catch` or "
+    "a second `catchall` after a `catchall`, and a second first line of its own form. In the "
+    "first form, K isn't the next number, however great it is", "the line"),
+    104: ("Twice", "a second superclass or source file; an interface given before; a member of the same one of "
+    "the four lists with the same name and type or prototype (a field may be static and also an "
+    "instance field); a label of the same code", "the line"),
+    105: ("Target", "a target that is no instruction of its code (what a try covers may end after the last "
+    "one): a label that the code doesn't define, or that marks the place after the last " "instruction", "the line"),
+    106: ("NotEnded", "the text ends inside a class or a code, or before its first line",
+    "the last line; 0 of an empty text"),
+    110: ("Name", "a name in the class, its code or its values isn't of its form or kind", "the class"),
+    111: ("MemberOrder", "a list of members doesn't strictly rise", "the class"),
+    112: ("ClassOrder", "the class was defined before; its superclass or an interface is itself or comes later; an "
+    "interface twice", "the class"),
+    113: ("Values", "more values than static fields; a value more than 64 deep", "the class"),
+    114: ("Operand", "no instructions, or more than 2147483647; an opcode, a register, a count, a literal or a "
+    "name that its format doesn't take; a register of a call beyond its count that isn't 0; a "
+    "payload's width, length or keys, more than 65535 targets, or not as many keys as targets "
+    "(a listing can have only these of them: no instructions, or more than 2147483647; a "
+    "payload's width, length or keys; more than 65535 targets)", "the class"),
+    115: ("Target", "a branch or a switch leads to no instruction, to a payload, or to itself where it may not",
+    "the class"),
+    116: ("PayloadUse", "an instruction that leads to no payload of its kind, or a switch's payload without exactly "
+    "one user", "the class"),
+    117: ("Try", "a try covers nothing, ends after the code or overlaps the one before; a handler is no "
+    "instruction; neither catch nor catch-all", "the class"),
+    118: ("Register", "more ins than registers, or an instruction names a register that the code doesn't have",
+    "the class"),
+    255: ("Memory", "out of memory: a growth was refused", "0"),
+}  # fmt: skip
