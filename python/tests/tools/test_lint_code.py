@@ -11,15 +11,19 @@ import itertools
 import json
 import os
 import re
+import signal
 from collections.abc import Iterable, Iterator
 from typing import Any
 
 from dexasm import program as programs
 from dexasm.code import Insn, Label, PackedSwitch
-from dexasm.tools.lint import code as lint_code, kinds, verify
+from dexasm.tools.basis import Failed
+from dexasm.tools.lint import code as lint_code, kinds, pool, verify
 from dexasm.tools.lint.asks import Line
 from dexasm.tools.lint.classes import Classes
+from dexasm.tools.lint.code import Told
 from dexasm.tools.lint.steps import step_of
+from dexasm.tools.workers.loop import SAID as SAYS
 from tests import tried
 from .rooms import ESC, HEAD, TOP, HelperTest, assembled, dexasm, get, put, room, tool
 
@@ -742,6 +746,18 @@ def rises(made: kinds.Kinds, insn: Insn, low: Iterable[kinds.Kind], high: Iterab
     return bool(is_told) or all(made.join(one, two) is two for one, two in zip(before, after))
 
 
+class Ends:
+    """Takes the place of a program that is looked at: at its second class the worker is ended so."""
+
+    def __init__(self, how: int | None) -> None:
+        self.how = how
+
+    def look(self, row: int) -> list[Told]:
+        if row and self.how:
+            os.kill(os.getpid(), self.how)
+        return [Told(0, 0, -1, "ins-count", "x", -1)]
+
+
 class Nothing:
     """Takes the place of a method."""
 
@@ -1049,6 +1065,35 @@ class LintCode(HelperTest):
         status, out, said = tool("dexasm-lint", "--code", "bad.txt", ESC, at=at)
         is_so = (status, out) == (1, "\\x1b: ok\n") and said == "dexasm-lint: bad.txt: dexasm: refused 100 Word at 3\n"
         self.check("dexasm-lint --code, a file that is refused", is_so, (status, out, said))
+
+    def test_seconds(self) -> None:
+        """--seconds ends each worker, and the other files go on."""
+        at = room("lint seconds")
+        body = "add-int/lit8 v0 v0 1\n" * 2000
+        methods = (f"direct m ()V 0x9\ncode 1 0 0\nconst v0 {n}\n{body}return-void\nend code\n" for n in range(60))
+        text = "".join(f"class L{n}; 0x1\nsuper Ljava/lang/Object;\n{one}end class\n" for n, one in enumerate(methods))
+        put(at, "a.txt", HEAD + text.encode())
+        put(at, "b.txt", HEAD + b"class LA; 0x1\nend class\n")
+        for jobs in ("1", "3"):
+            seen = tool("dexasm-lint", "--code", "--seconds", "0.05", "--jobs", jobs, "a.txt", "b.txt", at=at)
+            want = (3, "b.txt: ok\n", "dexasm-lint: a.txt: it takes longer than --seconds\n")
+            self.check_equal(f"dexasm-lint --code --jobs {jobs}, a file that takes long", seen, want)
+            seen = tool("dexasm-lint", "--code", "--jobs", jobs, "a.txt", at=at)
+            self.check_equal(f"dexasm-lint --code --jobs {jobs}, the same with time", seen, (0, "a.txt: ok\n", ""))
+
+    def test_killed(self) -> None:
+        """A worker that is killed or out of memory is a line, and ends no other file."""
+        told = [[0, 0, -1, "ins-count", "x", -1]]
+        for how, want in ((None, told), (signal.SIGKILL, "its worker was killed"), (signal.SIGPROF, SAYS["time"])):
+            worker = pool.Worker(Ends(how), [(0, 1), (1, 2)], 60)  # type: ignore[arg-type]  # (a stand-in)
+            seen = [[*one] for one in worker.result()]
+            self.check_equal("the first part", seen, told)
+            try:
+                rest: object = [[*one] for one in worker.result()]
+            except Failed as failed:
+                rest = failed.line
+            worker.stop()
+            self.check_equal(f"the second one, {how}", rest, want)
 
     def test_boot(self) -> None:
         """A class that the boot class path has too is taken as the file has it, and with --skip-boot as if it weren't

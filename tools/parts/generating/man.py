@@ -30,6 +30,10 @@ with open(LAUNCHER, encoding="utf8") as file:
 exec(launcher, {"__file__": LAUNCHER, "HELPER": "%s"})
 """
 JOBS = ("check", "list", "assemble", "strip")
+RULE_TABLE = """\
+\"\"\"What is wrong where a rule is broken, written by tools/generate from the manual of dexasm-lint.\"\"\"
+SENTENCES = {
+"""
 FAULT_TABLE = """\
 \"\"\"The faults, written by tools/generate from docs/FORMAT.md and docs/LISTING.md: the name of each number, the sentence
 of its row, and what its place is.
@@ -187,6 +191,17 @@ def fault_table() -> str:
         due = [f'{number}: ("{name}",', *map(json.dumps, parts[:-1]), f"{json.dumps(parts[-1])},", f"{json.dumps(place)}),"]
         lines += textwrap.wrap(" ".join(one.replace(" ", FAST) for one in due), 116, break_on_hyphens=False, break_long_words=False)
     return FAULT_TABLE + "".join(f"    {line}\n" for line in lines).replace(FAST, " ") + "}  # fmt: skip\n"
+
+
+def rule_table() -> str:
+    """A module with the sentences of lint's rules, as its manual has them."""
+    rules = re.findall(r"^  ([a-z-]+)  (\S.*(?:\n {6}.*)*)", helpers()["dexasm-lint"], re.M)
+    lines = []
+    for rule, text in rules:
+        first, *more = re.findall(r".{1,80}(?:\s|$)", " ".join(text.split()))
+        lines += [f'    "{rule}": {json.dumps(first)}', *(f"    {json.dumps(part)}" for part in more)]
+        lines[-1] += ","
+    return RULE_TABLE + "\n".join(lines) + "\n}  # fmt: skip\n"
 
 
 def inline(text: str) -> str:
@@ -413,6 +428,7 @@ def made() -> Made:
     pages |= {f"contrib/completion/{name}": words(said) for name, words in (("dexasm.bash", bash), ("_dexasm", zsh), ("dexasm.fish", fish))}
     pages |= {f"python/bin/{name}": Program(HELPER % (name, name)) for name in helpers() if name != LAUNCHER}
     pages["python/src/dexasm/tools/fault_table.py"] = fault_table()
+    pages["python/src/dexasm/tools/lint/rule_table.py"] = rule_table()
     if misnamed():
         raise Missing(f"{FORMAT} and {LISTING} don't name these faults as {NAMES} does: {', '.join(misnamed())}")
     look_at_version(said)

@@ -54,9 +54,9 @@ def uri_of(path: bytes) -> str:
 def sentence_of(verdict: Verdict) -> str | None:
     """What is wrong, as the pages and the help have it, or why it wasn't looked at."""
     if verdict.rule is not None:
-        from dexasm.tools.lint.rules import said_of
+        from dexasm.tools.lint.rule_table import SENTENCES as RULES
 
-        return said_of().get(verdict.rule)
+        return RULES.get(verdict.rule)
     if verdict.number is None:
         return verdict.why
     return SENTENCES.get(verdict.number, ("", "", ""))[1] or None
@@ -285,9 +285,9 @@ class Sarif(Text):
         """A rule's name and its sentence."""
         if rule.isdecimal():
             return SENTENCES.get(int(rule), ("Unknown", "", ""))[:2]
-        from dexasm.tools.lint.rules import said_of
+        from dexasm.tools.lint.rule_table import SENTENCES as RULES
 
-        return rule, said_of().get(rule, "")
+        return rule, RULES.get(rule, "")
 
     def end(self, status: int) -> list[str]:
         import json

@@ -209,7 +209,7 @@ def broken_rules(given: bytes, made: bytes, is_text: bool) -> Iterator[dict[str,
     from dexasm.tools.lint.code import broken_by, looked_at
 
     program = dexasm.Program.read(made)
-    for found in (broken_by(b"", is_text, program), looked_at(b"", given, is_text, program, 1)):
+    for found in (broken_by(b"", is_text, program), looked_at(b"", given, is_text, program)):
         for verdict in found:
             yield {name: known for name, known in verdict._asdict().items() if name not in ("path", "entry")}
 

@@ -83,8 +83,8 @@ looked at, as then on the device. The rules:
   --skip-boot  takes a class of a package that the boot class path has (java, javax.net, android, dalvik, sun, org.json
             ..) for one that isn't in the file, as a device does, and doesn't look at its code
   --jobs N  has --code look by N workers, each at some of a file's classes
-  --seconds N  so long --code may take for a file, of the processor (600, or a fraction such as 0.5; ten times as much by
-            the clock); what isn't looked at by then has a line that says so
+  --seconds N  so long --code may take for a file, each worker of its processor (600, or a fraction such as 0.5; ten times
+            as much by the clock); what isn't looked at by then has a line that says so
 
 FILE is a .dex file or a listing, `-` or none at all standard input; or an archive, of which each classes*.dex is looked
 at, or app.apk!classes2.dex. One without a classes*.dex is a line and status 3, unless --allow-empty is given. One that dexasm refuses has dexasm's own line on
@@ -97,7 +97,6 @@ looked at to its end; 4 out of memory. Of several files it is the highest.
 from __future__ import annotations
 
 import os
-import signal
 import sys
 
 from dexasm.tools.asking import dex_from, is_listing, listed
@@ -109,7 +108,6 @@ from dexasm.tools.inputs import inputs_of, parted
 from dexasm.tools.helper import helper, positive, say, seconds as in_seconds
 from dexasm.tools.lint.code import broken_by, kind_by, line_of, looked_at, member_of
 from dexasm.tools.lint.rules import RULES
-from dexasm.tools.workers.loop import CLOCK, SAID
 from dexasm.tools.verdicts import Json, Sarif, Text, sentence_of, status_of
 
 TYPE_CHECKING = False  # (as in typing)
@@ -171,30 +169,15 @@ def of_input(file: bytes, given: Input, asked: Namespace) -> Iterator[Verdict]:
     is_text = is_listing(data)
     program = listed(dex_from(data, name), name)
     yield from broken_by(file, is_text, program)
-    if asked.code:
-        yield from within(asked.seconds, looked_at(file, data, is_text, program, asked.jobs, asked.skip_boot), name)
+    if not asked.code:
+        return
+    from dexasm.tools.lint.pool import look_by_workers
 
-
-def within(seconds: float, found: Iterator[Verdict], name: str) -> Iterator[Verdict]:
-    """The same, unless finding them takes longer, of the processor or by the clock."""
-
-    def stop(*_: object) -> None:
-        raise Failed(f"{name}: {SAID['time']}")
-
-    left = [seconds, CLOCK * seconds]
-    timers = (signal.ITIMER_PROF, signal.SIGPROF), (signal.ITIMER_REAL, signal.SIGALRM)
-    for _, ends in timers:
-        signal.signal(ends, stop)
-    while True:
-        try:
-            for (timer, _), time in zip(timers, left):
-                signal.setitimer(timer, time)
-            one = next(found, None)
-        finally:
-            left = [signal.setitimer(timer, 0)[0] for timer, _ in timers]
-        if one is None:
-            return
-        yield one
+    try:
+        found = look_by_workers(program, asked.jobs, asked.skip_boot, asked.seconds)
+        yield from looked_at(file, data, is_text, program, found)
+    except Failed as failed:
+        raise Failed(f"{name}: {failed.line}", failed.status) from None
 
 
 def words_of(words: Words) -> Namespace:

@@ -1,31 +1,25 @@
 """What is wrong in a program, for dexasm-lint and dexasm-check --lint: from a file to lines, with the place of what is
 wrong in its code in the listing where one was given.
-
-With --jobs N there are workers too, which are given the listing once and numbers of classes after it.
 """
 from __future__ import annotations
 
-import concurrent.futures
 import re
 from collections.abc import Iterator
 from hashlib import blake2b
 from itertools import accumulate
 from typing import TYPE_CHECKING, Any, NamedTuple
 
-from dexasm.tools.basis import Failed
 from dexasm.tools.check.checkers import Verdict
 from dexasm.tools.escapes import LONGEST
 from dexasm.tools.lint.classes import BOOT, Classes
 from dexasm.tools.lint.kinds import NO_ARRAY, Kind, Kinds
-from dexasm.tools.lint.rules import PAGE, STATIC, broken, classes_of, said_of
+from dexasm.tools.lint.rule_table import SENTENCES
+from dexasm.tools.lint.rules import PAGE, STATIC, broken, classes_of
 from dexasm.tools.lint.rules import RULES as FILE_RULES
 from dexasm.tools.lint.verify import MOST_TOLD, Method, TooMuch, Wrong
 from dexasm.tools.uses import fresh
-from dexasm.tools.workers.looker import Looker
 
 if TYPE_CHECKING:
-    from collections.abc import Callable
-
     from dexasm import listed, members
     from dexasm.code import Code, Insn
     from dexasm.program import Program
@@ -70,8 +64,6 @@ RULES = {
 }
 UNREAD = "unread"  # in place of a rule: the method wasn't looked at to its end
 TOO_MUCH = "it has too many registers and ways to be looked at"
-PARTS = 4  # times as many parts as workers
-SECONDS, MEMORY = 3600, 2 << 30  # for a worker
 MARKED = re.compile(r"`(=?)([^`]*)`")
 
 
@@ -218,92 +210,13 @@ def found_by(looked: Method) -> Iterator[Found]:
         yield wrong.place, wrong.rule, text, wrong.register
 
 
-def look(program: Program, jobs: int = 1, is_boot_skipped: bool = False) -> Iterator[Told]:
+def look(program: Program, is_boot_skipped: bool = False) -> Iterator[Told]:
     """What is wrong in the code of a program, in the order of its classes, maybe without those whose names the boot
     class path has.
     """
-    if jobs > 1 and len(program.classes) > 1:
-        yield from look_by_workers(program, jobs, is_boot_skipped)
-        return
     looked = Looked(program, is_boot_skipped)
     for row in range(len(program.classes)):
         yield from looked.look(row)
-
-
-# ---- workers
-
-
-class Part:
-    """Numbers of classes that a worker looks at. Of the listing, which it has, it makes a program once."""
-
-    needs = ("dexasm.program",)
-    looked: Looked | None = None
-
-    def __init__(self, first: int, end: int, is_boot_skipped: bool) -> None:
-        self.first, self.end, self.is_boot_skipped = first, end, is_boot_skipped
-
-    def look(self, tell: Callable[..., None], listing: str) -> None:
-        import dexasm
-
-        if Part.looked is None:
-            Part.looked = Looked(dexasm.Program.of_listing(listing), self.is_boot_skipped)
-        for row in range(self.first, self.end):
-            for told in Part.looked.look(row):
-                tell("told", *told)
-
-
-class Worker(Looker):
-    kind = "dexasm.tools.lint.code:Part"
-
-    def part(self, first: int, end: int, is_boot_skipped: bool) -> list[Told]:
-        if self.worker is None:
-            self.start()
-        self.send((first, end, is_boot_skipped))
-        found: list[Told] = []
-        while (said := self.said()) is not None:
-            if said[0] == "end":
-                return found
-            if said[0] != "told":
-                break
-            found.append(Told._make(said[1:]))
-        raise Failed(f"a worker ended with status {self.ended()}")
-
-
-def look_by_workers(program: Program, jobs: int, is_boot_skipped: bool) -> Iterator[Told]:
-    """The same, by several workers."""
-    listing = str(program)
-    workers = [Worker(SECONDS, MEMORY, listing) for _ in range(jobs)]
-    idle = [*workers]
-
-    def work(part: tuple[int, int]) -> list[Told]:
-        worker = idle.pop()
-        try:
-            return worker.part(*part, is_boot_skipped)
-        finally:
-            idle.append(worker)
-
-    pool = concurrent.futures.ThreadPoolExecutor(jobs)
-    try:
-        for found in pool.map(work, parts(program, PARTS * jobs)):
-            yield from found
-    finally:
-        # (what a worker is at is of no use any more; others may be begun for another file)
-        pool.shutdown(wait=False, cancel_futures=True)
-        for worker in workers:
-            worker.stop()
-        pool.shutdown(wait=True)
-
-
-def parts(program: Program, count: int) -> list[tuple[int, int]]:
-    """The classes in parts of about the same length of text."""
-    ends = [*accumulate(len(text) for text in program.classes.texts())]
-    found: list[tuple[int, int]] = []
-    first = 0
-    for row, end in enumerate(ends):
-        if end * count >= ends[-1] * (len(found) + 1):
-            found.append((first, row + 1))
-            first = row + 1
-    return found
 
 
 # ---- where it is
@@ -411,12 +324,11 @@ def member_of(verdict: Verdict) -> list[str]:
 
 
 def looked_at(
-    path: bytes, given: bytes, is_text: bool, program: Program, jobs: int, is_boot_skipped: bool = False
+    path: bytes, given: bytes, is_text: bool, program: Program, found: Iterator[Told] | None = None
 ) -> Iterator[Verdict]:
-    """What is wrong in the code of a file."""
+    """What is wrong in the code of a file: what was found, or is found here."""
     places = Places(path, kind_by(is_text), program, given if is_text else None)
-    for told in look(program, jobs, is_boot_skipped):
-        yield places.verdict(told)
+    return map(places.verdict, look(program) if found is None else found)
 
 
 def broken_by(path: bytes, is_text: bool, program: Program) -> Iterator[Verdict]:
@@ -430,7 +342,7 @@ def broken_by(path: bytes, is_text: bool, program: Program) -> Iterator[Verdict]
                 "broken",
                 class_=one.name,
                 member=where.partition("->")[2] or None,
-                why=f"{said_of()[rule]}: {by}",
+                why=f"{SENTENCES[rule]}: {by}",
                 rule=rule,
                 page=f"{PAGE}, {FILE_RULES[rule]}",
             )

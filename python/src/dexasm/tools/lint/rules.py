@@ -3,13 +3,7 @@
 The rules are those of ART 14 (libdexfile, dex_file_verifier.cc) that a file can break which dexasm accepts, and still
 breaks when it is stripped. What that verifier asks of later versions alone, and only warns of in 035 (members of
 interfaces, constructors without code), is none of them."""
-import ast
-import functools
-import os
-import re
 from typing import TYPE_CHECKING, Iterator, NamedTuple, Optional
-
-from dexasm.tools.files import get
 
 if TYPE_CHECKING:
     from dexasm.program import Program
@@ -101,14 +95,6 @@ class Broken(NamedTuple):
     where: str
     rule: str
     by: str
-
-
-@functools.cache
-def said_of() -> dict[str, str]:
-    """What is wrong where a rule is broken, one of these or of code, as the help of dexasm-lint has it."""
-    help_ = ast.get_docstring(ast.parse(get(os.path.join(os.path.dirname(__file__), "__main__.py"))), clean=False) or ""
-    found = re.findall(r"^  ([a-z-]+)  (\S.*(?:\n {6}.*)*)", help_, re.M)
-    return {rule: " ".join(text.split()) for rule, text in found}
 
 
 def classes_of(program: "Program") -> Iterator[Class]:
