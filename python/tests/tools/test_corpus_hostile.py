@@ -11,7 +11,8 @@ import re
 import shlex
 import shutil
 import sqlite3
-from collections.abc import Iterable, Iterator
+import struct
+from collections.abc import Callable, Iterable, Iterator
 
 from tests import sought
 from .archives import archive
@@ -65,6 +66,15 @@ def changed(at: str, name: str, words: str) -> None:
     db.close()
 
 
+def hot_journal(database: str, victim: str) -> bytes:
+    """A rollback journal without a page, whose super-journal is a file of the user: SQLite deletes what is named so
+    (https://sqlite.org/fileformat2.html#the_rollback_journal).
+    """
+    magic, name = bytes.fromhex("d9d505f920a163d7"), os.path.abspath(victim).encode()
+    header = (magic + struct.pack(">5I", 0, 1, os.path.getsize(database) // 4096, 512, 4096)).ljust(512, b"\0")
+    return header + struct.pack(">I", 0x40000000 // 4096 + 1) + name + struct.pack(">II", len(name), sum(name)) + magic
+
+
 def limited(texts: Iterable[str], at: str) -> Iterator[tuple[str, Ended]]:
     """Each with a few seconds of the processor."""
     yield from each([f"ulimit -t 20; {text}" for text in texts], at)
@@ -73,6 +83,8 @@ def limited(texts: Iterable[str], at: str) -> Iterator[tuple[str, Ended]]:
 def here(at: str, name: str) -> bool:
     return os.path.exists(os.path.join(at, name))
 
+
+SIDES = "-journal", "-wal", "-shm"
 
 # ---- what is printed
 
@@ -181,6 +193,49 @@ class HostileCorpus(CorpusTest):
                 self.check(
                     f"dexasm-corpus {words}", seen[0] == 3 and is_one_line(seen[2], f"dexasm-corpus: {bad}: "), seen
                 )
+
+    def test_side_files(self) -> None:
+        """SQLite deletes the file that a journal names, and writes into the -wal and -shm that it finds: neither is
+        opened unless it can be the user's own."""
+        at = self.prepared("side files")
+        shutil.copy(os.path.join(at, "c.db"), os.path.join(at, "k.db"))
+        victim, database = os.path.join(at, "victim"), os.path.join(at, "c.db")
+        os.symlink("c.db", os.path.join(at, "link.db"))
+        jobs = "add --processes 1 c.db f", "sum c.db", "classes link.db", "libraries --known c.db k.db"
+        jobs += "merge c.db k.db", "merge k.db c.db", "merge --verify k.db c.db", "add --processes 1 link.db f"
+        kinds: dict[str, Callable[[str], object]] = {
+            "hard link": lambda side: os.link(victim, side),
+            "symbolic link": lambda side: os.symlink(victim, side),
+            "pipe": os.mkfifo,
+            "folder": os.mkdir,
+            "hot journal": lambda side: put(at, side, hot_journal(database, victim)),
+        }
+        if os.geteuid() == 0:
+            kinds["file of another user"] = lambda side: os.chown(put(at, side, b""), 65534, -1)
+        cases = [(kind, end) for kind in kinds for end in SIDES if kind != "hot journal" or end == "-journal"]
+        for number, (kind, end) in enumerate(cases):
+            put(at, "victim", b"all that I have\n" * 300)
+            kinds[kind](database + end)
+            for job in (jobs[number % len(jobs)], jobs[(number + 3) % len(jobs)]):
+                status, out, said = tool("dexasm-corpus", *job.split(), at=at)
+                with self.subTest(kind=kind, side=end, job=job):
+                    self.assertEqual((status, out, get(at, "victim")), (3, "", b"all that I have\n" * 300))
+                    self.assertRegex(said, rf"\Adexasm-corpus: .*c\.db{end}: .*; remove it.*\n\Z")
+            (os.rmdir if kind == "folder" else os.remove)(database + end)
+        self.assertEqual(tool("dexasm-corpus", *jobs[1].split(), at=at)[0], 0)
+
+    def test_no_journal(self) -> None:
+        """dexasm-corpus itself makes no rollback journal, which it would refuse after a kill."""
+        if not can_trace():
+            self.skipTest("no strace here")
+        at = self.prepared("no journal")
+        changed(at, "plain.db", "vacuum")
+        for words in ("add --processes 1 new.db f", "add --processes 1 plain.db f", "merge other.db plain.db"):
+            strace = ["strace", "-qq", "-f", "-e", "trace=openat,open", "-o", "log"]
+            status = run([*strace, os.path.join(TOOLS, "dexasm-corpus"), *words.split()], at=at)[0]
+            log = get(at, "log").decode()
+            with self.subTest(words):
+                self.assertEqual((status, "-wal" in log, "-journal" in log), (0, True, False))
 
     def test_only_asked(self) -> None:
         """What only asks opens its databases to be read."""

@@ -11,12 +11,13 @@ import hashlib
 import marshal
 import os
 import sqlite3
+import stat
 import time
 from collections.abc import Callable, Iterator
 from typing import Any, TypeVar
 from urllib.parse import quote
 
-from dexasm.tools.basis import Failed
+from dexasm.tools.basis import Failed, reason
 from dexasm.tools.escapes import escaped
 
 APPLICATION, VERSION = 0x64786361, 2  # ("dxca")
@@ -152,9 +153,41 @@ def digest(text: str | bytes) -> int:
     return int.from_bytes(hashlib.sha256(given).digest()[:6], "big", signed=True)
 
 
-def place(path: str, mode: str) -> str:
-    """A path as SQLite takes it for that very file, also where it is called `:memory:` or `file:..`."""
+def database_uri(path: str, mode: str) -> str:
+    """The URI by which SQLite opens this file, also one named `:memory:` or `file:..`, if the files beside it are safe."""
+    check_side_files(path)
     return f"file:{quote(os.path.join(os.getcwdb(), os.fsencode(path)))}?mode={mode}"
+
+
+def check_side_files(path: str) -> None:
+    """Refuse a database beside which SQLite would delete or overwrite a file of the user.
+
+    A rollback journal can name any file, which SQLite deletes before anything else; dexasm-corpus writes none. SQLite
+    writes into the `-wal` and `-shm` that it finds, so each has to be one that it made itself.
+    """
+    database = os.path.realpath(path)  # (SQLite follows links before it appends these names)
+    owners = {os.geteuid(), *(found.st_uid for found in [status_of(database)] if found)}
+    for suffix in ("-journal", "-wal", "-shm"):
+        found = status_of(database + suffix)
+        if found is None:
+            continue
+        shown = escaped((database if os.path.islink(path) else path) + suffix)
+        if suffix == "-journal":
+            raise Failed(f"{shown}: a rollback journal, which SQLite would apply; remove it if you do not know its origin")
+        if not stat.S_ISREG(found.st_mode) or found.st_nlink > 1:
+            raise Failed(f"{shown}: not a regular file with one name, and SQLite would write into it; remove it")
+        if found.st_uid not in owners:
+            raise Failed(f"{shown}: belongs to another user, and SQLite would apply it; remove it")
+
+
+def status_of(path: str) -> os.stat_result | None:
+    """The status of a file, not of a link's target, or None if there is none."""
+    try:
+        return os.lstat(path)
+    except FileNotFoundError:
+        return None
+    except OSError as error:
+        raise Failed(f"{escaped(path)}: {reason(error)}") from None
 
 
 def connected(path: str, is_made: bool = False) -> sqlite3.Connection:
@@ -163,8 +196,8 @@ def connected(path: str, is_made: bool = False) -> sqlite3.Connection:
     if not is_made and not os.path.isfile(path):
         raise Failed(f"{name}: no such database")
     try:
-        way = place(path, "rwc" if is_made else "ro")
-        db = sqlite3.connect(way, timeout=BUSY, isolation_level=None, check_same_thread=False, uri=True)
+        uri = database_uri(path, "rwc" if is_made else "ro")
+        db = sqlite3.connect(uri, timeout=BUSY, isolation_level=None, check_same_thread=False, uri=True)
         # (what SQLite's own page on databases of strangers asks for: www.sqlite.org/security.html)
         db.execute("pragma trusted_schema = off")
         db.execute("pragma cell_size_check = on")
@@ -180,7 +213,7 @@ def connected(path: str, is_made: bool = False) -> sqlite3.Connection:
 @contextlib.contextmanager
 def attached(db: sqlite3.Connection, path: str, name: str) -> Iterator[None]:
     """Another database, to be read beside this one by that name."""
-    db.execute(f"attach ? as {name}", (place(path, "ro"),))
+    db.execute(f"attach ? as {name}", (database_uri(path, "ro"),))
     try:
         look(db, name, escaped(path))
         yield
@@ -256,13 +289,22 @@ def made(db: sqlite3.Connection) -> None:
     """Makes the tables in what is empty, where no other command did meanwhile; otherwise nothing."""
     if whose(db) != (0, 0) or not is_empty(db):
         return
-    db.execute("pragma journal_mode = wal")
+    use_wal(db)
     with written(db):
         if is_empty(db):
             for statement in SCHEMA.split(";")[:-1]:
                 db.execute(statement)
             db.execute(f"pragma application_id = {APPLICATION}")
             db.execute(f"pragma user_version = {VERSION}")
+
+
+def use_wal(db: sqlite3.Connection) -> None:
+    """Switch to write-ahead logging, without a rollback journal that a kill could leave behind."""
+    if db.execute("pragma journal_mode").fetchone() == ("wal",):
+        return
+    db.execute("pragma journal_mode = memory")  # (the switch itself writes one page, in one call)
+    if db.execute("pragma journal_mode = wal").fetchone() != ("wal",):
+        raise Failed("SQLite cannot use a write-ahead log here")
 
 
 @contextlib.contextmanager
@@ -283,6 +325,7 @@ class Corpus:
 
     def __init__(self, path: str) -> None:
         self.db, self.path = connected(path, is_made=True), path
+        patient(lambda: use_wal(self.db))
         self.db.execute("pragma synchronous = normal")
         self.db.execute("pragma cache_size = -262144")
         self.forget()
