@@ -767,7 +767,7 @@ d/inner/b.dex: ok
         for name, given, status, lines in (
             ("a.apks", archive(("splits/base.apk", two)), 0, ["splits/base.apk!classes.dex: ok"]),
             ("b.aab", aab, 1, ["base/dex/classes.dex: ok", "base/lib.jar!classes2.dex:0x08: error: 8 Ch"]),
-            ("c.zip", wrong, 3, ["a.jar: error: no zip", "b.jar: error: it begins as a .dex", "b.jar!classes.dex: ok"]),
+            ("c.zip", wrong, 3, ["a.jar: error: no zip", "b.jar: error: it begins as a .dex"]),
             ("d.apks", archive(("a.apk", archive(("x", b"")))), 0, None),
         ):
             put(at, name, given)
@@ -781,17 +781,17 @@ d/inner/b.dex: ok
         self.check("dexasm-check, two deep", deep in checked("a.apks", at=at)[1])
 
     def test_fronts(self) -> None:
-        """A file that begins as something else, with an archive behind that: a line of its own, whatever the entries."""
+        """A file that begins as something else, with an archive behind that, is refused as a whole."""
         at, file = room("check fronts"), assembled(LISTING)
         good = archive(("classes.dex", file))
         for name, front, what in (("a.apk", file, "a .dex file"), ("b.jar", b"#!/bin/sh\n", "something else")):
             put(at, name, front + good)
             want = f"{name}: error: it begins as {what}, and the archive stands behind that: "
             seen = checked(name, at=at)
-            is_so = seen[::2] == (3, "") and seen[1].startswith(want) and seen[1].endswith(f"{name}!classes.dex: ok\n")
-            self.check(f"dexasm-check {name}, its front", is_so and seen[1].count("\n") == 2, seen)
+            is_so = seen[::2] == (3, "") and seen[1].startswith(want)
+            self.check(f"dexasm-check {name}, its front", is_so and seen[1].count("\n") == 1, seen)
             seen = run([os.path.join(TOOLS, "dexasm-apk"), "check", name], at=at)
-            is_so = seen[:2] == (3, "classes.dex: ok\n") and seen[2].startswith(f"dexasm-apk: {name}: it begins as ")
+            is_so = seen[:2] == (3, "") and seen[2].startswith(f"dexasm-apk: {name}: it begins as ")
             self.check(f"dexasm-apk {name}, its front", is_so and seen[2].count("\n") == 1, seen)
 
     def test_folders(self) -> None:

@@ -16,9 +16,9 @@ others are taken as they are, and so is what has no header or another length. Th
 
 An entry isn't read where it is encrypted or says so (Android doesn't look at that), where its sum is wrong or its
 method unknown, and where another one has its name (Android refuses such an archive). Each .dex file is held in memory.
-A file that begins as something else, with an archive behind that, has a line and status 3: who reads it from its front
-sees another file. Without a classes*.dex an archive has one too, unless --allow-empty is given. What has other names
-(*.dex in other folders, archives in the archive) `dexasm-check` looks at.
+A file that begins as something else, with an archive behind that, and an archive in which other tools can find other
+entries are refused (status 3). An archive without classes*.dex is an error (status 3) too, unless --allow-empty is
+given. `dexasm-check` also checks other names: *.dex in other folders, archives in the archive.
 
 replace writes OUT, the archive with its classes.dex exchanged for a FILE of that name, and so on, if dexasm accepts it.
 Each other entry stays byte for byte, at the place that zipalign asks for where it isn't compressed (4 bytes, 16 KB for
@@ -34,9 +34,9 @@ import os
 import stat
 import sys
 
-from dexasm.tools.archives import NAME, dex_files, opened, taken_out, wrong_front
+from dexasm.tools.archives import NAME, dex_files, opened, taken_out
 from dexasm.tools.asking import answer, ask
-from dexasm.tools.basis import FAILED, USAGE, ZIP, Failed, reason
+from dexasm.tools.basis import FAILED, USAGE, Failed, reason
 from dexasm.tools.escapes import escaped
 from dexasm.tools.files import deliver, get
 from dexasm.tools.helper import helper, say
@@ -121,7 +121,6 @@ def main(words: Words) -> int:
     if asked.job == "check" and asked.folder is not None:
         words.error("check takes one ARCHIVE and no FOLDER: dexasm-check looks at many")
     with opened(asked.archive) as archive:
-        status = look_at_front(archive, asked.archive)
         entries = dex_files(archive)
         if not entries and not asked.allow_empty:
             raise Failed(f"{escaped(asked.archive)}: no classes*.dex in it")
@@ -131,7 +130,7 @@ def main(words: Words) -> int:
             except OSError as error:
                 raise Failed(f"{escaped(asked.folder)}: {reason(error)}", FAILED) from None
         ends = (done(asked.job, archive, asked.folder, name, found, asked.close) for name, found in entries)
-        return max([status, *ends])
+        return max(ends, default=0)
 
 
 def replace(words: Words, asked: Namespace) -> int:
@@ -150,17 +149,6 @@ def replace(words: Words, asked: Namespace) -> int:
         answer("check", given=files[entry], name=escaped(path))
     deliver(asked.output, replaced(asked.archive, files))
     return 0
-
-
-def look_at_front(archive: ZipFile, path: str) -> int:
-    """Tells where the file begins as something else than an archive; answers the status."""
-    assert archive.fp is not None  # (it is open)
-    archive.fp.seek(0)
-    why = wrong_front(archive.fp.read(2 * len(ZIP)))
-    if why is None:
-        return 0
-    say(f"dexasm-apk: {escaped(path)}: {why}")
-    return FAILED
 
 
 if __name__ == "__main__":

@@ -16,6 +16,13 @@ if TYPE_CHECKING:
 
 Named = tuple[str, list[zipfile.ZipInfo]]  # a name, and the entries that have it
 
+# The records at the end of an archive (APPNOTE.TXT 4.3.14 to 4.3.16).
+END, END64, LOCATOR = struct.Struct("<4s4H2IH"), struct.Struct("<4sQ2H2I4Q"), struct.Struct("<4sIQI")
+END_BEGINS, END64_BEGINS, LOCATOR_BEGINS = b"PK\5\6", b"PK\6\6", b"PK\6\7"
+UNKNOWN = 0xFFFF, 0xFFFF, 0xFFFF, 0xFFFF, 0xFFFFFFFF, 0xFFFFFFFF  # fields that the zip64 record has instead
+LONGEST_COMMENT = 0xFFFF
+LOCAL_SIZE = 30  # of a local header without name and extra field
+
 NAME = re.compile(r"classes([0-9]*)\.dex")
 ENCRYPTED = 1
 # What zipfile raises where an archive is none, or an entry of it.
@@ -32,15 +39,71 @@ WRONG = (
 
 
 def opened(path: str, file: IO[bytes] | None = None) -> zipfile.ZipFile:
-    """The archive of that very name, or that is in the file."""
+    """Open an archive by its name or from a file. Archives in which readers find different entries are refused."""
     name = escaped(path)
     try:
-        return zipfile.ZipFile(path if file is None else file)
+        archive = zipfile.ZipFile(path if file is None else file)
     except OSError as error:
         raise Failed(f"{name}: {reason(error)}") from None
     except (*WRONG, NotImplementedError) as error:
         hint = "a .dex file, which dexasm itself takes" if file is None and is_dex(path) else escaped(str(error))
         raise Failed(f"{name}: no zip archive can be read: {hint}") from None
+    try:
+        why = ambiguity(archive)
+    except OSError as error:
+        why = reason(error)
+    if why is not None:
+        archive.close()
+        raise Failed(f"{name}: {why}")
+    return archive
+
+
+def ambiguity(archive: zipfile.ZipFile) -> str | None:
+    """Why readers can find different entries in an archive, or None.
+
+    zipfile takes the directory that ends at the end record, and any zip64 record. Android goes by the end record's
+    offset and count, and looks for a zip64 record only if a field is all ones. Other tools read from the front.
+    """
+    file = archive.fp
+    assert file is not None  # (it is open)
+    file.seek(0)
+    why = wrong_front(file.read(len(DEX)))
+    if why is not None:
+        return why
+    size = file.seek(0, 2)
+    file.seek(max(0, size - LONGEST_COMMENT - END.size - LOCATOR.size - END64.size))
+    tail = file.read()
+    why = directory_mismatch(tail, size - len(tail), archive.infolist())
+    return why and f"ambiguous zip archive: {why}, so that other tools can read different files"
+
+
+def directory_mismatch(tail: bytes, start: int, rows: list[zipfile.ZipInfo]) -> str | None:
+    """What of an archive's last bytes, from offset `start` on, does not match the rows of its directory."""
+    at = tail.rfind(END_BEGINS, 0, len(tail) - END.size + len(END_BEGINS))
+    if at < 0:
+        return "the end record is cut"
+    _, *fields, comment = END.unpack_from(tail, at)
+    end = start + at  # where the directory has to end
+    if at + END.size + comment != len(tail):
+        return "data after the end record"
+    at64 = at - LOCATOR.size - END64.size
+    if tail[at64 + END64.size : at].startswith(LOCATOR_BEGINS) and tail[at64:at].startswith(END64_BEGINS) and at64 >= 0:
+        end = start + at64
+        wide = END64.unpack_from(tail, at64)[4:]
+        offset = LOCATOR.unpack_from(tail, at64 + END64.size)[2]
+        if offset != end or any(one not in pair for one, *pair in zip(fields, UNKNOWN, wide)):
+            return "the zip64 end record contradicts the end record"
+        fields = [*wide]
+    disk, first_disk, on_disk, count, length, begin = fields
+    if disk or first_disk or on_disk != count:
+        return "one part of several"
+    if begin + length != end:
+        return "the directory is not where the end record says"
+    if count != len(rows):
+        return f"the end record counts {count} entries of {len(rows)}"
+    if min((row.header_offset for row in rows), default=begin):
+        return "data before the first entry"
+    return None
 
 
 def is_dex(path: str) -> bool:
@@ -50,7 +113,7 @@ def is_dex(path: str) -> bool:
 
 def wrong_front(first: bytes) -> str | None:
     """What is wrong with how a file begins in which an archive can be read, which is looked for from a file's end."""
-    if first[: len(DEX)] in ARCHIVES_BEGIN:
+    if first[: len(DEX)] in ARCHIVES_BEGIN:  # (an archive without entries begins with its end record)
         return None
     what = "a .dex file" if first.startswith(DEX) else "something else"
     return f"it begins as {what}, and the archive stands behind that: who reads it from its front sees another file"
@@ -88,6 +151,8 @@ def taken_out(archive: zipfile.ZipFile, entries: list[zipfile.ZipInfo]) -> bytes
         raise Failed("it is there more than once")
     if one.flag_bits & ENCRYPTED:
         raise Failed("it is encrypted, or says so")
+    if one.header_offset + LOCAL_SIZE + one.compress_size > archive.start_dir:
+        raise Failed("its compressed size reaches beyond the archive's entries")
     # (the methods that Android and Java know; those of others tell no bound of what they make of a few bytes)
     if one.compress_type not in (zipfile.ZIP_STORED, zipfile.ZIP_DEFLATED):
         raise Failed(f"its method of compression is unknown: {one.compress_type}")

@@ -35,7 +35,6 @@ def inputs_of(path: Path, is_one: bool = False, is_empty_allowed: bool = False) 
     from dexasm.tools.archives import dex_files, files_by_name, opened, taken_out
 
     with opened(archive) as zipped:
-        look_at_front(archive)
         found = dex_files(zipped) if entry is None else files_by_name(zipped, lambda name: name == entry)
         name = escaped(archive)
         if not found and not is_empty_allowed:
@@ -80,13 +79,3 @@ def is_archive(path: str) -> bool:
             return file.read(len(DEX)) in ARCHIVES_BEGIN
     except (OSError, ValueError):
         return False
-
-
-def look_at_front(path: str) -> None:
-    """Refuses a file that begins as something else than an archive."""
-    from dexasm.tools.archives import wrong_front
-
-    with open(path, "rb") as file:
-        why = wrong_front(file.read(len(DEX)))
-    if why is not None:
-        raise Failed(f"{escaped(path)}: {why}")

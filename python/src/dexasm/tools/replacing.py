@@ -10,7 +10,7 @@ import struct
 import zlib
 from typing import NamedTuple
 
-from dexasm.tools.archives import ENCRYPTED, WRONG, opened, wrong_front
+from dexasm.tools.archives import ENCRYPTED, END, END_BEGINS, WRONG, opened
 from dexasm.tools.basis import Failed
 from dexasm.tools.escapes import escaped
 
@@ -19,8 +19,8 @@ if TYPE_CHECKING:
     from typing import IO
     from zipfile import ZipFile, ZipInfo
 
-LOCAL, ROW, END = struct.Struct("<4s5H3I2H"), struct.Struct("<4s6H3I5H2I"), struct.Struct("<4s4H2IH")
-LOCAL_BEGINS, ROW_BEGINS, END_BEGINS = b"PK\3\4", b"PK\1\2", b"PK\5\6"
+LOCAL, ROW = struct.Struct("<4s5H3I2H"), struct.Struct("<4s6H3I5H2I")
+LOCAL_BEGINS, ROW_BEGINS = b"PK\3\4", b"PK\1\2"
 STORED, DEFLATED, UTF8 = 0, 8, 0x800
 AFTER, LEVEL = 0x8, 0x6  # flags: sizes stand behind the data; how it was deflated
 MOST, MOST_ENTRIES = (1 << 32) - 1, (1 << 16) - 1
@@ -86,10 +86,6 @@ def look_at(archive: ZipFile, infos: list[ZipInfo], files: dict[str, bytes]) -> 
         if names.count(file) != 1:
             raise Failed(f"{escaped(file)} is in it {'more than once' if file in names else 'not at all'}")
     assert archive.fp is not None
-    archive.fp.seek(0)
-    why = wrong_front(archive.fp.read(4))
-    if why is not None:
-        raise Failed(why)
     size = archive.fp.seek(0, 2)
     if sum(info.compress_size for info in infos) > size:
         raise Failed("its entries overlap")

@@ -69,8 +69,6 @@ class Batch:
         tell.begin_sum(self.left)
         self.room = resource.getrlimit(resource.RLIMIT_AS)[0]
         with opened("", file) as archive:
-            file.seek(0)
-            self.note_front("", file.peek(len(ZIP)), tell)
             count = self.look_into("", archive, tell, is_hashed)
         tell.end_sum()
         if count or self.told:
@@ -137,7 +135,6 @@ class Batch:
         try:
             given = taken_out(archive, entries)
             with opened("", io.BytesIO(given)) as inner:
-                self.note_front(place, given, tell)
                 return self.look_into(place, inner, tell, is_hashed)
         except Failed as failed:
             self.note(place, unread(failed.line.removeprefix(": "), "archive"), tell)
@@ -156,13 +153,6 @@ class Batch:
         if place + NOTED not in self.told:
             self.told.add(place + NOTED)
             tell("note", place, verdict)
-
-    def note_front(self, place: str, first: bytes, tell: Teller) -> None:
-        from dexasm.tools.archives import wrong_front
-
-        why = wrong_front(first)
-        if why is not None:
-            self.note(place, unread(why, "archive"), tell)
 
     def judge(
         self, entry: str, given: bytes, kind: str | None, tell: Teller, is_hashed: bool
