@@ -1,7 +1,7 @@
 """dexasm-rename: by word and by mapping, there and back, and what it refuses; names of strangers stay names."""
 import os
 
-from .rooms import ESC, HEAD, LISTING, NAMES, HelperTest, assembled, dexasm, get, is_one_line, put, room, tool
+from .rooms import ESC, HEAD, LISTING, NAMES, HelperTest, assembled, dexasm, get, is_one_line, put, room, shell, tool
 
 PROGRAM = rb"""class Lp/I; 0x601
 super Ljava/lang/Object;
@@ -149,6 +149,36 @@ class Rename(HelperTest):
         says = "dexasm-rename: a renamed method's class inherits from Lout/Side;, which isn't there"
         self.check("dexasm-rename, a class from outside", seen[:2] == (0, "") and is_one_line(seen[2], says), seen)
         self.check("dexasm-rename, no other method", self.listed(at, "b.dex").count(b"virtual m ") == 2)
+
+    def test_families(self) -> None:
+        """Methods that meet in a class below are renamed together, from whichever of them it begins."""
+        at = room("rename families")
+        method = b"virtual m ()V 0x1\ncode 1 1 0\nreturn-void\nend code\n"
+        begin = b"class L%s; 0x%x\nsuper L%s;\n"
+        alone = begin % (b"D", 1, b"java/lang/Object") + method + b"end class\n"
+        base = begin % (b"B", 1, b"java/lang/Object") + method + b"end class\n"
+        face = begin % (b"I", 0x601, b"java/lang/Object") + b"virtual m ()V 0x401\nend class\n"
+        heir = begin % (b"C", 1, b"B") + b"implements LI;\nend class\n"
+        put(at, "a.dex", assembled(HEAD + alone + base + face + heir))
+        for word in ("B->m=n", "I->m=n"):
+            seen = tool("dexasm-rename", "a.dex", word, "--output", "b.dex", at=at)
+            text = self.listed(at, "b.dex")
+            with self.subTest(word):
+                self.assertEqual((seen, text.count(b"virtual n "), text.count(b"virtual m ")), ((0, "", ""), 2, 1))
+
+    def test_chain(self) -> None:
+        """Time grows with the file, not with its square: a chain of classes, each with methods of its own."""
+        at, classes, lines = room("rename chain"), [], []
+        for number in range(4000):
+            above = f"LC{number - 1:06};" if number else "Ljava/lang/Object;"
+            bodies = "".join(f"virtual m{one} ()V 0x1\ncode 1 1 0\nreturn-void\nend code\n" for one in (number, "x"))
+            classes.append(f"class LC{number:06}; 0x1\nsuper {above}\n{bodies}end class\n")
+            lines.append(f"C{number:06} -> C{number:06}:\n    void m{number}() -> n{number}\n    void mx() -> nx\n")
+        put(at, "a.dex", assembled(HEAD + "".join(classes).encode()))
+        put(at, "map.txt", "".join(lines).encode())
+        seen = shell("ulimit -t 15; dexasm-rename --mapping map.txt --forward a.dex --output b.dex", at)
+        self.assertEqual(seen, (0, "", ""))
+        self.assertEqual(self.listed(at, "b.dex").count(b"virtual n"), 8000)
 
     def test_strangers(self) -> None:
         """Files of evil names, a file that is refused, a listing, a pipe; nothing is obeyed."""

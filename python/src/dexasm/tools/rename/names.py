@@ -1,7 +1,8 @@
 """Which names a program's classes and members are to get, and whether they can: for dexasm-rename."""
 from __future__ import annotations
 
-from collections.abc import Callable, Iterator
+import functools
+from collections.abc import Callable
 
 from dexasm.names import Type, member
 from dexasm.tools.basis import REFUSED, USAGE, Failed
@@ -35,6 +36,9 @@ class Names:
         self.classes: dict[str, str] = {}
         self.members: dict[int, str] = {}  # by their numbers
         self.unsure: set[str] = set()  # classes that inherit from outside what one of their methods may override
+        self.seen_above: set[int] = set()  # rows whose classes from outside are in `unsure`, with all above them
+        self.seen_below: set[int] = set()  # the same of all below them
+        self.families: dict[str, dict[int, set[int]]] = {}  # by signature, of each virtual method of the program
 
     # ---- what is asked for
 
@@ -90,42 +94,59 @@ class Names:
     # ---- families
 
     def family(self, number: int) -> set[int]:
-        """A member, and of a virtual method all methods of this program that it overrides or that override it."""
+        """A member; of a virtual method all methods of this program that some class defines or inherits beside it."""
         row, _ = self.uses.place(number)
-        one = self.uses.member(number)
-        if not self.is_virtual(row, one.signature):
+        signature = self.uses.member(number).signature
+        if row not in self.virtuals.get(signature, {}):
             return {number}
-        found, due = {number}, [row]
-        for at in due:
-            for near in (*self.all_of(at, self.uses.above.__getitem__), *self.all_of(at, self.heirs)):
-                same = self.uses.resolve(str(self.uses.classes[near].name), one.signature)
-                if same is not None and same not in found and self.is_virtual(self.uses.row_of(same), one.signature):
-                    found.add(same)
-                    due.append(self.uses.row_of(same))
-                self.note_outside(near)
-        self.note_outside(row)
+        if signature not in self.families:
+            self.families[signature] = self.families_of(self.virtuals[signature])
+        found = self.families[signature][number]
+        rows = [self.uses.row_of(one) for one in found]
+        self.note_outside(rows, self.uses.above.__getitem__, self.seen_above)
+        self.note_outside(rows, self.heirs, self.seen_below)
         return found
 
-    def is_virtual(self, row: int, signature: str) -> bool:
-        return any(one.signature == signature for one in self.uses.classes[row].virtuals)
+    @functools.cached_property
+    def virtuals(self) -> dict[str, dict[int, int]]:
+        """By signature the rows of the classes with such a virtual method, and its number there."""
+        found: dict[str, dict[int, int]] = {}
+        for row, one in enumerate(self.uses.classes):
+            for method in one.virtuals:
+                found.setdefault(method.signature, {})[row] = self.uses.by_signature[row][method.signature]
+        return found
+
+    def families_of(self, numbers: dict[int, int]) -> dict[int, set[int]]:
+        """The families of the methods of one signature, by their rows: what meets in a class below is one."""
+        families = {row: {number} for row, number in numbers.items()}
+        meets = {row: row for row in numbers}  # of each row below, a row whose method is there too
+        due = [*numbers] if len(numbers) > 1 else []
+        for at in due:
+            for heir in self.heirs(at):
+                if heir not in meets:
+                    meets[heir] = meets[at]
+                    due.append(heir)
+                    continue
+                small, large = sorted((families[meets[at]], families[meets[heir]]), key=len)
+                if small is not large:
+                    large |= small
+                    families.update((self.uses.row_of(number), large) for number in small)
+        return {number: families[row] for row, number in numbers.items()}
 
     def heirs(self, row: int) -> list[int]:
         return self.uses.heirs.get(row, [])
 
-    def all_of(self, row: int, of: Callable[[int], list[int]]) -> Iterator[int]:
-        """All that are above a class, or below it."""
-        seen, due = {row}, [row]
+    def note_outside(self, rows: list[int], of: Callable[[int], list[int]], seen: set[int]) -> None:
+        """Notes from which classes outside the program these rows inherit, and those above or below them."""
+        due = [row for row in rows if row not in seen]
+        seen.update(due)
         for at in due:
-            for one in of(at):
-                if one not in seen:
-                    seen.add(one)
-                    due.append(one)
-                    yield one
-
-    def note_outside(self, row: int) -> None:
-        one = self.uses.classes[row]
-        above = [str(name) for name in (one.superclass, *one.interfaces) if name is not None]
-        self.unsure.update(name for name in above if name not in self.uses.rows and name != OBJECT)
+            one = self.uses.classes[at]
+            above = [str(name) for name in (one.superclass, *one.interfaces) if name is not None]
+            self.unsure.update(name for name in above if name not in self.uses.rows and name != OBJECT)
+            more = [row for row in of(at) if row not in seen]
+            seen.update(more)
+            due += more
 
     # ---- whether they can
 
@@ -137,8 +158,7 @@ class Names:
             other = taken.setdefault(new, name)
             if other != name:
                 raise refused(self.clash(name, new, other))
-        for row in {self.uses.row_of(number) for number in self.members}:
-            self.look_at_members(row)
+        self.look_at_members()
 
     def clash(self, name: str, new: str, other: str) -> str:
         """What is wrong with a new name that another class has, or gets."""
@@ -148,16 +168,38 @@ class Names:
             return f"{escaped(other)} can't be {escaped(new)}, which is there"
         return f"{escaped(name)} can't be {escaped(new)}, as {escaped(other)} is to be"
 
-    def look_at_members(self, row: int) -> None:
+    def look_at_members(self) -> None:
         """Of a class, and of those above and below it, no other member may have a new name."""
-        near = (row, *self.all_of(row, self.uses.above.__getitem__), *self.all_of(row, self.heirs))
-        taken = {self.signature(at): at for each in near for at in self.numbers(each) if at not in self.members}
-        for at in self.numbers(row):
-            if at in self.members:
-                other = taken.setdefault(self.signature(at), at)
-                if other != at:
-                    what = f"{escaped(self.uses.full_name(at))} can't be {escaped(self.signature(at))}"
-                    raise refused(f"{what}, as {escaped(self.uses.full_name(other))} is, or is to be")
+        renamed: dict[str, dict[int, int]] = {}
+        for number in sorted(self.members):
+            rows = renamed.setdefault(self.signature(number), {})
+            other = rows.setdefault(self.uses.row_of(number), number)
+            if other != number:
+                raise refused(self.member_clash(number, other))
+        kept: dict[str, dict[int, int]] = {}
+        for row, numbers in enumerate(self.uses.by_signature):
+            for signature in renamed.keys() & numbers.keys():
+                if numbers[signature] not in self.members:
+                    kept.setdefault(signature, {})[row] = numbers[signature]
+        for signature, rows in kept.items():
+            self.look_below(renamed[signature], rows)
+            self.look_below(rows, renamed[signature])
+
+    def look_below(self, above: dict[int, int], others: dict[int, int]) -> None:
+        """Refuses members of which the ones, by their rows, are in classes above those of the others."""
+        found = dict(above)
+        due = [*above]
+        for at in due:
+            if at in others:
+                pair = found[at], others[at]
+                raise refused(self.member_clash(*(pair if pair[0] in self.members else pair[::-1])))
+            more = [row for row in self.heirs(at) if row not in found]
+            found.update((row, found[at]) for row in more)
+            due += more
+
+    def member_clash(self, number: int, other: int) -> str:
+        what = f"{escaped(self.uses.full_name(number))} can't be {escaped(self.signature(number))}"
+        return f"{what}, as {escaped(self.uses.full_name(other))} is, or is to be"
 
     def numbers(self, row: int) -> range:
         """The members of a class."""
