@@ -21,9 +21,10 @@ def built() -> tuple[str, str]:
     return PROGRAM, LIBRARY
 
 
-def pack(program: str, library: str, folder: str) -> str:
-    """Makes the packages in this folder; answers the sums."""
-    is_given = (program, library) != (PROGRAM, LIBRARY)
+def pack(program: str, library: str, folder: str, is_given: bool = True) -> str:
+    """Make the packages in this folder and return their sums. Only `built` knows what program and library are, so a
+    caller that names them itself leaves `is_given`, whatever their paths.
+    """
     number, time = version(), int(output("git", "log", "-1", "--format=%ct") or 0)
     top = f"dexasm-{number}-linux-x86_64"
     held, made = contents(program, library, is_given), [f"{folder}/{top}.tar.gz"]
@@ -57,7 +58,7 @@ def packed(given: tuple[str, str] | None, folder: str) -> int:
     program, library = given or built()
     folder = os.path.abspath(folder)
     os.makedirs(folder, exist_ok=True)
-    sums = pack(program, library, folder)
+    sums = pack(program, library, folder, is_given=given is not None)
     words = [sys.executable, f"{TOP}/tools/try", "package", f"--program={program}", f"--library={library}"]
     env = {**os.environ, "DEXASM_TESTS_PACKAGES": folder}
     if subprocess.run(words, env=env, stdout=subprocess.DEVNULL).returncode:

@@ -303,6 +303,8 @@ def put_files(folder: str, held: Held) -> None:
         with open(at, "wb") as file:
             file.write(given)
         os.chmod(at, mode)
+    for at, _, _ in os.walk(folder):
+        os.chmod(at, 0o755)  # (whatever the umask is)
 
 
 def pack_deb(held: Held, path: str, number: str, time: int) -> None:
