@@ -35,6 +35,22 @@ class Packing(TestCase):
         folders = [line.split()[0] for line in lines.splitlines() if line.startswith("d")]
         self.assertEqual({*folders}, {"drwxr-xr-x"})
 
+    def test_removal(self) -> None:
+        """The .deb takes away what Python compiled, before its files are removed."""
+        self.need("dpkg-deb", "no .deb is made")
+        folder = self.new_folder()
+        pack_deb(HELD, f"{folder}/a.deb", "1.0", 0)
+        subprocess.run(["dpkg-deb", "-e", f"{folder}/a.deb", f"{folder}/control"], check=True)
+        put_at = f"{folder}/bin/py3clean"
+        os.mkdir(f"{folder}/bin")
+        with open(put_at, "w", encoding="ascii") as file:
+            file.write(f'#!/bin/sh\necho "$@" > {folder}/words\n')
+        os.chmod(put_at, 0o755)
+        env = {**os.environ, "PATH": f"{folder}/bin:{os.environ['PATH']}"}
+        subprocess.run([f"{folder}/control/prerm", "remove"], env=env, check=True)
+        self.assertEqual(get(f"{folder}/words"), b"-p dexasm\n")
+        subprocess.run([f"{folder}/control/prerm", "remove"], env={**os.environ, "PATH": "/nowhere"}, check=True)
+
     def test_given(self) -> None:
         """A program named by --of is not called proved, also where tools/build puts its own."""
         for given, is_given in ((("program", "library"), True), ((packages.PROGRAM, packages.LIBRARY), True), (None, False)):

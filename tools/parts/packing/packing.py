@@ -307,13 +307,23 @@ def put_files(folder: str, held: Held) -> None:
         os.chmod(at, 0o755)  # (whatever the umask is)
 
 
+# Python leaves compiled modules beside the package's own if root imports it; with them the folder would stay.
+PRERM = """#!/bin/sh
+set -e
+if command -v py3clean > /dev/null; then
+    py3clean -p dexasm
+fi
+"""
+
+
 def pack_deb(held: Held, path: str, number: str, time: int) -> None:
     """A .deb of the same files below /usr."""
     held = for_debian(held, number, time)
     with tempfile.TemporaryDirectory() as root:
         os.chmod(root, 0o755)
         put_files(f"{root}/usr", held)
-        put_files(f"{root}/DEBIAN", {name: (text.encode(), 0o644) for name, text in control_of(held, number).items()})
+        control: Held = {name: (text.encode(), 0o644) for name, text in control_of(held, number).items()}
+        put_files(f"{root}/DEBIAN", {**control, "prerm": (PRERM.encode(), 0o755)})
         env = {**os.environ, "SOURCE_DATE_EPOCH": str(time)}
         words = ["dpkg-deb", "--root-owner-group", "-Zgzip", "--build", root, path]
         done = subprocess.run(words, env=env, stdout=subprocess.PIPE, stderr=subprocess.STDOUT)
