@@ -300,7 +300,10 @@ class Replacing(HelperTest):
             ("another front", file + good, ["classes.dex"], 3, "it begins as a .dex file"),
             ("no archive", b"no archive", ["classes.dex"], 3, "no zip archive can be read"),
             ("a cut one", good[:-9], ["classes.dex"], 3, "no zip archive can be read"),
-            ("encrypted", changed(good, "classes.dex", *FLAGS, 1), ["classes.dex"], 3, "it is encrypted"),
+            *(
+                (f"flag bit {bit}", changed(good, "classes.dex", *FLAGS, 1 << bit), ["classes.dex"], 3, "it is encrypted")
+                for bit in (0, 5, 6, 13)
+            ),
         ):
             put(at, "a.apk", given)
             seen = tool("dexasm-apk", "replace", "a.apk", *words, "--output", "OUT", at=at)

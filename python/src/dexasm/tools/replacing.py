@@ -22,6 +22,7 @@ if TYPE_CHECKING:
 LOCAL, ROW = struct.Struct("<4s5H3I2H"), struct.Struct("<4s6H3I5H2I")
 LOCAL_BEGINS, ROW_BEGINS = b"PK\3\4", b"PK\1\2"
 STORED, DEFLATED, UTF8 = 0, 8, 0x800
+UNREADABLE = ENCRYPTED | 0x20 | 0x40 | 0x2000  # flags of what readers refuse: encrypted in any form, or a patch
 AFTER, LEVEL = 0x8, 0x6  # flags: sizes stand behind the data; how it was deflated
 MOST, MOST_ENTRIES = (1 << 32) - 1, (1 << 16) - 1
 # A signature of a .jar, as Android's first scheme has it; and the list of sums that it is of.
@@ -129,8 +130,8 @@ def unfilled(extra: bytes) -> bytes:
 
 def exchanged(entry: Entry, data: bytes) -> Entry:
     """An entry with another file's bytes, compressed or not as the old one."""
-    if entry.info.flag_bits & ENCRYPTED or entry.info.compress_type not in (STORED, DEFLATED):
-        raise Failed(f"{escaped(entry.info.filename)}: it is encrypted, or its method of compression is unknown")
+    if entry.info.flag_bits & UNREADABLE or entry.info.compress_type not in (STORED, DEFLATED):
+        raise Failed(f"{escaped(entry.info.filename)}: it is encrypted or a patch, or its compression is unknown")
     entry.info.flag_bits &= ~LEVEL
     made = data
     if entry.info.compress_type == DEFLATED:
