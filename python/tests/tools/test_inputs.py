@@ -12,7 +12,7 @@ from typing import Any
 
 from .archives import CRC, FLAGS, archive, changed, hostile, streamed
 from .rooms import ESC, HEAD, Ended, HelperTest, assembled, get, has_pages, is_one_line, put, room, run, seen_in
-from .rooms import tool
+from .rooms import shell, tool
 
 A = HEAD + b'class LA; 0x1\ndirect m ()V 0x9\ncode 1 0 0\nconst-string v0 "a"\nreturn-void\nend code\nend class\n'
 B = A.replace(b"LA;", b"LB;").replace(b"direct m", b"direct n")
@@ -196,6 +196,23 @@ class Inputs(HelperTest):
                 self.check(f"dexasm-{name} of an archive: {what}", is_so and is_safe, (status, out, said))
         left = sorted(set(os.listdir(at)) - {"a.apk", "a.dex", "cut", "pages"})
         self.check("of hostile archives nothing is made elsewhere", not left, left)
+
+
+class Memory(HelperTest):
+    def test_little(self) -> None:
+        """Less memory than a helper's modules need: never status 1, which means refused, and a last line that says so."""
+        at = room("little memory")
+        put(at, "a.dex", assembled(A))
+        words = ("check a.dex", "query classes a.dex", "corpus add c.db a.dex", "browse a.dex --output out", "lint a.dex")
+        for kilobytes in range(16500, 26000, 1500):
+            for word in words:
+                status, out, said = shell(f"ulimit -v {kilobytes}; dexasm-{word}", at)
+                if status in (134, 139) or "Fatal Python error" in said or "frozen site" in said:
+                    continue  # (Python itself fails)
+                with self.subTest(word, kilobytes=kilobytes):
+                    self.assertIn(status, (0, 3, 4))
+                    lines = (out + said).splitlines()
+                    self.assertTrue(not status or lines[-1].startswith(("dexasm", "a.dex: error: ")), lines[-1:])
 
 
 class Replacing(HelperTest):

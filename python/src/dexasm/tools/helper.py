@@ -139,6 +139,9 @@ def run(does: Callable[[Words], int], trouble: int | None, unread: int) -> NoRet
     except OSError as error:
         say(f"{words.prog}: {reason(error)}")
         status = trouble or FAILED
+    except ImportError as error:  # (of a module of Python's own, if there is hardly any memory)
+        say(f"{words.prog}: cannot import: {escaped(str(error))}")
+        status = trouble or FAILED
     except MemoryError:
         say(f"{words.prog}: out of memory")
         status = trouble or MEMORY

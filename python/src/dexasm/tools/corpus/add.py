@@ -103,7 +103,10 @@ class Here:
         return path, is_named
 
     def submit(self, jobs: Jobs) -> Any:
-        return self.pool.submit(look_batch, jobs, *self.settings)
+        try:
+            return self.pool.submit(look_batch, jobs, *self.settings)
+        except RuntimeError as error:
+            raise Failed(f"no worker can be started: {escaped(str(error))}") from None
 
     def wait(self, due: dict[Any, Jobs]) -> Iterator[tuple[Any, list[Any] | None]]:
         """Those that are done, and what they found; at the latest after half a second."""
@@ -216,7 +219,8 @@ def add(corpus: Corpus, asked: Any) -> Counts:
 
     files = (file for path in named(asked.paths) for file in walked(path, wrong))
     if counts.line.is_shown and "-" not in asked.paths:
-        threading.Thread(target=count, args=(counts, asked.paths), daemon=True).start()
+        with contextlib.suppress(RuntimeError):  # (no thread can be started: then the files aren't counted)
+            threading.Thread(target=count, args=(counts, asked.paths), daemon=True).start()
     known = corpus.known(KEY, asked.again)
     where: Here | Dask = Dask(asked, known) if asked.scheduler else Here(asked, known)
     try:
