@@ -73,12 +73,12 @@ class Command(HelperTest):
         self.check(
             "Python with neither", seen[0] == 1 and "ImportError: DEXASM_COMMAND names no command: /none" in seen[2], seen
         )
-        for words, want in (
+        for words, ended in (
             (("check", "a.dex"), (0, "ok\n", "")),
             (("list", "cut"), (1, "", "dexasm: refused 1 TooShort at 7\n")),
         ):
             put(at, "cut", b"dex 034")
-            self.check_equal(f"python -m dexasm {words}", python(at, "-m", "dexasm", *words), want)
+            self.check_equal(f"python -m dexasm {words}", python(at, "-m", "dexasm", *words), ended)
         seen = python(at, "-m", "dexasm", "check", "a.dex", DEXASM_COMMAND="/none")
         self.check_equal("python -m dexasm without the command", seen, (3, "", "dexasm: DEXASM_COMMAND names no command: /none\n"))
         fake = put(at, "fake", b'#!/bin/sh\n[ "$1" = check ] && exit 70\necho dexasm: out of memory >&2\nexit 4\n')

@@ -201,8 +201,8 @@ class HostileCorpus(CorpusTest):
         shutil.copy(os.path.join(at, "c.db"), os.path.join(at, "k.db"))
         victim, database = os.path.join(at, "victim"), os.path.join(at, "c.db")
         os.symlink("c.db", os.path.join(at, "link.db"))
-        jobs = "add --processes 1 c.db f", "sum c.db", "classes link.db", "libraries --known c.db k.db"
-        jobs += "merge c.db k.db", "merge k.db c.db", "merge --verify k.db c.db", "add --processes 1 link.db f"
+        jobs = ["add --processes 1 c.db f", "sum c.db", "classes link.db", "libraries --known c.db k.db"]
+        jobs += ["merge c.db k.db", "merge k.db c.db", "merge --verify k.db c.db", "add --processes 1 link.db f"]
         kinds: dict[str, Callable[[str], object]] = {
             "hard link": lambda side: os.link(victim, side),
             "symbolic link": lambda side: os.symlink(victim, side),
