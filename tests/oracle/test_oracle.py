@@ -1,5 +1,6 @@
 """The program beside the second reading (comparing.py says how), and the test vectors."""
 import os
+import re
 import subprocess
 import sys
 
@@ -7,6 +8,7 @@ from .. import tried
 from ..base import TestCase, get
 from . import vectors
 from .comparing import CheckComparison, Comparison, FileComparison, TextComparison
+from .pages import DOCS, NUMBERS
 
 
 class SecondReading(TestCase):
@@ -51,3 +53,13 @@ class Vectors(TestCase):
         """tests/vectors is as it would be written."""
         self.assertEqual({name: get(os.path.join(vectors.FOLDER, name)) for name in sorted(os.listdir(vectors.FOLDER))},
                          dict(sorted(vectors.contents().items())))
+
+    def test_errors(self) -> None:
+        """docs/ERRORS.md has a section for each fault, and for each vector that is refused its line."""
+        with open(os.path.join(DOCS, "ERRORS.md"), encoding="utf8") as page:
+            text = page.read()
+        sections = {int(number): name for number, name in re.findall(r"^### (\d+) (\w+)$", text, re.M)}
+        self.assertEqual(sections, {number: name for table in NUMBERS.values() for name, number in table.items()})
+        refused = [one for one in vectors.vectors() if one.expected != "ok"]
+        shown = [f"[{one.name}](../tests/vectors/{one.name}), `dexasm {one.command}`:\n  `{one.expected}`" for one in refused]
+        self.assertEqual([line for line in shown if line not in text], [])
