@@ -18,7 +18,7 @@ from typing import Any
 from dexasm import program as programs
 from dexasm.code import Insn, Label, PackedSwitch
 from dexasm.tools.basis import Failed
-from dexasm.tools.lint import code as lint_code, kinds, pool, verify
+from dexasm.tools.lint import code as lint_code, dataflow, kinds, pool, verify
 from dexasm.tools.lint.asks import Line
 from dexasm.tools.lint.classes import Classes
 from dexasm.tools.lint.code import Told
@@ -1152,12 +1152,12 @@ class LintCode(HelperTest):
         self.use_program()
         program = programs.Program.of_listing(dexasm("list", given=assembled(LISTED)).decode("ascii"))
         for bounds in (("MOST_WORK", "MOST_EACH"), ("MOST_CELLS",)):
-            kept = {name: getattr(verify, name) for name in bounds}
+            kept = {name: getattr(dataflow, name) for name in bounds}
             try:
-                vars(verify).update(dict.fromkeys(bounds, 1))
+                vars(dataflow).update(dict.fromkeys(bounds, 1))
                 told = [one.rule for one in lint_code.look(program)]
             finally:
-                vars(verify).update(kept)
+                vars(dataflow).update(kept)
             self.check_equal(f"dexasm-lint --code, bounds {bounds}", told, [lint_code.UNREAD])
 
     def test_page(self) -> None:

@@ -11,6 +11,7 @@ from collections.abc import Iterator
 from dexasm.program import Program
 from dexasm.tools.lint.classes import Classes
 from dexasm.tools.lint.kinds import Kind, Kinds
+from dexasm.tools.lint.dataflow import Flow
 from dexasm.tools.lint.verify import Method
 from .rooms import HEAD, TOP, HelperTest, assembled, dexasm, put, room, run
 
@@ -130,8 +131,9 @@ def theirs(at: str, file: bytes) -> tuple[dict[str, list[list[int]]], set[str]]:
 
 def states(method: Method) -> Iterator[tuple[int, list[Kind]]]:
     """The kinds of the registers before each instruction that a way leads to."""
-    for block, line in enumerate(method.before):
-        for place in range(method.starts[block], method.starts[block + 1]) if line else ():
+    starts = method.graph.starts
+    for block, line in enumerate(Flow(method).before):
+        for place in range(starts[block], starts[block + 1]) if line else ():
             assert line is not None  # (what no way leads to has no places here)
             yield place, line
             line = [*line]

@@ -12,11 +12,12 @@ from typing import TYPE_CHECKING, Any, NamedTuple
 from dexasm.tools.check.checkers import Verdict
 from dexasm.tools.escapes import LONGEST
 from dexasm.tools.lint.classes import BOOT, Classes
+from dexasm.tools.lint.dataflow import TooMuch
 from dexasm.tools.lint.kinds import NO_ARRAY, Kind, Kinds
 from dexasm.tools.lint.rule_table import SENTENCES
 from dexasm.tools.lint.rules import PAGE, STATIC, broken, classes_of
 from dexasm.tools.lint.rules import RULES as FILE_RULES
-from dexasm.tools.lint.verify import MOST_TOLD, Method, TooMuch, Wrong
+from dexasm.tools.lint.verify import MOST_TOLD, Method, Wrong
 from dexasm.tools.uses import fresh
 
 if TYPE_CHECKING:

@@ -3,8 +3,9 @@ from __future__ import annotations
 
 from dexasm.names import spelled
 from dexasm.tools.lint.classes import Classes
+from dexasm.tools.lint.dataflow import TooMuch
 from dexasm.tools.lint.kinds import UNSET, Kind, Kinds
-from dexasm.tools.lint.verify import Method, TooMuch
+from dexasm.tools.lint.verify import Method
 
 TYPE_CHECKING = False  # (as in typing)
 if TYPE_CHECKING:
