@@ -212,7 +212,7 @@ def inline(text: str) -> str:
 def listing_page(said: dict[str, str]) -> str:
     """docs/LISTING.md as a page of section 5, without its last part, which is for those who work on dexasm."""
     with open(LISTING, encoding="ascii") as file:
-        text = file.read().split("## Where each rule stands")[0]
+        text = file.read().split("## Where each rule is defined")[0]
     out = title("DEXASM-LISTING", 5, "File Formats", said)
     out += [".SH NAME", "dexasm\\-listing \\- a program of a .dex file as text", ".SH DESCRIPTION"]
     is_code, is_table = False, False

@@ -85,26 +85,26 @@ FAULTS = {
     "the class"),
     90: ("TooBig", "the plain sum, below, is above 4294967295; in `align` also: a code would have more than "
     "2147483647 instructions", "0"),
-    100: ("Word", "a character that can't be, an escape that can't be in a text, a text that isn't closed, an "
-    "unknown first word, mnemonic or keyword, or words that the line's form doesn't have: too "
-    "many or too few, another keyword, missing braces or more of them (a brace in the place of "
-    "a register or another operand is 102), a text in quotes where another word is wanted or "
-    "the reverse; a label with more words on its line; in the first form, a `K:` whose K is no " "number", "the line"),
-    101: ("Name", "the first word that isn't what its slot takes, where that is a name, a type, a prototype, "
-    "a field, a method or a label, a malformed escape in it too; a label's line whose label is " "malformed",
-    "the line"),
-    102: ("Number", "the first word that isn't what its slot takes, where that is a number of its range, a "
-    "register, bits, bytes or, in the first form, a target", "the line"),
-    103: ("Order", "the line may not stand here: also a label outside the instructions of a code, a `catch` or "
-    "a second `catchall` after a `catchall`, and a second first line of its own form. In the "
-    "first form, K isn't the next number, however great it is", "the line"),
-    104: ("Twice", "a second superclass or source file; an interface given before; a member of the same one of "
-    "the four lists with the same name and type or prototype (a field may be static and also an "
-    "instance field); a label of the same code", "the line"),
-    105: ("Target", "a target that is no instruction of its code (what a try covers may end after the last "
-    "one): a label that the code doesn't define, or that marks the place after the last " "instruction", "the line"),
+    100: ("Word", "an invalid character, an invalid escape in a text, a text that is not closed, an unknown "
+    "first word, mnemonic or keyword, or words that do not fit the form of the line: too many "
+    "or too few, another keyword, missing or extra braces (a brace in the place of a register "
+    "or another operand is 102), a text in quotes where another word is expected or the "
+    "reverse; a label with more words on its line; in the first form, a `K:` whose K is not a " "number", "the line"),
+    101: ("Name", "the first invalid word is where a name, a type, a prototype, a field, a method or a label "
+    "is expected, also for a malformed escape in it; a line of a label whose label is malformed", "the line"),
+    102: ("Number", "the first invalid word is where a number of its range, a register, bits, bytes or, in the "
+    "first form, a target is expected", "the line"),
+    103: ("Order", "the line is not allowed at this position: also a label outside the instructions of a code, "
+    "a `catch` or a second `catchall` after a `catchall`, and a second first line of the same "
+    "form. In the first form, K is not the next number, however large it is", "the line"),
+    104: ("Twice", "a second superclass or source file; an interface that was given before; a member that is "
+    "already in the same one of the four lists, by name and type or prototype (a field may be "
+    "static and also an instance field); a label that the code already has", "the line"),
+    105: ("Target", "a target that is not an instruction of its code (the end of a try may also be the position "
+    "after the last one): a label that the code does not define, or that marks the position "
+    "after the last instruction", "the line"),
     106: ("NotEnded", "the text ends inside a class or a code, or before its first line",
-    "the last line; 0 of an empty text"),
+    "the last line; 0 for an empty text"),
     110: ("Name", "a name in the class, its code or its values isn't of its form or kind", "the class"),
     111: ("MemberOrder", "a list of members doesn't strictly rise", "the class"),
     112: ("ClassOrder", "the class was defined before; its superclass or an interface is itself or comes later; an "
