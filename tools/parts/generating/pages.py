@@ -15,7 +15,7 @@ NUMBER = (
 )
 HEAD = """# Faults, one by one
 
-For maintainers: where each fault is defined, returned and tested. [MAP](MAP.md) has the rules without a fault.
+Where each fault is defined, returned and tested. [MAP](MAP.md) has the rules without a fault.
 
 ## Faults
 

@@ -55,7 +55,7 @@ class Promise(NamedTuple):
 
 # The rows of the table.
 PROMISES = (
-    Promise("a file is accepted exactly if the format relates a program to it", definitions=(MEANS,)),
+    Promise("a file is accepted if and only if the format relates a program to it", definitions=(MEANS,)),
     Promise("and a well-formed program that fits is written and reads back", definitions=(MEANS, IN_MEMORY, FORMED, FITS)),
     Promise("and its file has exactly the needed names, and is packed", definitions=(MEANS, IN_MEMORY, FORMED, FITS, LEAST, PACKED)),
     Promise("all that `read`, `write` and `strip` promise, with each refusal", (READ, WRITE, STRIP)),

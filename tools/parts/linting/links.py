@@ -1,7 +1,7 @@
 """Which links of the documents lead nowhere: to a file that isn't there, or to a heading that the page doesn't
 have. Links to other hosts aren't followed. Also which page README doesn't name, which page of docs/ doesn't
-lead back to README, which page doesn't say in its first line for whom it is, and where prose is wider than 120 columns
-or a page of docs/ with more than 7,500 words.
+lead back to README, which page begins with its readers and not with what it is, and where prose is wider than 120
+columns or a page of docs/ with more than 7,500 words.
 """
 import glob
 import os
@@ -59,8 +59,8 @@ def unshapely(page: str) -> Iterator[str]:
             yield f"{page}:{number} has {len(line)} columns, more than {WIDTH}"
     if page.startswith("docs/") or "/" not in page and page != "CHANGELOG.md":
         first = next((line for line in lines if line and not line.startswith("#")), "")
-        if not re.search(r"\bfor\b", first, re.I):
-            yield f"{page} doesn't say in its first line for whom it is"
+        if first.startswith("For "):
+            yield f"{page} begins with its readers: it has to begin with what it is"
     if page.startswith("docs/") and page not in LONG and len(read(page).split()) > WORDS:
         yield f"{page} has {len(read(page).split())} words, more than {WORDS}"
 

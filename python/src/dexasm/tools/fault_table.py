@@ -19,7 +19,7 @@ FAULTS = {
     13: ("MapEntry", "an entry of the map breaks a rule", "the entry"),
     14: ("MapMissing", "the map has no entry of its own; a table with rows has no entry", "52; its size field"),
     20: ("StringPlace", "a string's offset lies outside the section (its end is outside)", "the row"),
-    21: ("StringSpelling", "no string_data_item stands there within the section", "the row"),
+    21: ("StringSpelling", "there is no string_data_item within the section", "the row"),
     22: ("StringOrder", "a string isn't above the row before", "the row"),
     23: ("TypeIndex", "a type's string isn't there", "the row"),
     24: ("TypeText", "a type's string is no descriptor", "the row"),
@@ -38,8 +38,8 @@ FAULTS = {
     41: ("ClassKind", "class or superclass is no class type", "the class row"),
     42: ("ClassOrder", "the superclass or an interface is defined in this row or later, whether or not in an "
     "earlier one too, or the class in an earlier one", "the class row"),
-    43: ("InterfaceList", "no list of distinct class types stands at the offset", "the class row"),
-    44: ("ClassData", "no class_data_item stands at the offset", "the class row"),
+    43: ("InterfaceList", "no list of distinct class types is at the offset", "the class row"),
+    44: ("ClassData", "no class_data_item is at the offset", "the class row"),
     45: ("MemberIndex", "a member's index is past its table", "the class row"),
     46: ("MemberOwner", "a member is of another class", "the class row"),
     47: ("MemberOrder", "a member has the index of the one before", "the class row"),
@@ -81,7 +81,7 @@ FAULTS = {
     86: ("Misaligned", "a payload at an odd address (`--align` mends it)", "the class"),
     87: ("TryTooLong", "the last covered instruction begins more than 65534 units after the try's start", "the class"),
     88: ("TooManyTries", "more than 65535 in a code", "the class"),
-    89: ("HandlerTooFar", "a handler more than 65535 bytes after the start of the list, where 90 doesn't stand",
+    89: ("HandlerTooFar", "a handler more than 65535 bytes after the start of the list, if 90 is not present",
     "the class"),
     90: ("TooBig", "the plain sum, below, is above 4294967295; in `align` also: a code would have more than "
     "2147483647 instructions", "0"),
