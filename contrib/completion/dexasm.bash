@@ -18,7 +18,7 @@ _dexasm() {
 _dexasm_helper() {
   local name=${COMP_WORDS[0]##*/} word=${COMP_WORDS[COMP_CWORD]} first='' options='' words=''
   case $name in
-    dexasm-apk) first='check list strip extract replace' options='--help --version --close --allow-empty --output' ;;
+    dexasm-apk) first='check list strip extract replace' options='--help --version --close --allow-empty --quiet --output' ;;
     dexasm-browse) first='' options='--help --version --output --graphs' ;;
     dexasm-check) first='' options='--help --version --lint --quiet --allow-empty --color --jobs --seconds --memory --json --program --sarif --github --junit' ;;
     dexasm-close) first='' options='--help --version --output --check' ;;
@@ -28,11 +28,11 @@ _dexasm_helper() {
     dexasm-graph) first='' options='--help --version --format --calls --from --to --depth' ;;
     dexasm-info) first='' options='--help --version --json --hex' ;;
     dexasm-lint) first='' options='--help --version --code --skip-boot --jobs --seconds --allow-empty --json --sarif' ;;
-    dexasm-merge) first='' options='--help --version --same --fit --output' ;;
+    dexasm-merge) first='' options='--help --version --same --fit --quiet --output' ;;
     dexasm-query) first='classes strings calls fields tables show uses outside find' options='--help --version --lines --addresses --kinds --strings' ;;
-    dexasm-rename) first='' options='--help --version --output --mapping --forward' ;;
+    dexasm-rename) first='' options='--help --version --quiet --output --mapping --forward' ;;
     dexasm-size) first='' options='--help --version --by --sort --json --csv --csv-raw --html --count' ;;
-    dexasm-split) first='' options='--help --version --join' ;;
+    dexasm-split) first='' options='--help --version --quiet --join' ;;
   esac
   case $name/${COMP_WORDS[COMP_CWORD - 1]} in
     dexasm-browse/--graphs) words='all' ;;

@@ -15,6 +15,7 @@ complete -c dexasm-apk -l help
 complete -c dexasm-apk -l version
 complete -c dexasm-apk -l close
 complete -c dexasm-apk -l allow-empty
+complete -c dexasm-apk -l quiet
 complete -c dexasm-apk -l output -r -F
 complete -c dexasm-browse -l help
 complete -c dexasm-browse -l version
@@ -89,6 +90,7 @@ complete -c dexasm-merge -l help
 complete -c dexasm-merge -l version
 complete -c dexasm-merge -l same
 complete -c dexasm-merge -l fit
+complete -c dexasm-merge -l quiet
 complete -c dexasm-merge -l output -r -F
 complete -c dexasm-query -n __fish_use_subcommand -a 'classes strings calls fields tables show uses outside find'
 complete -c dexasm-query -l help
@@ -99,6 +101,7 @@ complete -c dexasm-query -l kinds
 complete -c dexasm-query -l strings
 complete -c dexasm-rename -l help
 complete -c dexasm-rename -l version
+complete -c dexasm-rename -l quiet
 complete -c dexasm-rename -l output -r -F
 complete -c dexasm-rename -l mapping
 complete -c dexasm-rename -l forward
@@ -113,4 +116,5 @@ complete -c dexasm-size -l html -r -F
 complete -c dexasm-size -l count
 complete -c dexasm-split -l help
 complete -c dexasm-split -l version
+complete -c dexasm-split -l quiet
 complete -c dexasm-split -l join -r -F

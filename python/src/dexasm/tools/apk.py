@@ -1,7 +1,7 @@
 """Checks, lists, strips, takes out or exchanges each classes*.dex of an .apk, a .jar or another zip archive.
 
 usage: dexasm-apk [--close] [--allow-empty] check|list|strip|extract ARCHIVE [FOLDER]
-       dexasm-apk [--close] replace ARCHIVE FILE.. --output OUT
+       dexasm-apk [--close] [--quiet] replace ARCHIVE FILE.. --output OUT
 
 check and list write the name of the .dex file before each line: `classes2.dex: ok`. With FOLDER the listings go to
 FOLDER/classes.txt and so on, one for each .dex file; strip and extract want it, and write FOLDER/classes.dex and so on,
@@ -24,12 +24,14 @@ replace writes OUT, the archive with its classes.dex exchanged for a FILE of tha
 Each other entry stays byte for byte, at the place that zipalign asks for where it isn't compressed (4 bytes, 16 KB for
 lib/*.so); signatures are left out, since they don't hold any more: META-INF/*.SF, *.RSA, *.DSA and *.EC, of an
 application their MANIFEST.MF, and the block of Android's own. OUT has to be signed, as by apksigner. It is written by
-the command's rules, once it is whole; ARCHIVE stays, unless it is OUT.
+the command's rules, once it is whole; ARCHIVE stays, unless it is OUT. If FILE has less annotations or debug information
+than the entry that it replaces, a line says how much is dropped, unless --quiet is given.
 
 Exit status: 0, or the highest of dexasm's; 2 wrong words; 3 no archive, no classes*.dex in it, or one that can't be
 read or written."""
 from __future__ import annotations
 
+import contextlib
 import os
 import stat
 import sys
@@ -104,6 +106,7 @@ def done(job: str, archive: ZipFile, folder: str | None, name: str, entries: lis
 def main(words: Words) -> int:
     words.add_argument("--close", action="store_true")
     words.add_argument("--allow-empty", action="store_true")
+    words.add_argument("--quiet", "-q", action="store_true")
     words.add_argument("--output", "-o")
     words.add_argument("job", choices=("check", "list", "strip", "extract", "replace"))
     words.add_argument("archive")
@@ -111,8 +114,8 @@ def main(words: Words) -> int:
     asked = words.parse_intermixed_args()  # (an option may stand behind the files)
     if asked.job == "replace":
         return replace(words, asked)
-    if asked.output is not None:
-        words.error("--output is of replace alone")
+    if asked.output is not None or asked.quiet:
+        words.error("--output and --quiet are of replace alone")
     if len(asked.rest) > 1:
         words.error("too many words")
     asked.folder = asked.rest[0] if asked.rest else None
@@ -147,8 +150,25 @@ def replace(words: Words, asked: Namespace) -> int:
             raise Failed(f"{escaped(path)}: {why}: FILE has the name of what it replaces", USAGE)
         files[entry] = closed_if_open(given, escaped(path)) if asked.close else given
         answer("check", given=files[entry], name=escaped(path))
+    lines = [] if asked.quiet else drop_lines(asked.archive, files)
     deliver(asked.output, replaced(asked.archive, files))
+    for line in lines:
+        say(f"dexasm-apk: {line}")
     return 0
+
+
+def drop_lines(path: str, files: dict[str, bytes]) -> list[str]:
+    """A line for each file that has less annotations or debug information than the entry that it replaces."""
+    from dexasm.tools.extras import drop_line
+
+    with opened(path) as archive:
+        old: dict[str, bytes] = {}
+        for name, entries in dex_files(archive):
+            if name in files:
+                with contextlib.suppress(Failed):  # (what can't be read of an entry is reported as it is replaced)
+                    old[name] = taken_out(archive, entries)
+    found = [drop_line(name, [data], files[name]) for name, data in old.items()]
+    return [line for line in found if line is not None]
 
 
 if __name__ == "__main__":

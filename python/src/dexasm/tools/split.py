@@ -1,10 +1,11 @@
 """Cuts a listing into a file for each class, so that git and diff show changes class by class; or joins these again.
 
-usage: dexasm-split [FILE] FOLDER
+usage: dexasm-split [--quiet] [FILE] FOLDER
        dexasm-split --join FOLDER
 
 FILE is a listing, or a .dex file, which is listed first; without FILE it is a listing from standard input. With --join
-the same listing goes to standard output, byte for byte.
+the same listing goes to standard output, byte for byte. A listing has no annotations and no debug information: a line
+says how many of a .dex file are dropped, unless --quiet is given.
 
 The class LHello/World; goes to FOLDER/Hello/World.txt. A name that is too long for a file, that begins with a minus or
 a name of this command's, or that only differs from another one's in upper and lower case, goes to FOLDER/@/ with a hash
@@ -37,7 +38,8 @@ from dexasm.answers import NoListing
 from dexasm.tools.asking import answer, ask, decoded
 from dexasm.tools.basis import DEX, Failed, reason
 from dexasm.tools.escapes import escaped
-from dexasm.tools.helper import helper
+from dexasm.tools.extras import drop_line
+from dexasm.tools.helper import helper, say
 from dexasm.tools.inputs import one_input
 
 TYPE_CHECKING = False  # (as in typing)
@@ -333,6 +335,7 @@ def join(path: str) -> Iterator[bytes]:
 @helper()
 def main(words: Words) -> int:
     words.add_argument("--join", action="store_true")
+    words.add_argument("--quiet", "-q", action="store_true")
     words.add_argument("paths", nargs="+")
     asked = words.parse_args()
     if len(asked.paths) > (1 if asked.join else 2):
@@ -345,6 +348,9 @@ def main(words: Words) -> int:
     file = asked.paths[0] if len(asked.paths) == 2 else None
     given = one_input(file)
     split(checked(given.data, given.name), folder)
+    line = None if asked.quiet else drop_line(given.name, [given.data], b"")
+    if line:
+        say(f"dexasm-split: {line}")
     return 0
 
 

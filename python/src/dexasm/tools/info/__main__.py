@@ -13,6 +13,9 @@ Of an accepted file it prints
             methods and strings within what an instruction can name (`const-string/jumbo` names any string)
   sections  where each is, its bytes and its share; all of them are the file
   bytes     what the bytes are, as `dexasm-size` tells them
+  annotations and debug information
+            how many annotations there are of each visibility (build, runtime, system), and how many methods with debug
+            information; `list`, `assemble` and `strip` drop all of these
 
 A refused file is no program: of it there are the header, the map, and the rows of each table that lie in the file, each
 marked as read or not, as it leads to what it names. The command's line follows on standard error.
@@ -35,6 +38,7 @@ import sys
 
 from dexasm.tools.asking import ask
 from dexasm.tools.basis import REFUSED, ZIP, Failed
+from dexasm.tools.extras import extras_of
 from dexasm.tools.helper import helper, say
 from dexasm.tools.info.dump import dump
 from dexasm.tools.info.tables import ROWS, as_text, hashes, header, line_of, map_entries, rows_read, sections, tables
@@ -71,6 +75,8 @@ def facts(data: bytes, refusal: tuple[int, str, int] | None, prog: str, name: st
     told["program"] = None if stripped.status else hashes(stripped.answer)
     told |= {"tables": tables(data), "sections": sections(data)}
     taken = zip(*sizes(Dex(data))[1].values())
+    extras = extras_of(data)
+    told["annotations"], told["debug_methods"] = dict(zip(extras._fields, extras[:3])), extras.debug
     return {"refused": None} | told | {"bytes": dict(zip(KINDS, map(sum, taken)))}
 
 
@@ -111,6 +117,10 @@ def lines(told: dict[str, Any], data: bytes) -> Iterator[str]:
     yield "bytes"
     for kind, count in told["bytes"].items():
         yield f"  {kind:<8}  {count:10}  {share(count, size)}"
+    yield "annotations and debug information"
+    for visibility, count in told["annotations"].items():
+        yield f"  {visibility:<8}  {count:10}  annotations"
+    yield f"  debug     {told['debug_methods']:10}  methods"
 
 
 def refused_lines(told: dict[str, Any], data: bytes) -> Iterator[str]:

@@ -1,12 +1,12 @@
 """Makes one .dex file of several: it has the classes of all of them.
 
-usage: dexasm-merge [--same] [--fit] FILE.. --output OUT
+usage: dexasm-merge [--same] [--fit] [--quiet] FILE.. --output OUT
 
 Each FILE is a .dex file or a listing, an archive, whose classes*.dex are meant, or app.apk!classes2.dex; `-` is standard
 input, and as OUT standard output. The classes stand in the order
 in which they are given, except that the superclass and the interfaces of a class are put before it, as the format asks.
 OUT is the file of the merged program as `dexasm assemble` writes it: like `dexasm strip`, this leaves out debug
-information and annotations.
+information and annotations. A line says how many, unless --quiet is given.
 
 A class that two files define is refused, and both files are named. With --same a class that is the same text in all of
 them is taken once. Classes that are superclasses or interfaces of one another, round in a circle, have no order, and
@@ -31,6 +31,7 @@ import sys
 
 from dexasm.tools.asking import ask, dex_from, is_listing, listed
 from dexasm.tools.basis import FAILED
+from dexasm.tools.extras import drop_line
 from dexasm.tools.files import deliver
 from dexasm.tools.helper import helper, say
 from dexasm.tools.inputs import inputs_of
@@ -45,13 +46,17 @@ if TYPE_CHECKING:
     from dexasm.tools.inputs import Input
 
 
-def merged(paths: list[str | None], takes_same: bool, is_fitted: bool, prog: str) -> bytes:
+def merged(paths: list[str | None], takes_same: bool, is_fitted: bool, is_quiet: bool, prog: str) -> bytes:
     """The file of the classes of all files."""
     whole = Merged(takes_same)
+    lines: list[str | None] = []
     for path in paths:
         for given in inputs_of(path):
             whole.take(given.name, far_listing(given) if is_fitted and is_listing(given.data) else program_of(given))
+            lines.append(None if is_quiet else drop_line(given.name, [given.data], b""))
     file = whole.file(is_fitted)
+    for line in filter(None, lines):
+        say(f"{prog}: {line}")
     if whole.done:
         say(f"{prog}: made to fit: {', '.join(told(whole.done))}")
     return file
@@ -84,13 +89,14 @@ def told(done: Counter[str]) -> list[str]:
 def main(words: Words) -> int:
     words.add_argument("--same", action="store_true")
     words.add_argument("--fit", action="store_true")
+    words.add_argument("--quiet", "-q", action="store_true")
     words.add_argument("--output", "-o", metavar="OUT", required=True)
     words.add_argument("files", metavar="FILE", nargs="+")
     asked = words.parse_args()
     paths = [None if path == "-" else path for path in asked.files]
     if paths.count(None) > 1:
         words.error("standard input can only be read once")
-    answer = merged(paths, asked.same, asked.fit, words.prog)
+    answer = merged(paths, asked.same, asked.fit, asked.quiet, words.prog)
     if asked.output == "-":
         sys.stdout.buffer.write(answer)
         sys.stdout.buffer.flush()

@@ -1,7 +1,7 @@
 """Renames classes, packages and members of a program, by word or by a mapping of R8 or ProGuard.
 
-usage: dexasm-rename FILE OLD=NEW .. --output OUT
-       dexasm-rename --mapping MAP [--forward] FILE [OLD=NEW ..] --output OUT
+usage: dexasm-rename [--quiet] FILE OLD=NEW .. --output OUT
+       dexasm-rename [--quiet] --mapping MAP [--forward] FILE [OLD=NEW ..] --output OUT
 
   com.x.A=com.y.B   a class, with all that names it; Lcom/x/A;=Lcom/y/B; is the same
   com.x.*=com.y.*   the classes of a package and of those below it
@@ -19,8 +19,9 @@ on its left; with --forward it is the other way. What MAP has and FILE hasn't is
 Texts are left as they are. Where one has an old name as a word, as reflection would have it, a line says which.
 
 Members and classes stay in their order, so what is renamed and renamed back is the same to the byte. OUT is the file as
-`dexasm assemble` writes it, without debug information and annotations, by the command's own rules for OUT; FILE may be a
-listing too, `-` is standard input and output, and OUT may be FILE. A refusal changes nothing.
+`dexasm assemble` writes it, without debug information and annotations (a line says how many are dropped, unless --quiet
+is given), by the command's own rules for OUT; FILE may be a listing too, `-` is standard input and output, and OUT may
+be FILE. A refusal changes nothing.
 
 Exit status: 0 done, 1 FILE is refused, or a name, 2 wrong words, or a name that names nothing, 3 something can't be read
 or written, 4 out of memory.
@@ -34,6 +35,7 @@ from collections import Counter
 from dexasm.tools.asking import answer, dex_from, listed
 from dexasm.tools.basis import FAILED
 from dexasm.tools.escapes import escaped
+from dexasm.tools.extras import drop_line
 from dexasm.tools.files import deliver, get, name_of
 from dexasm.tools.helper import helper, say
 from dexasm.tools.inputs import one_input
@@ -103,6 +105,7 @@ def tell(program: Program, names: Names) -> None:
 def main(words: Words) -> int:
     words.add_argument("--mapping", metavar="MAP")
     words.add_argument("--forward", action="store_true")
+    words.add_argument("--quiet", "-q", action="store_true")
     words.add_argument("--output", "-o", metavar="OUT", required=True)
     words.add_argument("file", metavar="FILE")
     words.add_argument("names", metavar="OLD=NEW", nargs="*")
@@ -117,6 +120,9 @@ def main(words: Words) -> int:
     names = asked_for(program, asked, pairs)
     tell(program, names)
     made = answer("assemble", given=str(rename(program, names)).encode("ascii"), name=given.name)
+    line = None if asked.quiet else drop_line(given.name, [given.data], made)
+    if line:
+        say(f"dexasm-rename: {line}")
     if asked.output == "-":
         sys.stdout.buffer.write(made)
         sys.stdout.buffer.flush()
