@@ -38,6 +38,7 @@ complete -c dexasm-check -l junit
 complete -c dexasm-close -l help
 complete -c dexasm-close -l version
 complete -c dexasm-close -l output -r -F
+complete -c dexasm-close -l in-place
 complete -c dexasm-close -l check
 complete -c dexasm-corpus -n __fish_use_subcommand -a 'add refused same classes callers strings libraries merge sum'
 complete -c dexasm-corpus -l help

@@ -114,7 +114,7 @@ def padded(file: bytes) -> bytes:
     data = int.from_bytes(file[104:108], "little") + 4
     made[104:108] = data.to_bytes(4, "little")
     path = put(room(f"padded {len(os.listdir(scratch()))}"), "a.dex", bytes(made))
-    tool("dexasm-close", path)
+    tool("dexasm-close", "--in-place", path)
     return get(path)
 
 

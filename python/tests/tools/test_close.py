@@ -39,14 +39,19 @@ class Close(HelperTest):
             looked = tool("dexasm-close", "--check", name, at=at)
             is_told = looked[0] == 1 and told in looked[1] and looked[2] == "" and get(at, name) == given
             self.check(f"dexasm-close --check {name}", is_told, looked)
-            closed = tool("dexasm-close", name, "--output", "out.dex", at=at)
-            is_so = closed == (0, "", "") and get(at, "out.dex") == good and get(at, name) == given
-            self.check(f"dexasm-close {name} into OUT", is_so, closed)
+            lines = "".join(f"dexasm-close: {line}\n" for line in looked[1].splitlines())
             closed = tool("dexasm-close", name, at=at)
-            self.check(f"dexasm-close {name} in place", closed == (0, "", "") and get(at, name) == good, closed)
+            self.check(f"dexasm-close {name} alone", closed[0] == 2 and get(at, name) == given, closed)
+            closed = tool("dexasm-close", name, "--output", "out.dex", at=at)
+            self.check_equal(f"dexasm-close {name} into OUT", closed, (0, "", lines))
+            self.check("dexasm-close, FILE and OUT", (get(at, "out.dex"), get(at, name)) == (good, given))
+            closed = tool("dexasm-close", "--quiet", name, "--output", "out.dex", at=at)
+            self.check_equal(f"dexasm-close --quiet {name}", closed, (0, "", ""))
+            closed = tool("dexasm-close", "--in-place", name, at=at)
+            self.check(f"dexasm-close {name} in place", closed == (0, "", lines) and get(at, name) == good, closed)
         looked = tool("dexasm-close", "--check", "d8.dex", at=at)
         self.check_equal("dexasm-close --check, nothing to change", looked, (0, "d8.dex: both sums hold\n", ""))
-        piped = tool("dexasm-close", "-", "--output", "-", given=old, at=at)
+        piped = tool("dexasm-close", "-q", "-", "--output", "-", given=old, at=at)
         self.check_equal("dexasm-close, standard input and output", piped, (0, good.decode("latin1"), ""))
 
     def test_refused(self) -> None:
@@ -66,7 +71,7 @@ class Close(HelperTest):
         ):
             put(at, name, given)
             before = seen_in(at)
-            for words in ((name,), (name, "--output", "out"), ("--check", name)):
+            for words in (("--in-place", name), (name, "--output", "out"), ("--check", name)):
                 got = tool("dexasm-close", *words, at=at)
                 status = 3 if name == "zip" else 1  # (it begins as an archive, and none can be read)
                 is_so = got[:2] == (status, "") and is_one_line(got[2], f"dexasm-close: {name}: ") and seen_in(at) == before
@@ -78,17 +83,18 @@ class Close(HelperTest):
         good = assembled(LISTING)
         for name in NAMES:
             put(at, name, resigned(good, bytes(20)))
-            got = tool("dexasm-close", "--", name, at=at)
+            got = tool("dexasm-close", "-q", "--in-place", "--", name, at=at)
             self.check(f"dexasm-close {name!r}", got == (0, "", "") and get(at, name) == good, got)
         os.symlink("sp ace", os.path.join(at, "link"))
         put(at, "sp ace", resigned(good, bytes(20)))
-        got = tool("dexasm-close", "link", at=at)
+        got = tool("dexasm-close", "-q", "--in-place", "link", at=at)
         is_so = got == (0, "", "") and os.path.islink(os.path.join(at, "link")) and get(at, "sp ace") == good
         self.check("dexasm-close, a link stays one", is_so, got)
-        for words in (("none",), (".",), ("sp ace", "--output", "none/out"), ("sp ace", "--output", ".")):
+        for words in (("none", "--in-place"), (".", "--in-place"), ("sp ace", "--output", "none/out"), ("sp ace", "--output", ".")):
             got = tool("dexasm-close", *words, at=at)
             self.check(f"dexasm-close {words}", got[:2] == (3, "") and is_one_line(got[2], "dexasm-close: "), got)
-        for words in ((), ("a", "b"), ("--check", "a", "--output", "b"), ("--chek", "a"), (f"--{ESC}[31m",)):
+        put(at, "a", good)
+        for words in ((), ("a",), ("a", "b"), ("--in-place", "a", "--output", "b"), ("--in-place", "--check", "a"), ("--check", "a", "--output", "b"), ("--chek", "a"), (f"--{ESC}[31m",)):
             got = tool("dexasm-close", *words, at=at)
             self.check(f"dexasm-close {words!r}", got[:2] == (2, "") and ESC not in got[2] and "usage: " in got[2], got)
         got = tool("dexasm-close", "sp ace", "--output", "out", at=at, most=64)
@@ -103,7 +109,7 @@ class Close(HelperTest):
         good = assembled(LISTING)
         wrong = resigned(good, bytes(20))
         put(at, "in.dex", wrong)
-        for words, out in ((("in.dex", "--output", "out"), "out"), (("in.dex",), "in.dex")):
+        for words, out in ((("-q", "in.dex", "--output", "out"), "out"), (("-q", "--in-place", "in.dex"), "in.dex")):
             made(at, out, wrong, 0o640)
             os.link(os.path.join(at, out), os.path.join(at, "other"))
             got = tool("dexasm-close", *words, at=at)
@@ -118,12 +124,12 @@ class Close(HelperTest):
         except OSError:
             pass
         else:
-            got = tool("dexasm-close", "in.dex", "--output", "out", at=at)
+            got = tool("dexasm-close", "-q", "in.dex", "--output", "out", at=at)
             is_so = acl_of(out) == listed(6, 6, 0, 6, 0) and os.getxattr(out, "user.x") == b"x" and get(out) == good
             self.check("dexasm-close, an ACL", got == (0, "", "") and is_so, got)
         os.symlink("to/nothing", os.path.join(at, "link"))
         os.mkdir(os.path.join(at, "to"))
-        got = tool("dexasm-close", "in.dex", "--output", "link", at=at)
+        got = tool("dexasm-close", "-q", "in.dex", "--output", "link", at=at)
         is_so = os.path.islink(os.path.join(at, "link")) and get(at, "to/nothing") == good
         self.check("dexasm-close, a link to nothing", got == (0, "", "") and is_so, got)
         if os.geteuid() == 0:
@@ -134,20 +140,20 @@ class Close(HelperTest):
     def check_root(self, at: str, good: bytes) -> None:
         """As root: another's file, a closed folder, a full disk."""
         out = made(at, "theirs", b"old", 0o600, 65534, 12345)
-        got = tool("dexasm-close", "in.dex", "--output", "theirs", at=at)
+        got = tool("dexasm-close", "-q", "in.dex", "--output", "theirs", at=at)
         there = os.stat(out)
         self.check(
             "dexasm-close, the owner", got == (0, "", "") and (there.st_uid, there.st_gid) == (65534, 12345), there
         )
         put(at, "shut/in.dex", get(at, "in.dex"))
         with shut_by("i", os.path.join(at, "shut")):
-            got = tool("dexasm-close", "shut/in.dex", at=at)
+            got = tool("dexasm-close", "-q", "--in-place", "shut/in.dex", at=at)
             self.check("dexasm-close, an immutable folder", got == (0, "", "") and get(at, "shut/in.dex") == good, got)
         with full("close full", 64) as small:
             put(small, "in.dex", get(at, "in.dex"))
             os.link(os.path.join(small, "in.dex"), os.path.join(small, "other"))
             put(small, "fill", bytes(60 * 1024))
-            got = tool("dexasm-close", "in.dex", at=small)
+            got = tool("dexasm-close", "--in-place", "in.dex", at=small)
             is_so = get(small, "in.dex") == get(at, "in.dex") == get(small, "other")
             told = got[0] == 3 and is_one_line(got[2], "dexasm-close: in.dex: No space left on device")
             self.check("dexasm-close, two names, a full disk", told and is_so and len(os.listdir(small)) == 3, got)
@@ -158,7 +164,7 @@ class Close(HelperTest):
             for name in ("SIGTERM", "SIGHUP", "SIGINT"):
                 at = room(f"close ended {number} {name}")
                 put(at, "in.dex", wrong)
-                got = traced("dexasm-close", "in.dex", at=at, inject=[f"{one}:signal={name}"])
+                got = traced("dexasm-close", "--in-place", "in.dex", at=at, inject=[f"{one}:signal={name}"])
                 is_so = (
                     get(at, "in.dex") in (wrong, good) and os.listdir(at) == ["in.dex"] and "Traceback" not in got[2]
                 )

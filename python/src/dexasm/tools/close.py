@@ -1,6 +1,7 @@
 """Computes the signature and the checksum of a .dex file anew, and changes nothing else.
 
-usage: dexasm-close FILE [--output OUT]
+usage: dexasm-close FILE --output OUT
+       dexasm-close --in-place FILE
        dexasm-close --check FILE
 
 A .dex file begins with the SHA-1 of its bytes from 32 on, its signature, and the Adler-32 of those from 12 on, its
@@ -9,10 +10,11 @@ dexasm refuses its files with 9 Signature. Whoever edits a file by hand has to c
 nobody changed by accident since, and no more: whether its maker meant it so is told by the signature that it came with,
 so look at what --check says first.
 
-FILE is closed in place, or into OUT; `-` is standard input and output. What has no such header, or isn't as long as its
-header says, is refused. --check says what would change and changes nothing. A file is replaced when its answer is
-complete, by the command's own rules. As FILE an archive with one classes*.dex, or app.apk!classes2.dex, does too, with
---output or --check. `dexasm-apk --close` does it with each .dex file that it takes out of an archive.
+FILE is closed into OUT, or in place with --in-place; `-` is standard input and output. A line on standard error has each
+sum that changes, old and new, unless --quiet is given. What has no such header, or isn't as long as its header says, is
+refused. --check says what would change and changes nothing. A file is replaced when its answer is complete, by the
+command's own rules. As FILE an archive with one classes*.dex, or app.apk!classes2.dex, does too, with --output or
+--check. `dexasm-apk --close` does it with each .dex file that it takes out of an archive.
 
 Exit status: 0, and with --check that both sums hold; 1 with --check where one doesn't, or the file is refused; 2 wrong
 words; 3 reading or writing failed; 4 out of memory.
@@ -23,7 +25,7 @@ import sys
 
 from dexasm.tools.basis import FAILED, REFUSED, USAGE, Failed
 from dexasm.tools.files import deliver
-from dexasm.tools.helper import helper
+from dexasm.tools.helper import helper, say
 from dexasm.tools.inputs import one_input
 from dexasm.tools.sums import closed, differences, unframed
 
@@ -44,10 +46,12 @@ def framed(given: bytes, name: str) -> bytes:
 def main(words: Words) -> int:
     words.add_argument("file", metavar="FILE")
     words.add_argument("--output", "-o", metavar="OUT")
+    words.add_argument("--in-place", action="store_true")
+    words.add_argument("--quiet", "-q", action="store_true")
     words.add_argument("--check", action="store_true")
     asked = words.parse_args()
-    if asked.check and asked.output is not None:
-        words.error("--check writes nothing, so it takes no --output")
+    if asked.check + asked.in_place + (asked.output is not None) != 1:
+        words.error("give one of --output OUT, --in-place and --check")
     path = None if asked.file == "-" else asked.file
     found = one_input(path)
     given = framed(found.data, found.name)
@@ -56,13 +60,15 @@ def main(words: Words) -> int:
         for line in lines or ["both sums hold"]:
             print(f"{found.name}: {line}")
         return REFUSED if lines else 0
-    if found.entry and asked.output is None:
-        raise Failed(f"{found.name}: --output says where it goes: an archive isn't changed", USAGE)
-    out = asked.file if asked.output is None else asked.output
+    if found.entry and asked.in_place:
+        raise Failed(f"{found.name}: an archive is not changed in place: use --output", USAGE)
+    out = asked.file if asked.in_place else asked.output
     if out == "-":
         sys.stdout.buffer.write(closed(given))
     else:
         deliver(out, closed(given))
+    for line in [] if asked.quiet else differences(given):
+        say(f"dexasm-close: {found.name}: {line}")
     return 0
 
 
