@@ -56,7 +56,7 @@ class Recipes(HelperTest):
         """Each recipe of one file, by a plain name and by an evil one."""
         found = blocks("docs/RECIPES.md")
         wants = {
-            ("Looking at a file", 0): ('digraph "calls" {', 'n0 [label="LHello;->ask()V\\l"]'),
+            ("Inspecting a file", 0): ('digraph "calls" {', 'n0 [label="LHello;->ask()V\\l"]'),
             ("An .apk", 0): ("classes.dex: ok\n", "classes2.dex: dexasm: refused 1 TooShort at 7\n"),
             ("What a refusal means", 0): ("ok\n",),
             ("A file that D8 before 1.6.20 signed", 0): ("both sums hold\n",),
@@ -324,7 +324,7 @@ class Recipes(HelperTest):
     def test_page(self) -> None:
         """Each recipe is tried."""
         known = {
-            "Looking at a file": 1,
+            "Inspecting a file": 1,
             "An .apk": 3,
             "What a refusal means": 1,
             "A file that D8 before 1.6.20 signed": 1,
