@@ -23,13 +23,13 @@ _dexasm_helper() {
     dexasm-check) first='' options='--help --version --lint --quiet --allow-empty --color --jobs --seconds --memory --json --program --sarif --github --junit' ;;
     dexasm-close) first='' options='--help --version --output --in-place --check' ;;
     dexasm-corpus) first='add refused same classes callers strings libraries merge sum' options='--help --version --processes --seconds --memory --again --strict --allow-empty --scheduler --trust --send --json --csv --csv-raw --pattern --classes --known --verify' ;;
-    dexasm-diff) first='' options='--help --version --names --color --textconv' ;;
+    dexasm-diff) first='' options='--help --version --names --json --color --textconv' ;;
     dexasm-explain) first='' options='--help --version --json' ;;
     dexasm-graph) first='' options='--help --version --format --calls --from --to --depth' ;;
     dexasm-info) first='' options='--help --version --json --hex' ;;
     dexasm-lint) first='' options='--help --version --code --skip-boot --jobs --seconds --allow-empty --json --sarif' ;;
-    dexasm-merge) first='' options='--help --version --same --fit --quiet --output' ;;
-    dexasm-query) first='classes strings calls fields tables show uses outside find' options='--help --version --lines --addresses --kinds --strings' ;;
+    dexasm-merge) first='' options='--help --version --same --fit --quiet --output --replace' ;;
+    dexasm-query) first='classes strings calls fields tables show uses outside find' options='--help --version --lines --addresses --kinds --strings --insns' ;;
     dexasm-rename) first='' options='--help --version --quiet --output --mapping --forward' ;;
     dexasm-size) first='' options='--help --version --by --sort --json --csv --csv-raw --html --count' ;;
     dexasm-split) first='' options='--help --version --quiet --join' ;;

@@ -62,6 +62,7 @@ complete -c dexasm-corpus -l verify
 complete -c dexasm-diff -l help
 complete -c dexasm-diff -l version
 complete -c dexasm-diff -l names
+complete -c dexasm-diff -l json
 complete -c dexasm-diff -l color -x -a 'auto always never'
 complete -c dexasm-diff -l textconv
 complete -c dexasm-explain -l help
@@ -93,6 +94,7 @@ complete -c dexasm-merge -l same
 complete -c dexasm-merge -l fit
 complete -c dexasm-merge -l quiet
 complete -c dexasm-merge -l output -r -F
+complete -c dexasm-merge -l replace
 complete -c dexasm-query -n __fish_use_subcommand -a 'classes strings calls fields tables show uses outside find'
 complete -c dexasm-query -l help
 complete -c dexasm-query -l version
@@ -100,6 +102,7 @@ complete -c dexasm-query -l lines
 complete -c dexasm-query -l addresses
 complete -c dexasm-query -l kinds
 complete -c dexasm-query -l strings
+complete -c dexasm-query -l insns
 complete -c dexasm-rename -l help
 complete -c dexasm-rename -l version
 complete -c dexasm-rename -l quiet

@@ -1,5 +1,6 @@
 """dexasm-diff: what differs is told by class and member, and two files that are refused are never the same."""
 import hashlib
+import json
 import os
 import pty
 import subprocess
@@ -45,6 +46,28 @@ def terminal(at: str, env: dict[str, str], *words: str) -> str:
 
 
 class Diff(HelperTest):
+    def test_json(self) -> None:
+        """--json: a line for each class and member that differs, and one for the order."""
+        at = room("diff json")
+        old = b"class LA; 0x1\nend class\nclass LB; 0x1\nstatic f I 0x9\nend class\n"
+        new = b"class LB; 0x11\nstatic g I 0x9\nend class\nclass LA; 0x1\nend class\nclass LC; 0x1\nend class\n"
+        put(at, "a.txt", HEAD + old)
+        put(at, "b.txt", HEAD + new)
+        want: list[dict[str, object]] = [
+            {"class": "LB;", "member": None, "change": "changed", "lines": ["-class LB; 0x1", "+class LB; 0x11"]},
+            {"class": "LB;", "member": "f:I", "change": "removed", "lines": ["-static f I 0x9"]},
+            {"class": "LB;", "member": "g:I", "change": "added", "lines": ["+static g I 0x9"]},
+            {"class": "LC;", "member": None, "change": "added", "lines": ["+class LC; 0x1", "+end class"]},
+            {"class": None, "member": None, "change": "order", "lines": []},
+        ]
+        status, out, said = tool("dexasm-diff", "--json", "a.txt", "b.txt", at=at)
+        self.assertEqual((status, said, [json.loads(line) for line in out.splitlines()]), (1, "", want))
+        status, out, said = tool("dexasm-diff", "--json", "--names", "a.txt", "b.txt", at=at)
+        for one in want:
+            del one["lines"]
+        self.assertEqual((status, said, [json.loads(line) for line in out.splitlines()]), (1, "", want))
+        self.assertEqual(tool("dexasm-diff", "--json", "a.txt", "a.txt", at=at), (0, "", ""))
+
     def test_programs(self) -> None:
         at = room("diff")
         put(at, "a.dex", assembled(LISTING))

@@ -129,6 +129,24 @@ class Merge(HelperTest):
         names = get(at, "classes", "order").decode("ascii").split()
         return [get(at, "classes", name) for name in names]
 
+    def test_replace(self) -> None:
+        """--replace: an edited class goes back to its place; a file that replaces nothing changes nothing."""
+        at = room("merge replace")
+        first, last = b"class LA; 0x1\nend class\n", b"class LC; 0x1\nend class\n"
+        put(at, "a.dex", assembled(HEAD + first + b"class LB; 0x1\nend class\n" + last))
+        edited = b"class LB; 0x11\nend class\n"
+        put(at, "b.txt", HEAD + edited + b"class LD; 0x1\nend class\n")
+        put(at, "none.txt", HEAD + b"class LE; 0x1\nend class\n")
+        before = get(at, "a.dex")
+        for words, status in (("a.dex none.txt", 2), ("--same a.dex b.txt", 2), ("a.dex gone.txt", 3)):
+            seen = tool("dexasm-merge", "--replace", *words.split(), "--output", "a.dex", at=at)
+            with self.subTest(words):
+                self.assertEqual((seen[0], seen[1], get(at, "a.dex")), (status, "", before))
+        seen = tool("dexasm-merge", "--replace", "a.dex", "b.txt", "--output", "a.dex", at=at)
+        self.assertEqual(seen, (0, "", ""))
+        want = assembled(HEAD + first + edited + last + b"class LD; 0x1\nend class\n")
+        self.assertEqual(get(at, "a.dex"), want)
+
     def test_joined(self) -> None:
         """In runs of classes, in their order, it is the bytes of the whole file's `strip`."""
         for number, (what, file) in enumerate(wholes(room("merge shapes"))):

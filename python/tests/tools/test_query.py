@@ -116,6 +116,31 @@ end class
 
 
 class Query(HelperTest):
+    def test_insns(self) -> None:
+        """find --insns: mnemonics, literals as they are and as high16 has them, initial values."""
+        at = room("query insns")
+        body = b"code 2 0 0\nconst/16 v0 8332\nconst/16 v1 8332\nconst/high16 v0 0x7f01\nconst/4 v0 -1\nreturn-void\n"
+        text = b"class LA; 0x1\nstatic f I 0x9 = int 8332\ndirect m ()V 0x9\n" + body + b"end code\nend class\n"
+        put(at, "a.txt", HEAD + text)
+        by, high = "LA;->m()V", {"by": "LA;->m()V", "how": "const/high16", "number": 0x7F01, "times": 1}
+        same = {"by": by, "how": "const/16", "number": 8332, "times": 2}
+        minus = {"by": by, "how": "const/4", "number": -1, "times": 1}
+        for word, want in {
+            "8332": [{"by": "LA;->f:I", "how": "value", "number": 8332, "times": 1}, same],
+            "0x7f010000": [high],
+            "-1": [minus],
+            "0xffffffff": [minus],
+            "const/h*": [high],
+            "const/16": [same],
+            "16": [],
+            "nop": [],
+        }.items():
+            status, out, said = tool("dexasm-query", "find", "--insns", "a.txt", "--", word, at=at)
+            with self.subTest(word):
+                self.assertEqual((status, said, json.loads(out)), (0, "", {word: want}))
+        seen = tool("dexasm-query", "classes", "--insns", "a.txt", at=at)
+        self.assertEqual((seen[0], "--insns is of find alone" in seen[2]), (2, True))
+
     def test_answers(self) -> None:
         at = room("query")
         put(at, "a.dex", assembled(LISTING))

@@ -1,6 +1,6 @@
 """Shows what differs between the programs of two .dex files, by class and by member.
 
-usage: dexasm-diff [--names] [--color auto|always|never] A B
+usage: dexasm-diff [--names] [--json] [--color auto|always|never] A B
        dexasm-diff --textconv FILE
 
 A and B are .dex files or listings, or archives, of which all classes*.dex are one program; app.apk!classes2.dex is one
@@ -9,6 +9,10 @@ only one of them has is shown whole, one that both have by the lines that differ
 Labels are numbered one after the other in each code, so that an instruction more or less changes no line but its own.
 With --names each class and member is one line: `-` only in A, `+` only in B, `!` in both, and otherwise. Colours are
 shown on a terminal, if NO_COLOR isn't set. A last line tells where classes stand in another order.
+
+With --json each of these is a line of JSON: class, member (null: the class, or its lines before the members), change
+(removed, added, changed, or order with both null), and lines, each with its mark in front (`-`, `+`, a blank, or `@`
+between groups), which --names leaves out. Names are as in a listing.
 
 With --textconv it prints one file's listing with labels numbered so: for git, which compares such texts
 (docs/RECIPES.md). A file that dexasm refuses is then its refusal and its SHA-256. Anything else that goes wrong has a
@@ -46,6 +50,7 @@ AROUND = 3  # lines
 MOST = 20000  # lines of a code between its first and its last change that are compared one by one
 LABEL = re.compile(r"(?:^|(?<= )):L\d+(?= |$)")
 SAID = {"-": "only in the first", "+": "only in the second", "!": "in both"}
+CHANGES = {"-": "removed", "+": "added", "!": "changed", "@": "order"}
 COLORS = {"-": "\x1b[31m", "+": "\x1b[32m", "@": "\x1b[36m", "!": "\x1b[33m"}
 
 
@@ -169,6 +174,19 @@ def compare(a: str, b: str, is_short: bool, has_colors: bool) -> int:
     return 0 if is_same else 1
 
 
+def compare_as_json(a: str, b: str, is_short: bool) -> int:
+    """Prints what differs as lines of JSON and returns the status."""
+    import json
+
+    is_same = True
+    for name, mark, lines in differences(Classes(program_of(a)), Classes(program_of(b))):
+        is_same = False
+        class_, _, member = name.partition("->") if mark != "@" else ("", "", "")
+        found: dict[str, object] = {"class": class_ or None, "member": member or None, "change": CHANGES[mark]}
+        print(json.dumps(found if is_short else found | {"lines": [kind + line for kind, line in lines]}))
+    return 0 if is_same else 1
+
+
 def textconv(path: str) -> int:
     """Of an archive one file after the other."""
     return max(convert(given) for given in inputs_of(path))
@@ -195,6 +213,7 @@ def main(words: Words) -> int:
     words.add_argument("--names", action="store_true")
     words.add_argument("--color", choices=("auto", "always", "never"), default="auto")
     words.add_argument("--textconv", action="store_true")
+    words.add_argument("--json", action="store_true")
     words.add_argument("paths", nargs="+")
     asked = words.parse_args()
     if len(asked.paths) != (1 if asked.textconv else 2):
@@ -202,6 +221,8 @@ def main(words: Words) -> int:
     if asked.textconv:
         return textconv(asked.paths[0])
     a, b = asked.paths
+    if asked.json:
+        return compare_as_json(a, b, asked.names)
     return compare(a, b, asked.names, is_colored(asked.color))
 
 

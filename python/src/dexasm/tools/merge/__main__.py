@@ -1,6 +1,7 @@
 """Makes one .dex file of several: it has the classes of all of them.
 
 usage: dexasm-merge [--same] [--fit] [--quiet] FILE.. --output OUT
+       dexasm-merge --replace [--fit] [--quiet] FILE FILE.. --output OUT
 
 Each FILE is a .dex file or a listing, an archive, whose classes*.dex are meant, or app.apk!classes2.dex; `-` is standard
 input, and as OUT standard output. The classes stand in the order
@@ -9,7 +10,9 @@ OUT is the file of the merged program as `dexasm assemble` writes it: like `dexa
 information and annotations. A line says how many, unless --quiet is given.
 
 A class that two files define is refused, and both files are named. With --same a class that is the same text in all of
-them is taken once. Classes that are superclasses or interfaces of one another, round in a circle, have no order, and
+them is taken once. With --replace a class of a later file takes the place of the one before: `dexasm-merge --replace
+a.dex class.txt --output a.dex` puts back a class that `dexasm-query show` listed and somebody edited. A later file that
+replaces nothing is an error. Classes that are superclasses or interfaces of one another, round in a circle, have no order, and
 are refused by name. What doesn't fit into one file is refused with the number of the limit, the class and its file, and
 what goes beyond: 80 and 81 are too many types and prototypes, 82 to 84 strings, fields and methods that an instruction
 doesn't reach.
@@ -30,7 +33,7 @@ from __future__ import annotations
 import sys
 
 from dexasm.tools.asking import ask, dex_from, is_listing, listed
-from dexasm.tools.basis import FAILED
+from dexasm.tools.basis import FAILED, USAGE, Failed
 from dexasm.tools.extras import drop_line
 from dexasm.tools.files import deliver
 from dexasm.tools.helper import helper, say
@@ -39,6 +42,7 @@ from dexasm.tools.merge.merged import FAR_BRANCH, FAR_STRING, Merged
 
 TYPE_CHECKING = False  # (as in typing)
 if TYPE_CHECKING:
+    from argparse import Namespace
     from collections import Counter
 
     from dexasm.program import Program
@@ -46,15 +50,17 @@ if TYPE_CHECKING:
     from dexasm.tools.inputs import Input
 
 
-def merged(paths: list[str | None], takes_same: bool, is_fitted: bool, is_quiet: bool, prog: str) -> bytes:
+def merged(asked: Namespace, paths: list[str | None], prog: str) -> bytes:
     """The file of the classes of all files."""
-    whole = Merged(takes_same)
-    lines: list[str | None] = []
-    for path in paths:
-        for given in inputs_of(path):
-            whole.take(given.name, far_listing(given) if is_fitted and is_listing(given.data) else program_of(given))
-            lines.append(None if is_quiet else drop_line(given.name, [given.data], b""))
-    file = whole.file(is_fitted)
+    whole = Merged(asked.same, asked.replace)
+    inputs = [(number, given) for number, path in enumerate(paths) for given in inputs_of(path)]
+    for number, given in inputs:
+        program = far_listing(given) if asked.fit and is_listing(given.data) else program_of(given)
+        if asked.replace and number and whole.classes.keys().isdisjoint(program.classes.names()):
+            raise Failed(f"{given.name}: no class of it is in a file before it, so it replaces nothing", USAGE)
+        whole.take(given.name, program)
+    file = whole.file(asked.fit)
+    lines = [] if asked.quiet else [drop_line(given.name, [given.data], b"") for _, given in inputs]
     for line in filter(None, lines):
         say(f"{prog}: {line}")
     if whole.done:
@@ -87,7 +93,9 @@ def told(done: Counter[str]) -> list[str]:
 
 @helper(unread=FAILED)
 def main(words: Words) -> int:
-    words.add_argument("--same", action="store_true")
+    which = words.add_mutually_exclusive_group()
+    which.add_argument("--same", action="store_true")
+    which.add_argument("--replace", action="store_true")
     words.add_argument("--fit", action="store_true")
     words.add_argument("--quiet", "-q", action="store_true")
     words.add_argument("--output", "-o", metavar="OUT", required=True)
@@ -96,7 +104,7 @@ def main(words: Words) -> int:
     paths = [None if path == "-" else path for path in asked.files]
     if paths.count(None) > 1:
         words.error("standard input can only be read once")
-    answer = merged(paths, asked.same, asked.fit, asked.quiet, words.prog)
+    answer = merged(asked, paths, words.prog)
     if asked.output == "-":
         sys.stdout.buffer.write(answer)
         sys.stdout.buffer.flush()

@@ -23,18 +23,18 @@ class One(NamedTuple):
 
 class Merged:
     """Classes by their names, in the order in which they are given. `takes_same` is whether one may come again as it
-    is.
+    is, `replaces` whether a later one takes the place of an earlier one.
     """
 
-    def __init__(self, takes_same: bool) -> None:
-        self.takes_same = takes_same
+    def __init__(self, takes_same: bool, replaces: bool = False) -> None:
+        self.takes_same, self.replaces = takes_same, replaces
         self.classes: dict[str, One] = {}
         self.done: Counter[str] = Counter()  # what was made to fit
 
     def take(self, file: str, program: Any) -> None:
         """The classes of a file of that name."""
         for name, text in zip(program.classes.names(), program.classes.texts()):
-            if name in self.classes:
+            if name in self.classes and not self.replaces:
                 self.look_at_same(name, One(text, file))
             else:
                 self.classes[name] = One(text, file)

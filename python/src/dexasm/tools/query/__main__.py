@@ -5,7 +5,7 @@ usage: dexasm-query classes|strings|calls|fields [FILE]
        dexasm-query show [--addresses] [--kinds] FILE NAME ..
        dexasm-query uses [--strings] FILE NAME ..
        dexasm-query outside [FILE]
-       dexasm-query find FILE PATTERN ..
+       dexasm-query find [--insns] FILE PATTERN ..
 
   classes  each class with its flags, superclass, interfaces and members
   strings  each string that code or a value has, and where: "LA;->m()V" or "LA;"
@@ -22,7 +22,9 @@ usage: dexasm-query classes|strings|calls|fields [FILE]
   outside  each class that the file names and hasn't, with who names it, and its members with who names these; and of
            the file's own classes the members that they inherit from such a class
   find     the classes, fields, methods and strings of the file, and those that it names, in which PATTERN stands; with
-           a * or a ? it is a pattern for all of the name or text
+           a * or a ? it is a pattern for all of the name or text. With --insns each PATTERN is a mnemonic (const-*) or
+           a number (8332, 0x7f010000, -1): the instructions with it, and the fields with that initial value, by whom
+           and how often
 
 With --addresses each line of `show` stands behind blanks, and an instruction behind its offset in the file and its
 address in units of 16 bits, both in hexadecimal, as dexdump has them. With --kinds a comment above an instruction says
@@ -144,7 +146,7 @@ QUERIES: dict[str, Query] = {
 }  # fmt: skip
 # What takes names behind FILE, and what these are.
 NAMED = {"show": "names of classes or members", "uses": "names, or texts with --strings", "find": "patterns"}
-OPTIONS = {"addresses": "show", "kinds": "show", "lines": "tables", "strings": "uses"}  # and what each is of
+OPTIONS = {"addresses": "show", "kinds": "show", "lines": "tables", "strings": "uses", "insns": "find"}  # of what
 
 
 @helper()
@@ -188,7 +190,8 @@ def found_by(asked: Namespace, file: str | None, names: list[str]) -> dict[str, 
     if asked.query == "uses":
         return mentions.uses(program_of(file), names, asked.strings)
     if asked.query == "find":
-        return mentions.find(program_of(file), names)
+        search = mentions.find_insns if asked.insns else mentions.find
+        return search(program_of(file), names)
     return QUERIES[asked.query](program_of(file))
 
 

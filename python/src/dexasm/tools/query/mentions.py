@@ -169,3 +169,49 @@ def find(program: Program, asked: list[str]) -> dict[str, list[str]]:
             for each in classes_in(name):
                 look("classes", each)
     return {kind: sorted(names) for kind, names in found.items()}
+
+
+# ---- find --insns
+
+NUMBER = re.compile(r"-?(?:0x[0-9A-Fa-f]{1,16}|[0-9]{1,20})")
+HIGH = {"const/high16": 16, "const-wide/high16": 48}  # by how much a literal is shifted in the number that it stands for
+INTEGERS = ("byte", "short", "char", "int", "long")
+
+
+def find_insns(program: Program, asked: list[str]) -> dict[str, Rows]:
+    """The instructions of each mnemonic or pattern, or with each number, and the fields with that initial value."""
+    found: dict[str, Counter[Numbered]] = {one: Counter() for one in asked}
+    forms = {one: number_of(one) if NUMBER.fullmatch(one) else pattern(one) for one in asked}
+    for each in numbered(program):
+        number = each.number
+        numbers = () if number is None else (number, number << HIGH.get(each.how, 0))
+        for one, form in forms.items():
+            is_meant = not form.isdisjoint(numbers) if isinstance(form, frozenset) else form.fullmatch(each.how)
+            if is_meant:
+                found[one][each] += 1
+    return {one: [each._asdict() | {"times": times} for each, times in rows.items()] for one, rows in found.items()}
+
+
+class Numbered(NamedTuple):
+    """An instruction, by its mnemonic, or an initial value ("value"): who has it, and its number if it has one."""
+
+    by: str
+    how: str
+    number: int | None
+
+
+def numbered(program: Program) -> Iterator[Numbered]:
+    for one in program.classes:
+        for field in one.statics:
+            for value in field.value.all() if field.value else ():
+                if value.kind in INTEGERS:
+                    yield Numbered(str(one.ref(field)), "value", value.value)
+        for method in one.methods:
+            by = str(one.ref(method))
+            yield from (Numbered(by, insn.mnemonic, insn.literal) for insn in method.insns)
+
+
+def number_of(word: str) -> frozenset[int]:
+    """A number of the command line; one beyond what is signed is also the negative number of these bits."""
+    number = int(word, 0) if "x" in word else int(word)
+    return frozenset((number, *(number - (1 << bits) for bits in (32, 64) if 1 << bits - 1 <= number < 1 << bits)))
