@@ -746,9 +746,15 @@ d/inner/b.dex: ok
             put(at, f"f/{name}", archive(("x/y.Dex", damaged(file))))
         put(at, "f/a.dex", file)
         put(at, "f/dex", file)
-        for name, given in (("text", b"PK, a text"), ("empty", b""), ("a.dex.txt", LISTING), ("short", b"de")):
+        for name, given in (("text", b"PK, a text"), ("empty", b""), ("short", b"de"), ("L.java", b"class Lamp {}\n")):
             put(at, f"f/{name}", given)
-        want = sorted([f"f/{name}!x/y.Dex:0x08: error: 8 " for name in kinds] + ["f/a.dex: ok", "f/dex: ok"])
+        headless = LISTING.replace(b"dex 035 listing 2\n", b"")
+        for name, given in (("a.dex.txt", LISTING), ("bad.txt", LISTING + b"x\n"), ("headless", headless)):
+            put(at, f"f/{name}", given)
+        put(at, "f/037.txt", LISTING.replace(b"dex 035", b"dex 037"))
+        want = [f"f/{name}!x/y.Dex:0x08: error: 8 " for name in kinds] + ["f/a.dex: ok", "f/dex: ok", "f/a.dex.txt: ok"]
+        want += [f"f/bad.txt:{len(LISTING.splitlines()) + 1}:1: error: 100 "]
+        want = sorted([*want, "f/headless: looks like a listing, but ", "f/037.txt: looks like a listing, but "])
         status, out, said = checked("f", at=at)
         lines = sorted(out.splitlines())
         is_so = len(lines) == len(want) and all(line.startswith(begin) for line, begin in zip(lines, want))

@@ -2,11 +2,18 @@
 from __future__ import annotations
 
 import os
+import re
 import stat
 import sys
 from collections.abc import Callable, Iterator
 
 from dexasm.tools.basis import ARCHIVES_BEGIN, DEX, Failed, is_archive_name, is_dex_name
+
+# A listing by its first line, or without it by the next one; comments, blank lines and a byte order mark may precede.
+LISTING = re.compile(
+    rb"(?:\xef\xbb\xbf)?(?:[ \t]*(?:#.*)?\r?\n)*[ \t]*(?:(?P<version>dex 035\b)|dex +[0-9]|class +L\S+; +[0-9])"
+)
+FRONT = 4096  # bytes in which it has to begin
 
 Wrong = Callable[[bytes, OSError], None]
 Other = Callable[[bytes, bytes], None]
@@ -78,12 +85,23 @@ def is_named_as_one(path: bytes) -> bool:
 
 
 def begins_as_one(path: bytes) -> bool:
-    """Whether a file begins as a .dex file or an archive does."""
+    """Whether a file begins as a .dex file, an archive or a listing does."""
+    return bool(kind_by_front(path))
+
+
+def kind_by_front(path: bytes) -> bool | None:
+    """Whether a file begins as a .dex file, an archive or a listing does; None if it looks like a listing but for its
+    first line.
+    """
     at = os.open(path, os.O_RDONLY | os.O_NONBLOCK | os.O_NOCTTY)
     try:
-        return stat.S_ISREG(os.fstat(at).st_mode) and os.read(at, len(DEX)) in (DEX, *ARCHIVES_BEGIN)
+        front = os.read(at, FRONT) if stat.S_ISREG(os.fstat(at).st_mode) else b""
     finally:
         os.close(at)
+    if front[: len(DEX)] in (DEX, *ARCHIVES_BEGIN):
+        return True
+    listing = LISTING.match(front)
+    return None if listing and not listing["version"] else listing is not None
 
 
 def passed_over(top: bytes, path: bytes) -> tuple[bool, str]:

@@ -251,6 +251,15 @@ class JUnit(Text):
         return made.decode("ascii").split("\n")
 
 
+# What SARIF says of the rules that stand for an archive, or an entry, that was not checked.
+UNREAD = {
+    "failed": "an archive or an entry of it cannot be read",
+    "time": "an archive or an entry of it needs more than --seconds",
+    "memory": "an archive or an entry of it needs more than --memory",
+    "killed": "a worker was killed while it checked an archive or an entry of it",
+}
+
+
 class Sarif(Text):
     """One document, of SARIF 2.1.0."""
 
@@ -272,7 +281,9 @@ class Sarif(Text):
         rule = verdict.rule if verdict.number is None else str(verdict.number)
         if rule is None:
             self.notes.append({"descriptor": {"id": verdict.status}, **told})
-        else:
+        if rule is None and level == "error" and (verdict.kind == "archive" or verdict.entry):
+            rule = verdict.status  # (viewers of results show no notes)
+        if rule is not None:
             at = self.rules.setdefault(rule, len(self.rules))
             self.results.append({"ruleId": rule, "ruleIndex": at, **told})
         return []
@@ -285,6 +296,8 @@ class Sarif(Text):
         """A rule's name and its sentence."""
         if rule.isdecimal():
             return SENTENCES.get(int(rule), ("Unknown", "", ""))[:2]
+        if rule in UNREAD:
+            return rule, UNREAD[rule]
         from dexasm.tools.lint.rule_table import SENTENCES as RULES
 
         return rule, RULES.get(rule, "")

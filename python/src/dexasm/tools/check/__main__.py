@@ -8,9 +8,9 @@ usage: dexasm-check [--lint] [--quiet] [--allow-empty] [--color auto|always|neve
 PATH is a .dex file, a zip archive, of which each *.dex is looked at, or a listing, which is assembled. What is called
 *.dex is the first, *.apk, *.jar, *.zip, *.aar, *.aab and *.apks are the second, in any case, and of others the first
 bytes say it. Archives in an archive are looked into too, one deep. Of a folder it is each file below that has such a
-name, or begins as a .dex file or an archive does. A link there isn't followed: each has a line, and so have pipes and
-devices; it is an error where something could pass unseen (what it leads to has such a name, begins so or is a folder,
-and lies elsewhere). `-` reads paths from standard input, each with a NUL after it. There is a line for each, in the
+name, or begins as a .dex file, an archive or a listing (`dex 035`) does; a file that looks like a listing but for its
+first line has a line. A link there isn't followed: each has a line, and so have pipes and devices; it is an error where
+something could pass unseen (what it leads to has such a name, begins so or is a folder, and lies elsewhere). `-` reads paths from standard input, each with a NUL after it. There is a line for each, in the
 order of the paths:
 
   a.dex: ok
@@ -36,7 +36,8 @@ begins as something else, with an archive behind that. An archive without a *.de
              or unknown) and sha256 of what answers. With --lint also address, register, rule and page, and the status
              broken
   --program  has program say the SHA-256 of the stripped bytes: equal where two files are one program
-  --sarif    one document of SARIF 2.1.0, which has what isn't accepted, as notes what was skipped, and dexasm as above
+  --sarif    one document of SARIF 2.1.0, which has what isn't accepted (also archives that can't be read), as notes what
+             was skipped or can't be read, and dexasm as above
   --github   what isn't accepted, and what was skipped, as commands of a workflow of GitHub, which shows it at the file
   --junit    one document as JUnit writes it, for other servers
   --color    on a terminal, unless NO_COLOR is set, the verdicts have colours; always and never say so of each output

@@ -10,7 +10,7 @@ from typing import Any, NamedTuple
 
 from dexasm.tools.basis import reason
 from dexasm.tools.check.judge import NOTED
-from dexasm.tools.paths import begins_as_one, is_named_as_one, named, passed_over, walked
+from dexasm.tools.paths import is_named_as_one, kind_by_front, named, passed_over, walked
 from dexasm.tools.workers import looker
 from dexasm.tools.workers.looker import ENDS, TRIES, Looker
 from dexasm.tools.workers.loop import SAID
@@ -135,6 +135,9 @@ class Checker(Looker):
 # ---- all of them
 
 
+NO_FIRST_LINE = "looks like a listing, but does not begin with `dex 035 listing 2`: not checked"
+
+
 def inputs(words: list[str]) -> Iterator[tuple[bytes, int] | Verdict]:
     """The files of the paths with their sizes; of a folder those that are called as .dex files or archives are, or begin
     as these do. What can't be read is a verdict, and so is what stands below a folder and is neither file nor folder.
@@ -155,6 +158,8 @@ def inputs(words: list[str]) -> Iterator[tuple[bytes, int] | Verdict]:
     for path in named(words):
         for file, is_named, size in walked(path, wrong, other):
             is_one = is_named or is_looked_at(file, wrong)
+            if is_one is None:
+                told.append(Verdict(file, "", "listing", "skipped", why=NO_FIRST_LINE))
             while told:
                 yield told.pop(0)
             if is_one:
@@ -163,10 +168,10 @@ def inputs(words: list[str]) -> Iterator[tuple[bytes, int] | Verdict]:
             yield told.pop(0)
 
 
-def is_looked_at(path: bytes, wrong: Callable[[bytes, OSError], None]) -> bool:
-    """Whether a file below a folder is looked at."""
+def is_looked_at(path: bytes, wrong: Callable[[bytes, OSError], None]) -> bool | None:
+    """Whether a file below a folder is checked; None if it only looks like a listing."""
     try:
-        return is_named_as_one(path) or begins_as_one(path)
+        return is_named_as_one(path) or kind_by_front(path)
     except OSError as error:
         wrong(path, error)
         return False
