@@ -32,7 +32,7 @@ from dexasm.tools.faults import MENDS, OF_CLASSES, OF_COUNTS, OF_LINES, SENTENCE
 from dexasm.tools.files import get, name_of
 from dexasm.tools.helper import helper
 from dexasm.tools.inputs import Input, inputs_of, parted
-from dexasm.tools.layout import NO_FILE, Tables
+from dexasm.tools.layout import Malformed, Tables
 from dexasm.tools.sums import signature_of, signer
 
 TYPE_CHECKING = False  # (as in typing)
@@ -202,9 +202,12 @@ class Explained:
                 return
             left, rows = [4 * len(data)], range(tables.count["class"])
             codes = ((code, index, row) for row in rows for code, index in tables.codes_of(row, left))
-            _, index, row = max(one for one in codes if one[0] <= self.place)
+            found = max((one for one in codes if one[0] <= self.place), default=None)
+            if found is None:
+                return
+            _, index, row = found
             self.class_, self.member = escaped(tables.class_name(row)), escaped(tables.method_name(index))
-        except (*NO_FILE, MemoryError):
+        except (Malformed, MemoryError):
             self.class_ = self.member = None
 
     def in_name(self, tables: Tables, table: str, others: str) -> None:

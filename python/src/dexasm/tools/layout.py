@@ -42,12 +42,23 @@ ARRAY, ANNOTATION, NULL, BOOLEAN = 0x1C, 0x1D, 0x1E, 0x1F
 DEBUG_NUMBERS = {1: 1, 2: 1, 3: 3, 4: 4, 5: 1, 6: 1, 9: 1}
 
 
-class Outside(Exception):
-    """What was followed leads out of the file, or too much was."""
+class Malformed(Exception):
+    """The bytes aren't those of a file that dexasm accepts: what is followed leads out of them, or too much is."""
 
 
-# What the tables of another file than one that is accepted can lead to.
-NO_FILE = (Outside, struct.error, ValueError, IndexError, OverflowError)
+def unpack(form: str, data: bytes, at: int) -> tuple[int, ...]:
+    """The numbers at a place."""
+    if not 0 <= at <= len(data) - struct.calcsize(form):
+        raise Malformed
+    return struct.unpack_from(form, data, at)
+
+
+def end_of_text(data: bytes, at: int) -> int:
+    """The place of the NUL that ends a string's characters."""
+    end = data.find(0, at)
+    if end < 0:
+        raise Malformed
+    return end
 
 
 class Reader:
@@ -61,19 +72,16 @@ class Reader:
         if self.left:
             self.left[0] -= 1
         if self.at >= len(self.data) or self.left and self.left[0] < 0:
-            raise Outside
+            raise Malformed
         self.at += 1
         return self.data[self.at - 1]
 
     def words(self, count: int) -> tuple[int, ...]:
         """Numbers of four bytes."""
-        end = self.at + 4 * count
-        if end > len(self.data):
-            raise Outside
+        found = unpack(f"<{count}I", self.data, self.at)
         if self.left:
             self.left[0] -= 4 * count
-        found = struct.unpack_from(f"<{count}I", self.data, self.at)
-        self.at = end
+        self.at += 4 * count
         return found
 
     def uleb(self) -> int:
@@ -105,10 +113,11 @@ class Reader:
             number |= (byte & 0x7F) << shift
             if byte < 0x80:
                 return number, shift + 7
-        raise Outside
+        raise Malformed
 
 
 PAYLOADS = {0x0100: "packed-switch-payload", 0x0200: "sparse-switch-payload", 0x0300: "array-payload"}
+HEADS = {0x0100: 2, 0x0200: 2, 0x0300: 4}  # units of each that say how long it is
 
 
 def steps(units: Sequence[int]) -> Iterator[tuple[int, int]]:
@@ -116,6 +125,8 @@ def steps(units: Sequence[int]) -> Iterator[tuple[int, int]]:
     at = 0
     while at < len(units):
         begin, unit = at, units[at]
+        if at + HEADS.get(unit, 1) > len(units):
+            raise Malformed
         if unit == 0x0100:
             at += 4 + 2 * units[at + 1]
         elif unit == 0x0200:
@@ -129,13 +140,21 @@ def steps(units: Sequence[int]) -> Iterator[tuple[int, int]]:
 
 def units_of(data: bytes, code: int) -> tuple[int, ...]:
     """The units of the code that is there."""
-    return struct.unpack_from(f"<{struct.unpack_from('<I', data, code + 12)[0]}H", data, code + 16)
+    return unpack(f"<{unpack('<I', data, code + 12)[0]}H", data, code + 16)
 
 
 def addresses(data: bytes, code: int) -> Iterator[tuple[int, int]]:
     """Of each instruction and each payload of the code that is there: its offset in the file, and its address in units.
     """
     return ((code + 16 + 2 * at, at) for at, _ in steps(units_of(data, code)))
+
+
+def index_at(units: Sequence[int], at: int) -> int:
+    """The index that an instruction has."""
+    is_jumbo = units[at] & 0xFF == JUMBO
+    if at + 1 + is_jumbo >= len(units):
+        raise Malformed
+    return units[at + 1] | (units[at + 2] << 16 if is_jumbo else 0)
 
 
 def insns(units: Sequence[int]) -> Iterator[tuple[int, int]]:
@@ -149,9 +168,9 @@ class TypeList:
     kind = TABLE
 
     def __init__(self, data: bytes, at: int) -> None:
-        count = struct.unpack_from("<I", data, at)[0]
+        count = unpack("<I", data, at)[0]
         self.begin, self.end = at, at + 4 + 2 * count
-        self.mentions = {("type", type_) for type_ in struct.unpack_from(f"<{count}H", data, at + 4)}
+        self.mentions = {("type", type_) for type_ in unpack(f"<{count}H", data, at + 4)}
 
 
 class Values:
@@ -172,14 +191,10 @@ class Code:
 
     def __init__(self, data: bytes, at: int) -> None:
         self.begin = at
-        _, _, _, tries, self.debug, count = struct.unpack_from("<HHHHII", data, at)
+        _, _, _, tries, self.debug, count = unpack("<HHHHII", data, at)
         self.end = at + 16 + 2 * count
-        units = struct.unpack_from(f"<{count}H", data, at + 16)
-        self.mentions = {
-            (table, units[i + 1] | (units[i + 2] << 16 if op == JUMBO else 0))
-            for op, i in insns(units)
-            if (table := INDEX[op])
-        }
+        units = unpack(f"<{count}H", data, at + 16)
+        self.mentions = {(table, index_at(units, i)) for op, i in insns(units) if (table := INDEX[op])}
         if tries:
             self.read_handlers(Reader(data, self.end + 2 * (count % 2) + 8 * tries))
 
@@ -238,12 +253,11 @@ class Owners:
 
 
 def from_mutf8(spelled: bytes) -> str:
-    return (
-        spelled.replace(b"\xc0\x80", b"\0")
-        .decode("utf8", "surrogatepass")
-        .encode("utf-16-le", "surrogatepass")
-        .decode("utf-16-le", "surrogatepass")
-    )
+    try:
+        text = spelled.replace(b"\xc0\x80", b"\0").decode("utf8", "surrogatepass")
+    except UnicodeDecodeError:
+        raise Malformed from None
+    return text.encode("utf-16-le", "surrogatepass").decode("utf-16-le", "surrogatepass")
 
 
 class Tables:
@@ -255,17 +269,17 @@ class Tables:
         self.count: dict[str, int] = {}
         self.row: dict[str, int] = {}
         for name, place, size in TABLES:
-            self.count[name], self.at[name] = struct.unpack_from("<II", data, place)
+            self.count[name], self.at[name] = unpack("<II", data, place)
             self.row[name] = size
 
     def numbers(self, table: str, index: int, form: str) -> tuple[int, ...]:
-        return struct.unpack_from(form, self.data, self.at[table] + index * self.row[table])
+        return unpack(form, self.data, self.at[table] + index * self.row[table])
 
     def text(self, string: int) -> str:
         """A string as it is, from MUTF-8."""
         reader = Reader(self.data, self.numbers("string", string, "<I")[0])
         reader.uleb()
-        return from_mutf8(self.data[reader.at : self.data.index(0, reader.at)])
+        return from_mutf8(self.data[reader.at : end_of_text(self.data, reader.at)])
 
     def beginning(self, string: int, most: int) -> tuple[str, int]:
         """The first characters of a string, so many at most; and how many units it has if it has more, or else 0. What
@@ -293,8 +307,8 @@ class Tables:
 
     def types_at(self, at: int) -> tuple[int, ...]:
         """The types of a type_list in their order; 0 is the place of none."""
-        count = struct.unpack_from("<I", self.data, at)[0] if at else 0
-        return struct.unpack_from(f"<{count}H", self.data, at + 4) if count else ()
+        count = unpack("<I", self.data, at)[0] if at else 0
+        return unpack(f"<{count}H", self.data, at + 4) if count else ()
 
     def method_name(self, index: int) -> str:
         """A method as a listing names it, without its class."""
@@ -366,8 +380,8 @@ class Dex(Tables):
         self.followed: dict[tuple[Read, int], tuple[int, Led]] = {}
         self.owners = Owners(self.count)
         self.claim(0, HEADER, TABLE, FILE)
-        begin = struct.unpack_from("<I", data, MAP_OFF)[0]
-        self.claim(begin, begin + 4 + 12 * struct.unpack_from("<I", data, begin)[0], TABLE, FILE)
+        begin = unpack("<I", data, MAP_OFF)[0]
+        self.claim(begin, begin + 4 + 12 * unpack("<I", data, begin)[0], TABLE, FILE)
         self.names = [self.read_class(row) for row in range(self.count["class"])]
         self.read_names()
 
@@ -468,7 +482,7 @@ class Dex(Tables):
         reader = Reader(self.data, self.numbers("string", index, "<I")[0])
         begin = reader.at
         reader.uleb()
-        return begin, self.data.index(0, reader.at) + 1
+        return begin, end_of_text(self.data, reader.at) + 1
 
     # ---- parts of what a class has
 
@@ -502,7 +516,7 @@ class Dex(Tables):
             try:
                 found = read(reader)
                 self.followed[read, at] = reader.at, found
-            except Outside:
+            except Malformed:
                 pass
         end, found = self.followed[read, at]
         self.left[0] -= 1 + len(found)

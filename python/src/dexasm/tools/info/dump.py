@@ -6,7 +6,6 @@ that are left of it."""
 from __future__ import annotations
 
 import heapq
-import struct
 from collections.abc import Callable, Iterable, Iterator
 from functools import partial
 
@@ -19,18 +18,18 @@ from dexasm.tools.layout import (
     ARRAY,
     BOOLEAN,
     INDEX,
-    JUMBO,
-    NO_FILE,
     NULL,
     PAYLOADS,
     TABLES,
     VALUE_INDEX,
     Code,
-    Outside,
+    Malformed,
     Reader,
     Tables,
     between,
     disjoint,
+    end_of_text,
+    index_at,
     read_annotation,
     read_debug,
     read_directory,
@@ -38,6 +37,7 @@ from dexasm.tools.layout import (
     read_set,
     steps,
     units_of,
+    unpack,
     values,
 )
 from dexasm.tools.uses import flag_words
@@ -106,7 +106,7 @@ class Dump:
             for row in range(rows):
                 try:
                     read(row)
-                except NO_FILE:
+                except Malformed:
                     pass
 
     def add(self, begin: int, end: int, heading: str, parts: Parts) -> None:
@@ -123,7 +123,7 @@ class Dump:
         text = self.tables.text(row)
         reader = Reader(self.data, begin)
         units = reader.uleb()
-        end = self.data.index(0, reader.at) + 1
+        end = end_of_text(self.data, reader.at) + 1
         said = f"string {row}, utf16_size {units}: {shortened(quoted(text))}"
         self.add(begin, end, MAP_TYPES[0x2002], lambda: [(begin, end, said)])
 
@@ -148,7 +148,7 @@ class Dump:
         for read in reads:
             try:
                 read()
-            except NO_FILE:
+            except Malformed:
                 pass
 
     def class_data(self, at: int, row: int) -> None:
@@ -161,7 +161,7 @@ class Dump:
         for code, index in codes:
             try:
                 self.code(code, index)
-            except NO_FILE:
+            except Malformed:
                 pass
 
     def members(self, at: int) -> Iterator[tuple[int, int, int | None, int, int]]:
@@ -185,7 +185,7 @@ class Dump:
         self.tables.charge(reader.at - at)
 
     def code(self, at: int, index: int) -> None:
-        count = struct.unpack_from("<I", self.data, at + 12)[0]
+        count = unpack("<I", self.data, at + 12)[0]
         self.tables.charge(16 + 2 * count)
         end, debug = self.code_end(at, count)
         heading = f"{MAP_TYPES[0x2001]} of {self.said('method', index)}"
@@ -197,7 +197,7 @@ class Dump:
         try:
             code = Code(self.data, at)
             return code.end, code.debug
-        except NO_FILE:
+        except Malformed:
             return min(len(self.data), at + 16 + 2 * count), 0
 
     def static_values(self, at: int) -> None:
@@ -220,7 +220,7 @@ class Dump:
             try:
                 due += read(reader)
                 self.tables.charge(reader.at - at)
-            except NO_FILE:
+            except Malformed:
                 continue
             self.others[at, reader.at, UNNEEDED[read]] = partial(not_looked_at, at, reader.at)
 
@@ -236,9 +236,9 @@ class Dump:
             yield at, at + size, f"{name} {as_text(name, value)}"
 
     def map_list(self, at: int, count: int) -> Iterator[Piece]:
-        yield at, at + 4, f"size {struct.unpack_from('<I', self.data, at)[0]}"
+        yield at, at + 4, f"size {unpack('<I', self.data, at)[0]}"
         for entry in range(at + 4, at + 4 + 12 * count, 12):
-            kind, unused, size, offset = struct.unpack_from("<HHII", self.data, entry)
+            kind, unused, size, offset = unpack("<HHII", self.data, entry)
             yield entry, entry + 2, f"type 0x{kind:04x}, {MAP_TYPES.get(kind, 'unknown')}"
             yield entry + 2, entry + 4, f"unused {unused}"
             yield entry + 4, entry + 8, f"size {size}"
@@ -250,7 +250,7 @@ class Dump:
             return
         said = self.said(table, row)
         forms = {"string": "at 0x{0:x}: ", "type": "string {0}: ", "proto": "shorty string {0}: "}
-        number = struct.unpack_from("<I", self.data, at)[0]
+        number = unpack("<I", self.data, at)[0]
         yield at, at + self.tables.row[table], f"{table} {row}, {forms.get(table, '').format(number)}{said}"
 
     def class_row(self, row: int, at: int) -> Iterator[Piece]:
@@ -286,7 +286,7 @@ class Dump:
 
     def code_parts(self, at: int, count: int, end: int) -> Iterator[Piece]:
         names = ("registers_size", "ins_size", "outs_size", "tries_size")
-        numbers = struct.unpack_from("<4H2I", self.data, at)
+        numbers = unpack("<4H2I", self.data, at)
         for number, name in enumerate(names):
             yield at + 2 * number, at + 2 * number + 2, f"{name} {numbers[number]}"
         yield at + 8, at + 12, f"debug_info_off 0x{numbers[4]:x}"
@@ -304,7 +304,7 @@ class Dump:
         lines = iter(self.lines_at[at]()) if at in self.lines_at else None
         for begin, end in steps(units):
             if end > count:
-                raise Outside
+                raise Malformed
             line = next(lines, None) if lines else None
             said = self.instruction(units, begin) if line is None else line
             yield at + 16 + 2 * begin, at + 16 + 2 * end, f"{begin:04x}: {said}"
@@ -316,12 +316,12 @@ class Dump:
             return PAYLOADS[units[at]]
         if table is None:
             return f"opcode {op:02x}"
-        index = units[at + 1] | (units[at + 2] << 16 if op == JUMBO else 0)
+        index = index_at(units, at)
         return f"opcode {op:02x}, {table} {index}, {self.said(table, index)}"
 
     def tries(self, at: int, count: int) -> Iterator[Piece]:
         for begin in range(at, at + 8 * count, 8):
-            first, covered, handler = struct.unpack_from("<IHH", self.data, begin)
+            first, covered, handler = unpack("<IHH", self.data, begin)
             said = f"try_item: units {first:04x} to before {first + covered:04x}, handler at {handler} of the list"
             yield begin, begin + 8, said
         at += 8 * count
@@ -387,7 +387,7 @@ def whole(begin: int, end: int, parts: Iterable[Piece]) -> Iterator[Piece]:
                 break
             yield first, last, said
             at = last
-    except NO_FILE:
+    except Malformed:
         pass
     if at < end:
         yield at, end, "can't be read"

@@ -5,12 +5,11 @@ for each byte of the file, so that what leads to one place again and again costs
 from __future__ import annotations
 
 import hashlib
-import struct
 from collections.abc import Iterator
 
 from dexasm.flags import CLASS_FLAGS
 from dexasm.tools.basis import DEX
-from dexasm.tools.layout import ABSENT, HEADER, MAP_OFF, NO_FILE, TABLES, Outside, Reader, Tables
+from dexasm.tools.layout import ABSENT, HEADER, MAP_OFF, TABLES, Malformed, Reader, Tables, unpack
 from dexasm.tools.uses import flag_words
 
 TYPE_CHECKING = False  # (as in typing)
@@ -62,7 +61,7 @@ BUDGET, LEAST = 64, 1 << 20  # bytes that are read for each byte of the file, an
 
 
 class Readable(Tables):
-    """The tables of any bytes. What doesn't lie in them raises one of NO_FILE."""
+    """The tables of any bytes. What doesn't lie in them is Malformed."""
 
     def __init__(self, data: bytes) -> None:
         super().__init__(data if has_tables(data) else bytes(HEADER))
@@ -75,11 +74,11 @@ class Readable(Tables):
     def charge(self, count: int) -> None:
         self.left -= count
         if self.left < 0:
-            raise Outside
+            raise Malformed
 
     def numbers(self, table: str, index: int, form: str) -> tuple[int, ...]:
         if index >= self.rows[table]:
-            raise Outside
+            raise Malformed
         return super().numbers(table, index, form)
 
     def text(self, string: int) -> str:
@@ -87,18 +86,18 @@ class Readable(Tables):
         # (a unit of UTF-16 takes at most three bytes)
         end = self.data.find(0, reader.at, reader.at + 3 * reader.uleb() + 6)
         if end < 0:
-            raise Outside
+            raise Malformed
         self.charge(end - reader.at)
         return super().text(string)
 
     def types_at(self, at: int) -> tuple[int, ...]:
-        self.charge(2 * struct.unpack_from("<I", self.data, at)[0] if at else 0)
+        self.charge(2 * unpack("<I", self.data, at)[0] if at else 0)
         return super().types_at(at)
 
     def name_or_none(self, table: str, index: int) -> str | None:
         try:
             return self.name(table, index)
-        except NO_FILE:
+        except Malformed:
             return None
 
 
@@ -146,16 +145,16 @@ def map_place(data: bytes) -> tuple[int, int] | None:
     """Where the map stands and how many of its entries lie in the bytes, if its count does."""
     if not has_tables(data):
         return None
-    at = struct.unpack_from("<I", data, MAP_OFF)[0]
+    at = unpack("<I", data, MAP_OFF)[0]
     if at + 4 > len(data):
         return None
-    return at, min(struct.unpack_from("<I", data, at)[0], (len(data) - at - 4) // 12)
+    return at, min(unpack("<I", data, at)[0], (len(data) - at - 4) // 12)
 
 
 def map_entries(data: bytes) -> list[dict[str, Any]]:
     """The map's entries that lie in the bytes."""
     at, count = map_place(data) or (0, 0)
-    found = (struct.unpack_from("<HHII", data, at + 4 + 12 * i) for i in range(count))
+    found = (unpack("<HHII", data, at + 4 + 12 * i) for i in range(count))
     return [
         {"type": kind, "name": MAP_TYPES.get(kind, f"unknown 0x{kind:04x}"), "size": size, "offset": offset}
         for kind, _, size, offset in found
@@ -222,7 +221,7 @@ def row_or_none(readable: Readable, table: str, row: int) -> str | dict[str, Any
     """The same; None where it can't be read."""
     try:
         return row_of(readable, table, row)
-    except NO_FILE:
+    except Malformed:
         return None
 
 
