@@ -20,7 +20,7 @@ _dexasm_helper() {
   case $name in
     dexasm-apk) first='check list strip extract replace' options='--help --version --close --allow-empty --quiet --output' ;;
     dexasm-browse) first='' options='--help --version --output --graphs' ;;
-    dexasm-check) first='' options='--help --version --lint --quiet --allow-empty --color --jobs --seconds --memory --json --program --sarif --github --junit' ;;
+    dexasm-check) first='' options='--help --version --lint --explain --quiet --allow-empty --color --jobs --seconds --memory --json --program --sarif --github --junit' ;;
     dexasm-close) first='' options='--help --version --output --in-place --check' ;;
     dexasm-corpus) first='add refused same classes callers strings libraries merge sum' options='--help --version --processes --seconds --memory --again --strict --allow-empty --scheduler --trust --send --json --csv --csv-raw --pattern --classes --known --verify' ;;
     dexasm-diff) first='' options='--help --version --names --json --color --textconv' ;;

@@ -24,6 +24,7 @@ complete -c dexasm-browse -l graphs -x -a 'all'
 complete -c dexasm-check -l help
 complete -c dexasm-check -l version
 complete -c dexasm-check -l lint
+complete -c dexasm-check -l explain
 complete -c dexasm-check -l quiet
 complete -c dexasm-check -l allow-empty
 complete -c dexasm-check -l color -x -a 'auto always never'

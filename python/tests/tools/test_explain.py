@@ -8,6 +8,7 @@ from collections.abc import Iterable
 from typing import Any
 
 from tests import tried
+from .archives import archive
 from .patched import PatchedTest
 from .rooms import ESC, HEAD, LISTING, TOP, assembled, get, is_one_line, put, room, run, shell, tool
 
@@ -405,6 +406,33 @@ class Explain(PatchedTest):
             seen = tool("dexasm-explain", "file", given=told, at=at)
             is_so = seen[0] == 0 and seen[2] == "" and seen[1].count("\nrefused") == 0 and ESC not in seen[1]
             self.check(f"dexasm-explain, another file: {name}", is_so, seen[2])
+
+    def test_check(self) -> None:
+        """dexasm-check --explain prints the same lines below each refusal."""
+        at = room("explain check")
+        file = assembled(LISTING)
+        put(at, "cut.dex", file[:-1])
+        put(at, "a.txt", HEAD + b"class LA; 0x1\nsuper LA;\nend class\n")
+        put(at, "b.txt", HEAD + b"class LA; 0x1\nmetod m\nend class\n")
+        put(at, "a.apk", archive(("classes.dex", file), ("classes2.dex", file[:9])))
+        put(at, "ok.dex", file)
+        inner = archive(("x.dex", b"dex"))
+        put(at, "nested.zip", archive(("a.jar", inner)))
+        refusals = {"cut.dex": "check", "a.txt": "assemble", "b.txt": "assemble"}
+        wants = {name: shell(f"dexasm {job} {name} 2>&1 | dexasm-explain {name}", at)[1] for name, job in refusals.items()}
+        wants["a.apk"] = shell("dexasm-apk check a.apk 2>&1 | dexasm-explain a.apk", at)[1].partition("ok\n")[2]
+        for name, want in wants.items():
+            status, out, said = tool("dexasm-check", "--explain", "--quiet", name, at=at)
+            lines = [text.partition("\n")[2] for text in (out, want)]
+            self.check_equal(f"dexasm-check --explain {name}", (status, lines[0], said), (1, lines[1], ""))
+            self.check("and there are some", "\n  The place is " in out, out)
+        seen = tool("dexasm-check", "--explain", "ok.dex", "none", "nested.zip", at=at)
+        want = "ok.dex: ok\nnone: error: No such file or directory\n"
+        is_so = seen[0] == 3 and seen[1].startswith(f"{want}nested.zip!a.jar!x.dex:") and seen[2] == ""
+        self.check("dexasm-check --explain, what isn't refused, and an archive in an archive", is_so, seen)
+        for form in ("--json", "--sarif", "--github", "--junit"):
+            seen = tool("dexasm-check", "--explain", form, "ok.dex", at=at)
+            self.check(f"dexasm-check --explain {form}", seen[:2] == (2, "") and "--explain is for lines" in seen[2], seen)
 
     def test_pages(self) -> None:
         """Each fault of the pages has a sentence that stands alone."""

@@ -282,13 +282,16 @@ def cut(line: bytes) -> str:
     return shortened(escaped(line))
 
 
-def explained(line: str, rows: dict[int, Row], given: list[Input]) -> Explained | None:
+def explained(line: str, given: list[Input]) -> Explained | None:
     found = REFUSAL.match(line)
-    if found is None or int(found[1]) not in rows:
+    if found is None or int(found[1]) not in SENTENCES:
         return None
-    data = data_of(given, line[: found.start(1)])
-    number, name, place = int(found[1]), found[2], int(found[3])
-    one = Explained(number, name, place, rows[number])
+    return explained_refusal(int(found[1]), found[2], int(found[3]), data_of(given, line[: found.start(1)]))
+
+
+def explained_refusal(number: int, name: str, place: int, data: bytes | None) -> Explained:
+    """What is known of a refusal, maybe of these bytes."""
+    one = Explained(number, name, place, SENTENCES[number])
     if data is not None:
         one.look(data)
     if one.number in MENDS and not one.hints:
@@ -321,11 +324,11 @@ def main(words: Words) -> int:
     words.add_argument("--json", action="store_true")
     words.add_argument("file", nargs="?")
     asked = words.parse_args()
-    rows, given = SENTENCES, given_of(asked.file)
+    given = given_of(asked.file)
     if sys.stdin is None:
         raise Failed("standard input: it is closed")
     for told in sys.stdin.buffer.read().decode("utf8", "surrogateescape").removesuffix("\n").split("\n"):
-        one = explained(told, rows, given)
+        one = explained(told, given)
         if asked.json:
             if one:
                 print(json.dumps(one.json()))

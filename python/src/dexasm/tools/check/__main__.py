@@ -1,6 +1,6 @@
 """Says of many files whether dexasm accepts them, in lines for people or in a form for machines.
 
-usage: dexasm-check [--lint] [--quiet] [--allow-empty] [--color auto|always|never] [--jobs N] [--seconds N]
+usage: dexasm-check [--lint] [--explain] [--quiet] [--allow-empty] [--color auto|always|never] [--jobs N] [--seconds N]
                     [--memory SIZE] PATH..
        dexasm-check --json [--program] [--lint] [--quiet] [..] PATH..
        dexasm-check --sarif|--github|--junit [--lint] [--quiet] [..] PATH..
@@ -28,6 +28,7 @@ begins as something else, with an archive behind that. An archive without a *.de
   --lint     of what dexasm accepts, what a device would still refuse: each place where it breaks a rule of dexasm-lint
              (with its --code, whose manual has them) is such a line, and where none does it is `ok`:
              x.txt:9:12: error: v3 holds 0.., and .. (register-kind, B1)
+  --explain  prints below each refusal what dexasm-explain prints: the rule, the bytes or lines there, and the usual cause
   --quiet    leaves out what is accepted
   --json     a line of JSON for each: file, uri, kind (dex, listing, archive), status, number, name, place, line,
              column, class, member, instruction, sentence, why, program, dexasm; what isn't known is null. The status is
@@ -58,7 +59,7 @@ import os
 import sys
 
 from dexasm.tools.asking import build
-from dexasm.tools.basis import FAILED
+from dexasm.tools.basis import FAILED, Failed
 from dexasm.tools.check.checkers import inputs, judge_all
 from dexasm.tools.helper import Version, helper, positive, say, seconds, size
 from dexasm.tools.terminal import Line, is_colored
@@ -73,6 +74,33 @@ if TYPE_CHECKING:
 
 NOTHING = "nothing was looked at: no .dex file, archive or listing is there (--allow-empty takes that)"
 FORMS: dict[str, type[Text]] = {"json": Json, "sarif": Sarif, "github": GitHub, "junit": JUnit}
+
+
+class Explained(Text):
+    """Lines, and below each refusal what dexasm-explain knows of it."""
+
+    def lines(self, verdict: Verdict) -> list[str]:
+        lines = super().lines(verdict)
+        if verdict.number is None or verdict.name is None or verdict.place is None:
+            return lines
+        from dexasm.tools.explain import explained_refusal
+
+        data = bytes_of(verdict)
+        return [*lines, *explained_refusal(verdict.number, verdict.name, verdict.place, data).lines()]
+
+
+def bytes_of(verdict: Verdict) -> bytes | None:
+    """The bytes that were refused; None of what can't be read any more, or is in an archive in an archive."""
+    from dexasm.tools.inputs import one_input
+    from dexasm.tools.workers.loop import opened_file
+
+    try:
+        if verdict.entry:
+            return one_input(verdict.path + b"!" + os.fsencode(verdict.entry)).data
+        with opened_file(verdict.path) as file:
+            return file.read()
+    except (Failed, OSError):
+        return None
 
 
 class Told:
@@ -131,6 +159,7 @@ def words_of(words: Words) -> Namespace:
         form.add_argument(f"--{name}", dest="form", action="store_const", const=name)
     words.add_argument("--program", action="store_true")
     words.add_argument("--lint", action="store_true")
+    words.add_argument("--explain", action="store_true")
     words.add_argument("--quiet", action="store_true")
     words.add_argument("--allow-empty", action="store_true")
     words.add_argument("--color", choices=("auto", "always", "never"), default="auto")
@@ -142,12 +171,14 @@ def words_of(words: Words) -> Namespace:
     asked = words.parse_args()
     if asked.program and asked.form != "json":
         words.error("--program is for --json")
+    if asked.explain and asked.form is not None:
+        words.error("--explain is for lines, without --json, --sarif, --github and --junit")
     return asked
 
 
 def form_of(asked: Namespace) -> Text:
     if asked.form is None:
-        return Text(is_colored(asked.color))
+        return (Explained if asked.explain else Text)(is_colored(asked.color))
     return Json(asked.lint) if asked.form == "json" else FORMS[asked.form]()
 
 
