@@ -81,8 +81,12 @@ class Command(HelperTest):
             self.check_equal(f"python -m dexasm {words}", python(at, "-m", "dexasm", *words), ended)
         seen = python(at, "-m", "dexasm", "check", "a.dex", DEXASM_COMMAND="/none")
         self.check_equal("python -m dexasm without the command", seen, (3, "", "dexasm: DEXASM_COMMAND names no command: /none\n"))
-        fake = put(at, "fake", b'#!/bin/sh\n[ "$1" = check ] && exit 70\necho dexasm: out of memory >&2\nexit 4\n')
+        fake = put(at, "fake", b'#!/bin/sh\n[ "$1" = check ] && exit 70\n[ "$1" = strip ] && kill -9 $$\necho dexasm: out of memory >&2\nexit 4\n')
         os.chmod(fake, 0o755)
-        for job, want in (("check", f"OSError {fake} ended with status 70: "), ("list", "MemoryError dexasm: out of memory")):
+        for job, want in (
+            ("check", f"OSError {fake} ended with status 70"),
+            ("strip", f"OSError {fake} was killed by signal 9"),
+            ("list", "MemoryError dexasm: out of memory"),
+        ):
             seen = python(at, "-c", FAILS, job, DEXASM_COMMAND="./fake")
             self.check_equal(f"Python over a command that fails, {job}", seen, (0, f"{want}\n", ""))

@@ -162,8 +162,10 @@ class Command:
             raise Refused(int(refused[1]), refused[2], int(refused[3]))
         if done.returncode == MEMORY:
             raise MemoryError("dexasm: out of memory")
+        if done.returncode < 0:
+            raise OSError(f"{self.path} was killed by signal {-done.returncode}")
         if done.returncode:
-            raise OSError(f"{self.path} ended with status {done.returncode}: {ascii(line)[1:-1]}")
+            raise OSError(f"{self.path} ended with status {done.returncode}" + (f": {ascii(line)[1:-1]}" if line else ""))
         if not is_output(job, done.stdout):
             raise OSError(f"{self.path}: unexpected output of `{job}`")
         return done.stdout

@@ -107,7 +107,7 @@ def dex_from(given: bytes, name: str) -> bytes:
     if is_listing(given):
         given = answer("assemble", given=given, name=name)
     if given.startswith(ZIP):
-        raise Failed(f"{name}: a zip archive: name it as a file, since its .dex files can't be read from a stream")
+        raise Failed(f"{name}: a zip archive: name it as a file, since a stream of one can't be read")
     return given
 
 
