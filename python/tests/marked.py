@@ -303,7 +303,7 @@ def large() -> Iterator[tuple[int, list[str]]]:
     nops = [f"{at}: nop" for at in range(LONG)]
     yield 88, ["dex 035", CLASS, *in_code(*nops, *each), "end class"]
     first = [":a", "nop", ":b", "nop", ":c", "nop", ":d", "try :a :b", *filled(20000, "catch LA; :a")]
-    second = ["try :b :c", *filled(12765, "catch LA; :a"), "«»try :c :d", "catchall :a"]
-    yield 89, [HEAD, CLASS, *in_code(*first, *second), "end class"]
+    second = ["try :b :c", *filled(12765, "catch LA; :a"), "try :c :d", "catchall :a"]
+    yield 89, [HEAD, f"«»{CLASS}", *in_code(*first, *second), "end class"]
     payload = "packed-switch-payload 0" + " :a" * 65535 + " «:a»"
     yield 114, [HEAD, CLASS, *in_code(":a", "packed-switch v0 :p", "nop", ":p", payload), "end class"]

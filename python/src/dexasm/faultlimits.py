@@ -76,7 +76,7 @@ def _named(owner: Type, line: Line) -> Iterator[tuple[Word, str, Any]]:
         elif slot.kind == "proto":
             yield slot.word, "proto", Proto(said(slot.word))
         elif slot.kind in ("type", "field", "method"):
-            yield slot.word, str(slot.kind), operand(said(slot.word))
+            yield slot.word, slot.kind, operand(said(slot.word))
     if line.key in ("static", "instance"):
         yield line.words[1], "field", FieldRef.of(owner, said(line.words[1]), said(line.words[2]))
     elif line.key in ("direct", "virtual"):
@@ -200,45 +200,10 @@ def _many_tries(_: Listing, one: Class, __: bool) -> Iterator[Spot]:
             yield Spot(code.tries[_MOST].line, None, f"the code has {len(code.tries)} tries, {_MOST} at most")
 
 
-def _far_handlers(read: Listing, one: Class, align: bool) -> Iterator[Spot]:
-    names = Names(read)
-    for code in one.codes():
-        if not code.tries:
-            continue
-        starts, sizes, of_try = _Addresses(code, align).starts, dict[Any, int](), []
-        for each in code.tries:
-            caught = tuple(tuple(_caught(line, code)) for line in each.handlers)
-            of_try.append(caught)
-            if caught not in sizes:
-                sizes[caught] = _handler_size(names, caught, starts)
-        at, begins = _leb128(len(sizes)), dict[Any, int]()
-        for caught, size in sizes.items():
-            begins[caught] = at
-            at += size
-        for each, caught in zip(code.tries, of_try):
-            if begins[caught] > _MOST:
-                why = f"its handlers begin {begins[caught]} bytes after the start of the code's list, {_MOST} at most"
-                yield Spot(each.line, None, why)
-
-
-def _caught(line: Line, code: Code) -> Iterator[Any]:
-    """The type of a catch, and where it leads; a catchall has no type."""
-    if line.key == "catch":
-        yield Type(said(line.words[1]))
-    yield code.place(line.words[-1])
-
-
-def _handler_size(names: Names, caught: tuple[tuple[Any, ...], ...], starts: list[int]) -> int:
-    typed = [each for each in caught if len(each) == 2]
-    signed = -len(typed) if len(typed) < len(caught) else len(typed)
-    size = next(size for size in range(1, 6) if -(1 << 7 * size - 1) <= signed < 1 << 7 * size - 1)
-    size += sum(_leb128(names.rank("type", each[0])) for each in typed)
-    return size + sum(_leb128(starts[each[-1]]) for each in caught)
-
-
-def _leb128(number: int) -> int:
-    """How many bytes a number takes."""
-    return max(1, -(-number.bit_length() // 7))
+def _far_handlers(_: Listing, one: Class, __: bool) -> Iterator[Spot]:
+    """The class alone: which try it is depends on how the writer lays out the handlers."""
+    why = f"the handlers of one of its codes take more than {_MOST} bytes: its tries need fewer catches"
+    yield Spot(one.head, None, why)
 
 
 LIMITS: dict[int, Callable[[Listing, Class, bool], Iterator[Spot]]] = {

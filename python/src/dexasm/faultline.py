@@ -218,7 +218,7 @@ def _operands(code: Code) -> Iterator[Spot]:
                 yield Spot(line, words[1], f"{data} bytes of elements of {width}")
         elif line.key in listed.PAYLOADS:
             targets = [slot.word for slot in slots(line) if slot.kind == "target"]
-            keys = [slot.word for slot in slots(line) if slot.kind == -32]
+            keys = [slot.word for slot in slots(line) if slot.kind == "number"]
             if len(targets) > _MOST_TARGETS:
                 yield Spot(line, targets[_MOST_TARGETS], f"{len(targets)} targets: {_MOST_TARGETS} at most")
             for low, high in zip(keys, keys[1:]):

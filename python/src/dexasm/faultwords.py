@@ -49,10 +49,10 @@ def in_line(read: Listing, number: int, line: Line, before: Class | None) -> Spo
     if number not in (_NAME, _NUMBER):
         return None
     for slot in slots(line):
-        kind = "@" if slot.kind == "target" and read.is_first_form else "label" if slot.kind == "target" else slot.kind
-        slot = Slot(slot.word, kind)
+        if slot.kind == "target":
+            slot = Slot(slot.word, "@", 32) if read.is_first_form else Slot(slot.word, "label")
         if not _fits(slot):
-            is_name = kind in _WHAT
+            is_name = slot.kind in _WHAT
             return Spot(line, slot.word, _why(line, slot)) if is_name == (number == _NAME) else None
     return None
 
@@ -123,39 +123,39 @@ def target_missing(one: Class, line: Line) -> Spot | None:
 def _fits(slot: Slot) -> bool:
     """Whether a word is what its slot takes."""
     text, kind = slot.word.text, slot.kind
-    if isinstance(kind, int):
-        return _is_number(text, kind)
+    if kind == "number":
+        return _is_number(text, slot)
     if kind == "label":
         return _LABEL.fullmatch(text) is not None
     if kind == "bytes":
         return re.fullmatch("(?:[0-9A-Fa-f]{2})+", text) is not None
-    word, _, bits = kind.partition(" of ")
-    if word == "bits":
-        return re.fullmatch(f"[0-9A-Fa-f]{{{bits}}}", text) is not None
-    if word in ("register", "@"):
-        return text[0] == ("v" if bits else "@") and _is_number(text[1:], int(bits or 32))
+    if kind == "digits":
+        return re.fullmatch(f"[0-9A-Fa-f]{{{slot.size}}}", text) is not None
+    if kind in ("register", "@"):
+        return text[0] == ("v" if kind == "register" else "@") and _is_number(text[1:], slot)
     return kind == "text" or _is_name(slot)
 
 
-def _is_number(text: str, bits: int) -> bool:
-    if not _DIGITS.fullmatch(text) or text[0] == "-" and bits > 0:
+def _is_number(text: str, slot: Slot) -> bool:
+    if not _DIGITS.fullmatch(text) or text[0] == "-" and not slot.is_signed:
         return False
-    low, high = _range(bits)
+    low, high = _range(slot)
     try:
         return low <= number_of(text) <= high
     except ValueError:
         return False  # (more digits than Python takes)
 
 
-def _range(bits: int) -> tuple[int, int]:
-    """The numbers of so many bits; of signed ones, where it is below 0."""
-    return (0, (1 << bits) - 1) if bits > 0 else (-(1 << -bits - 1), (1 << -bits - 1) - 1)
+def _range(slot: Slot) -> tuple[int, int]:
+    """The least and the greatest number of a slot."""
+    half = 1 << slot.size - 1
+    return (-half, half - 1) if slot.is_signed else (0, 2 * half - 1)
 
 
 def _is_name(slot: Slot) -> bool:
     try:
         name = said(slot.word) if _SAID.fullmatch(slot.word.text) else ""
-        _NAMES[str(slot.kind)](name) if slot.kind in _NAMES else member_name(name)
+        _NAMES[slot.kind](name) if slot.kind in _NAMES else member_name(name)
     except ValueError:
         return False
     return True
@@ -169,19 +169,19 @@ def _why(line: Line, slot: Slot) -> str:
     if slot.kind == "type" and _DOTTED.fullmatch(text):
         return f"it isn't a type: L{text.replace('.', '/')}; is"
     if slot.kind in _WHAT:
-        return f"it isn't {_WHAT[str(slot.kind)]}"
-    if isinstance(slot.kind, int):
+        return f"it isn't {_WHAT[slot.kind]}"
+    if slot.kind == "number":
         flags = next(flag_words(" ".join(word.text for word in line.words)), None)
         if flags is not None:
             return flags[1]
-        low, high = _range(slot.kind)
-        return f"a number from {low} to {high} stands here{_wider(line.key) if slot.kind < 0 else ''}"
-    word, _, bits = slot.kind.partition(" of ")
-    if word == "register":
-        return f"v0 to v{(1 << int(bits)) - 1} here{_wider(line.key)}"
-    if word == "bits":
-        return f"{bits} hexadecimal digits stand here"
-    return "a target is @ and the number of an instruction" if word == "@" else "two hexadecimal digits for each byte"
+        low, high = _range(slot)
+        return f"a number from {low} to {high} stands here{_wider(line.key) if slot.is_signed else ''}"
+    if slot.kind == "register":
+        return f"v0 to v{_range(slot)[1]} here{_wider(line.key)}"
+    if slot.kind == "digits":
+        return f"{slot.size} hexadecimal digits stand here"
+    is_target = slot.kind == "@"
+    return "a target is @ and the number of an instruction" if is_target else "two hexadecimal digits for each byte"
 
 
 def _wider(mnemonic: str) -> str:

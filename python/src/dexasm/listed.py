@@ -6,7 +6,7 @@ refused; so nothing is judged here. A word keeps its column, and its quotes wher
 from __future__ import annotations
 
 import re
-from collections.abc import Iterator
+from collections.abc import Iterable, Iterator
 from dataclasses import dataclass, field
 from typing import NamedTuple
 
@@ -16,24 +16,50 @@ from dexasm.names import spelled, unquoted, unspelled
 MEMBERS = ("static", "instance", "direct", "virtual")
 PAYLOADS = ("packed-switch-payload", "sparse-switch-payload", "array-payload")
 _WORD = re.compile(r'"(?:[^"\\]|\\.)*"|[^ ]+')
-_LINES: dict[str, tuple[str | int, ...]] = {
-    "class": ("type", 32),
-    "super": ("type",),
-    "implements": ("type",),
-    "source": ("text",),
-    "static": ("name", "type", 32),
-    "instance": ("name", "type", 32),
-    "direct": ("name", "proto", 32),
-    "virtual": ("name", "proto", 32),
-    "code": (16, 16, 16),
-    "try": ("target", "target"),
-    "catch": ("type", "target"),
-    "catchall": ("target",),
+
+
+class Kind(NamedTuple):
+    """What a word has to be. `size` is how many bits a number or the number of a register has, or how many hexadecimal
+    digits there are.
+    """
+
+    name: str
+    size: int = 0
+    is_signed: bool = False
+
+
+_NAME, _TYPE, _PROTO, _TEXT, _TARGET = map(Kind, ("name", "type", "proto", "text", "target"))
+_FIELD, _METHOD, _LABEL, _BYTES = map(Kind, ("field", "method", "label", "bytes"))
+_FLAGS, _COUNT, _INT = Kind("number", 32), Kind("number", 16), Kind("number", 32, True)
+_LINES = {
+    "class": (_TYPE, _FLAGS),
+    "super": (_TYPE,),
+    "implements": (_TYPE,),
+    "source": (_TEXT,),
+    "static": (_NAME, _TYPE, _FLAGS),
+    "instance": (_NAME, _TYPE, _FLAGS),
+    "direct": (_NAME, _PROTO, _FLAGS),
+    "virtual": (_NAME, _PROTO, _FLAGS),
+    "code": (_COUNT, _COUNT, _COUNT),
+    "try": (_TARGET, _TARGET),
+    "catch": (_TYPE, _TARGET),
+    "catchall": (_TARGET,),
 }
 KEYS = (*_LINES, "end")  # of what is no instruction
-VALUES: dict[str, str | int] = {"byte": -8, "short": -16, "char": 16, "int": -32, "long": -64, "float": "bits of 8"}
-VALUES |= {"double": "bits of 16", "string": "text", "type": "type", "field": "field", "enum": "field"}
-VALUES |= {"method": "method"}
+VALUES = {
+    "byte": Kind("number", 8, True),
+    "short": Kind("number", 16, True),
+    "char": Kind("number", 16),
+    "int": _INT,
+    "long": Kind("number", 64, True),
+    "float": Kind("digits", 8),
+    "double": Kind("digits", 16),
+    "string": _TEXT,
+    "type": _TYPE,
+    "field": _FIELD,
+    "enum": _FIELD,
+    "method": _METHOD,
+}
 
 
 class Word(NamedTuple):
@@ -59,10 +85,12 @@ class Spot(NamedTuple):
 
 
 class Slot(NamedTuple):
-    """A word that says something: `kind` is what it has to be, or the bits of a number, below 0 of a signed one."""
+    """A word that says something, and what it has to be, as Kind has it."""
 
     word: Word
-    kind: str | int
+    kind: str
+    size: int = 0
+    is_signed: bool = False
 
 
 @dataclass
@@ -209,29 +237,34 @@ def slots(line: Line) -> list[Slot]:
     """What the words of a line have to be; those that are neither names, numbers nor texts are left out."""
     words, key = line.words[1:], line.key
     if key[:1] == ":":
-        return [Slot(line.words[0], "label")]
+        return _slots(line.words[:1], (_LABEL,))
     if key in _LINES:
-        return [*map(Slot, words, _LINES[key]), *_value_slots(words[4:])]
+        return [*_slots(words, _LINES[key]), *_value_slots(words[4:])]
     if key == "packed-switch-payload":
-        return [Slot(word, "target" if at else -32) for at, word in enumerate(words)]
+        return _slots(words, (_INT, *[_TARGET] * len(words)))
     if key == "sparse-switch-payload":
-        return [Slot(word, "target" if at % 2 else -32) for at, word in enumerate(words)]
+        return _slots(words, (_INT, _TARGET) * len(words))
     if key == "array-payload":
-        return [Slot(word, "bytes" if at else 16) for at, word in enumerate(words[:2])]
+        return _slots(words, (_COUNT, _BYTES))
     return _insn_slots(words, key)
+
+
+def _slots(words: tuple[Word, ...], kinds: Iterable[Kind]) -> list[Slot]:
+    return [Slot(word, *kind) for word, kind in zip(words, kinds)]
 
 
 def _insn_slots(words: tuple[Word, ...], key: str) -> list[Slot]:
     form = format_of(key)
     if form is None:
         return []
-    kinds: list[str | int] = [f"register of {bits}" for bits in form.registers]
+    kinds = [Kind("register", bits) for bits in form.registers]
     if form.is_list:
         end = next((at for at, word in enumerate(words) if word.text == "}"), 0)
-        kinds = ["register of 4"] * (end - 1)
+        kinds = [Kind("register", 4)] * (end - 1)
         words = words[1:end] + words[end + 1 :]
-    kinds += [8] * form.is_range + [-form.literal] * (form.literal > 0) + ["target"] * (form.target > 0)
-    return [*map(Slot, words, [*kinds, form.name] if form.name else kinds)]
+    kinds += [Kind("number", 8)] * form.is_range + [Kind("number", form.literal, True)] * (form.literal > 0)
+    kinds += [_TARGET] * (form.target > 0) + [Kind(form.name)] * (form.name != "")
+    return _slots(words, kinds)
 
 
 def _value_slots(words: tuple[Word, ...]) -> Iterator[Slot]:
@@ -240,9 +273,9 @@ def _value_slots(words: tuple[Word, ...]) -> Iterator[Slot]:
         if word.text in VALUES:
             operand = next(rest, None)
             if operand is not None:
-                yield Slot(operand, VALUES[word.text])
+                yield Slot(operand, *VALUES[word.text])
 
 
 def registers(line: Line) -> list[Word]:
     """The words of an instruction that name registers."""
-    return [slot.word for slot in slots(line) if str(slot.kind)[:8] == "register"]
+    return [slot.word for slot in slots(line) if slot.kind == "register"]
