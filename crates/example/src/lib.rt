@@ -5,9 +5,9 @@
 #![tactic(auto)]
 
 mod patch;
-mod rewritten;
+mod rewrite;
 mod show;
 
 pub use patch::patched;
-pub use rewritten::rewritten;
+pub use rewrite::rewritten;
 pub use show::shown;
