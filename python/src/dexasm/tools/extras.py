@@ -1,11 +1,10 @@
 """Annotations and debug information of .dex files, which dexasm never writes: how many there are, and what is dropped."""
 from __future__ import annotations
 
-import struct
 from typing import NamedTuple
 
 from dexasm.tools.basis import DEX
-from dexasm.tools.layout import NO_FILE, Outside, Reader, Tables, read_annotation, read_directory
+from dexasm.tools.layout import Malformed, Reader, Tables, read_annotation, read_directory, unpack
 
 TYPE_CHECKING = False  # (as in typing)
 if TYPE_CHECKING:
@@ -47,7 +46,7 @@ class Counter:
     def whole(self) -> Extras:
         rows = range(self.tables.count["class"])
         codes = (code for row in rows for code, _ in self.tables.codes_of(row, None))
-        debug = sum(struct.unpack_from("<I", self.data, code + DEBUG_INFO_OFF) != (0,) for code in codes)
+        debug = sum(unpack("<I", self.data, code + DEBUG_INFO_OFF) != (0,) for code in codes)
         places = (self.tables.numbers("class", row, "<8I")[5] for row in rows)
         return Extras(*total(self.annotations(read_directory, at) for at in places), debug)
 
@@ -58,7 +57,7 @@ class Counter:
         if (read, at) not in self.found:
             try:
                 self.found[read, at] = self.counted(read, Reader(self.data, at, self.left))
-            except Outside:
+            except Malformed:
                 self.found[read, at] = 0, 0, 0
         return self.found[read, at]
 
@@ -82,7 +81,7 @@ def extras_of(data: bytes) -> Extras:
         return Extras()
     try:
         return Counter(data).whole()
-    except NO_FILE:
+    except Malformed:
         return Extras()
 
 

@@ -190,8 +190,10 @@ def found_by(asked: Namespace, file: str | None, names: list[str]) -> dict[str, 
     if asked.query == "uses":
         return mentions.uses(program_of(file), names, asked.strings)
     if asked.query == "find":
-        search = mentions.find_insns if asked.insns else mentions.find
-        return search(program_of(file), names)
+        program = program_of(file)
+        if asked.insns:
+            return mentions.find_insns(program, names)
+        return mentions.find(program, names)
     return QUERIES[asked.query](program_of(file))
 
 

@@ -181,6 +181,7 @@ INTEGERS = ("byte", "short", "char", "int", "long")
 def find_insns(program: Program, asked: list[str]) -> dict[str, Rows]:
     """The instructions of each mnemonic or pattern, or with each number, and the fields with that initial value."""
     found: dict[str, Counter[Numbered]] = {one: Counter() for one in asked}
+    forms: dict[str, frozenset[int] | re.Pattern[str]]
     forms = {one: number_of(one) if NUMBER.fullmatch(one) else pattern(one) for one in asked}
     for each in numbered(program):
         number = each.number
