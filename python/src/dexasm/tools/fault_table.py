@@ -12,8 +12,8 @@ FAULTS = {
     8: ("Checksum", "the Adler-32 differs: the file was damaged or changed", "8"),
     9: ("Signature", "the SHA-1 differs: the file was changed after it was signed, or D8 before 1.6.20 wrote it "
     "(`dexasm-explain` says which, `dexasm-close` mends it)", "12"),
-    10: ("SectionRange", "a section of size above 0 is misaligned (tables), below 0x70, or runs past the end",
-    "its size field"),
+    10: ("SectionRange", "a table with rows is misaligned; a table with rows, or a data section of size above 0, "
+    "begins below 112 or ends after the end of the file", "its size field"),
     11: ("TooManyRows", "more than 65535 types or protos", "64 (types) or 72 (protos)"),
     12: ("MapPlace", "the map is misaligned, or not within the data section with all its entries", "52"),
     13: ("MapEntry", "an entry of the map breaks a rule", "the entry"),
@@ -36,8 +36,9 @@ FAULTS = {
     35: ("MethodOrder", "a method isn't above the row before", "the row"),
     40: ("ClassIndex", "class, superclass or source file isn't there", "the class row"),
     41: ("ClassKind", "class or superclass is no class type", "the class row"),
-    42: ("ClassOrder", "the superclass or an interface is defined in this row or later, whether or not in an "
-    "earlier one too, or the class in an earlier one", "the class row"),
+    42: ("ClassOrder", "the class is also that of an earlier row, or the superclass or an interface is the class "
+    "of this row or of a later one (even if also of an earlier one; the later rows need not be " "right for that)",
+    "the class row"),
     43: ("InterfaceList", "no list of distinct class types is at the offset", "the class row"),
     44: ("ClassData", "no class_data_item is at the offset", "the class row"),
     45: ("MemberIndex", "a member's index is past its table", "the class row"),
@@ -66,8 +67,9 @@ FAULTS = {
     "one user", "the instruction, or the payload"),
     71: ("Try", "a try begins at no instruction, covers nothing, ends after the units or overlaps the one " "before",
     "the try_item"),
-    72: ("Handler", "the handlers can't be read, a type or an address in them is wrong, or a handler_off is no "
-    "handler's begin", "the list"),
+    72: ("Handler", "the list is not within the section of code items, a number in it is misspelled, a type "
+    "isn't there (any type may be caught), an address is not the first unit of an instruction "
+    "or payload, or a handler_off is not the offset of a handler in the list", "the list"),
     73: ("Register", "more ins than registers, or an instruction names a register that the code doesn't have",
     "the code_item; the first such instruction"),
     80: ("TooManyTypes", "more than 65535 types are needed", "how many"),
