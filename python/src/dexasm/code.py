@@ -3,8 +3,9 @@ from __future__ import annotations
 
 import functools
 import re
-from collections.abc import Iterable, Iterator
+from collections.abc import Callable, Iterable, Iterator
 from dataclasses import dataclass, field
+from typing import Any
 
 from dexasm.answers import of_listing
 from dexasm.formats import MNEMONICS, Format, format_of
@@ -292,6 +293,30 @@ class Code:
 
 # ---- reading
 
+_NEW = Insn.__new__
+_MOST_KEPT = 1 << 15
+
+Words = list[str]
+Read = tuple[str, tuple[int, ...], int | None, Type | FieldRef | MethodRef | None, str | None, int | None]
+
+
+class _Kept(dict[str, Any]):
+    """What words say, each read once; it forgets all when it is full, so that no file makes it large."""
+
+    def __init__(self, read: Callable[[str], Any]) -> None:
+        self.read = read
+
+    def __missing__(self, word: str) -> Any:
+        if len(self) >= _MOST_KEPT:
+            self.clear()
+        found = self[word] = self.read(word)
+        return found
+
+
+_REGISTERS = _Kept(lambda word: int(word[1:]))
+_OPERANDS = _Kept(operand_of)
+_LINES: dict[str, Read] = {}  # what lines without a label say
+
 
 @of_listing
 def _read_lines(text: str) -> tuple[list[Insn], list[Try]]:
@@ -300,15 +325,21 @@ def _read_lines(text: str) -> tuple[list[Insn], list[Try]]:
     labels: dict[str, Label] = {}
     here: Label | None = None
     for line in text.split("\n"):
-        if line[:1] == ":":
+        known = _LINES.get(line)
+        if known is not None:
+            insn = _NEW(Insn)
+            insn.mnemonic, insn.registers, insn.literal, insn.name, insn.text, insn.count = known
+            insn.target = None
+        elif line[:1] == ":":
             here = _label(labels, line)
             continue
-        if line[:4] == "try " or line[:5] == "catch" or line == "end code":
+        elif line[:4] == "try " or line[:5] == "catch" or line == "end code":
             _read_try(line, labels, tries)
             if line == "end code":
                 break
             continue
-        insn = _read_insn(line, labels)
+        else:
+            insn = _read_insn(line, labels)
         if here is not None:
             here.insn, here = insn, None
         insns.append(insn)
@@ -332,31 +363,58 @@ def _read_try(line: str, labels: dict[str, Label], tries: list[Try]) -> None:
         tries[-1].catch_all = _label(labels, words[1])
 
 
+def _kind(mnemonic: str) -> str:
+    """What stands in the words after a mnemonic, behind the registers."""
+    form = _form(mnemonic)
+    if form.is_list or form.is_range:
+        return "list" if form.is_list else "range"
+    return "target" if form.target else "literal" if form.literal else "name" if form.name else ""
+
+
+_KINDS = _Kept(_kind)
+
+
 def _read_insn(line: str, labels: dict[str, Label]) -> Insn:
-    text = None
     if '"' in line:
         line, _, word = line.partition(' "')
-        text = unquoted(f'"{word}')
+        mnemonic, register = line.split(" ")
+        return _keep(f'{line} "{word}', mnemonic, (_REGISTERS[register],), text=unquoted(f'"{word}'))
     words = line.split(" ")
-    mnemonic = words[0]
+    mnemonic, last = words[0], words[-1]
     if mnemonic[-8:] == "-payload":
         return _read_payload(words, labels)
-    registers: list[int] = []
-    numeral = target = name = None
-    for word in words[1:]:
-        first = word[0]
-        if first == "v":
-            registers.append(int(word[1:]))
-        elif first == ":":
-            target = _label(labels, word)
-        elif first in "-0123456789":
-            numeral = int(word)
-        elif first not in "{}":
-            name = operand_of(word)
-    insn, named = Insn.__new__(Insn), tuple(registers)
-    if numeral is not None and name is not None:
-        return _fill(insn, mnemonic, named, name=name, count=numeral)
-    return _fill(insn, mnemonic, named, numeral, target, name, text)
+    kind = _KINDS[mnemonic]
+    if kind == "list":
+        return _keep(line, mnemonic, _registers(words[2:-2]), name=_OPERANDS[last])
+    if kind == "range":
+        return _keep(line, mnemonic, _registers(words[1:2]), name=_OPERANDS[last], count=int(words[2]))
+    if kind == "target":
+        return _fill(_NEW(Insn), mnemonic, _registers(words[1:-1]), target=_label(labels, last))
+    if kind == "literal":
+        return _keep(line, mnemonic, _registers(words[1:-1]), int(last))
+    if kind == "name":
+        return _keep(line, mnemonic, _registers(words[1:-1]), name=_OPERANDS[last])
+    return _keep(line, mnemonic, _registers(words[1:]))
+
+
+def _registers(words: Words) -> tuple[int, ...]:
+    return tuple([_REGISTERS[word] for word in words])
+
+
+def _keep(
+    line: str,
+    mnemonic: str,
+    registers: tuple[int, ...],
+    literal: int | None = None,
+    name: Type | FieldRef | MethodRef | None = None,
+    text: str | None = None,
+    count: int | None = None,
+) -> Insn:
+    """An instruction of a line without a label, which the next such line says too."""
+    if len(_LINES) >= _MOST_KEPT:
+        _LINES.clear()
+    _LINES[line] = mnemonic, registers, literal, name, text, count
+    return _fill(_NEW(Insn), mnemonic, registers, literal, None, name, text, count)
 
 
 def _read_payload(words: list[str], labels: dict[str, Label]) -> Insn:

@@ -6,6 +6,7 @@ from __future__ import annotations
 
 import argparse
 import functools
+import gc
 import os
 import re
 import sys
@@ -128,6 +129,7 @@ def helper(trouble: int | None = None, unread: int = 0) -> Callable[[Callable[[W
 def run(does: Callable[[Words], int], trouble: int | None, unread: int) -> NoReturn:
     """Runs a helper. (For its developer, `python3 -X dev` shows where a failure was that nobody thought of.)"""
     words = Words(sys.modules[does.__module__])
+    gc.set_threshold(100_000)  # (a program's objects stay until the end, so that most collections find nothing)
     try:
         if sys.stdout is None:
             raise Failed("cannot write: standard output is closed")
