@@ -195,7 +195,7 @@ def fault_table() -> str:
 
 def rule_table() -> str:
     """A module with the sentences of lint's rules, as its manual has them."""
-    rules = re.findall(r"^  ([a-z-]+)  (\S.*(?:\n {6}.*)*)", helpers()["dexasm-lint"], re.M)
+    rules = re.findall(r"^  ([a-z][a-z-]*)  (\S.*(?:\n {6}.*)*)", helpers()["dexasm-lint"], re.M)
     lines = []
     for rule, text in rules:
         first, *more = re.findall(r".{1,80}(?:\s|$)", " ".join(text.split()))

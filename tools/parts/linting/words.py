@@ -1,6 +1,8 @@
-"""Words of a private language in the pages: each has a word of the field in its place, which the message names. Code is
-left out, and pages that are history (CHANGELOG, bench/LOG) or generated from names in the code.
+"""Words of a private language in the pages and manuals (which are the help texts of the commands): each has a word of the
+field in its place, which the message names. Code is left out, and pages that are history (CHANGELOG, bench/LOG) or
+generated from names in the code.
 """
+import glob
 import re
 from collections.abc import Iterator
 
@@ -29,7 +31,7 @@ GENERATED = {"docs/DEFINITIONS.md", "docs/FILES.md"}
 # Where a word is defined or quoted, by page: a part of the line that has it.
 EXCEPTIONS = {
     "docs/FORMAT.md": ("| spells |", "| stands |", "| holds, breaks |"),  # the table that defines them, for the specs
-    "docs/PROVED.md": ("`file_read",),  # names of lemmas and wrong bodies
+    "docs/man/dexasm.1": ("Nobody but its owner",),  # the help of the proved command, crates/dexasm_plan
 }
 
 
@@ -52,5 +54,5 @@ def private_words(page: str) -> Iterator[str]:
 
 
 def look() -> Seen:
-    looked = [page for page in pages() if page not in HISTORY | GENERATED]
-    return Seen([line for page in looked for line in private_words(page)], f"the words of {len(looked)} pages")
+    looked = [*(page for page in pages() if page not in HISTORY | GENERATED), *sorted(glob.glob("docs/man/*"))]
+    return Seen([line for page in looked for line in private_words(page)], f"the words of {len(looked)} pages and manuals")

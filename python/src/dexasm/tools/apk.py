@@ -14,9 +14,9 @@ With --close each .dex file whose signature or checksum doesn't hold is closed f
 on standard error says so and what didn't hold: D8 before 1.6.20 signed its files in a way that dexasm refuses. The
 others are taken as they are, and so is what has no header or another length. The archive isn't changed.
 
-An entry isn't read where it is encrypted or says so (Android doesn't look at that), where its sum is wrong or its
-method unknown, and where another one has its name (Android refuses such an archive). Each .dex file is held in memory.
-A file that begins as something else, with an archive behind that, and an archive in which other tools can find other
+An entry is not read if it is encrypted or has the flag of it (Android ignores the flag), if its sum is wrong or its
+method unknown, or if another entry has its name (Android refuses such an archive). Each .dex file is held in memory. A
+file that begins as something else, with an archive behind that, and an archive in which other tools can find other
 entries are refused (status 3). An archive without classes*.dex is an error (status 3) too, unless --allow-empty is
 given. `dexasm-check` also checks other names: *.dex in other folders, archives in the archive.
 
@@ -24,8 +24,8 @@ replace writes OUT, the archive with its classes.dex exchanged for a FILE of tha
 Each other entry stays byte for byte, at the place that zipalign asks for where it isn't compressed (4 bytes, 16 KB for
 lib/*.so); signatures are left out, since they don't hold any more: META-INF/*.SF, *.RSA, *.DSA and *.EC, of an
 application their MANIFEST.MF, and the block of Android's own. OUT has to be signed, as by apksigner. It is written by
-the command's rules, once it is whole; ARCHIVE stays, unless it is OUT. If FILE has less annotations or debug information
-than the entry that it replaces, a line says how much is dropped, unless --quiet is given.
+the command's rules, once it is whole; ARCHIVE stays, unless it is OUT. If FILE has less annotations or debug
+information than the entry that it replaces, a line says how much is dropped, unless --quiet is given.
 
 Exit status: 0, or the highest of dexasm's; 2 wrong words; 3 no archive, no classes*.dex in it, or one that can't be
 read or written."""

@@ -1,4 +1,4 @@
-"""Computes the signature and the checksum of a .dex file anew, and changes nothing else.
+"""Recomputes the signature and the checksum of a .dex file, and changes nothing else.
 
 usage: dexasm-close FILE --output OUT
        dexasm-close --in-place FILE
@@ -6,14 +6,14 @@ usage: dexasm-close FILE --output OUT
 
 A .dex file begins with the SHA-1 of its bytes from 32 on, its signature, and the Adler-32 of those from 12 on, its
 checksum. D8 before 1.6.20, in the Android Gradle plugin 3.0 to 3.5, signed the bytes up to 52 before the end alone, so
-dexasm refuses its files with 9 Signature. Whoever edits a file by hand has to close it too. A closed file is one that
-nobody changed by accident since, and no more: whether its maker meant it so is told by the signature that it came with,
-so look at what --check says first.
+dexasm refuses its files with 9 Signature. A file that was edited by hand has to be closed too. A closed file was not
+changed by accident since, and no more: whether its maker meant it so can only be judged by the signature that it came
+with, so run --check first.
 
-FILE is closed into OUT, or in place with --in-place; `-` is standard input and output. A line on standard error has each
-sum that changes, old and new, unless --quiet is given. What has no such header, or isn't as long as its header says, is
-refused. --check says what would change and changes nothing. A file is replaced when its answer is complete, by the
-command's own rules. As FILE an archive with one classes*.dex, or app.apk!classes2.dex, does too, with --output or
+FILE is closed into OUT, or in place with --in-place; `-` is standard input and output. A line on standard error has
+each sum that changes, old and new, unless --quiet is given. What has no such header, or isn't as long as its header
+says, is refused. --check says what would change and changes nothing. A file is replaced when its answer is complete, by
+the command's own rules. As FILE an archive with one classes*.dex, or app.apk!classes2.dex, does too, with --output or
 --check. `dexasm-apk --close` does it with each .dex file that it takes out of an archive.
 
 Exit status: 0, and with --check that both sums hold; 1 with --check where one doesn't, or the file is refused; 2 wrong

@@ -8,7 +8,7 @@ of them alone. Debug information and annotations are no part of a program. A cla
 only one of them has is shown whole, one that both have by the lines that differ, with three lines around each change.
 Labels are numbered one after the other in each code, so that an instruction more or less changes no line but its own.
 With --names each class and member is one line: `-` only in A, `+` only in B, `!` in both, and otherwise. Colours are
-shown on a terminal, if NO_COLOR isn't set. A last line tells where classes stand in another order.
+shown on a terminal, if NO_COLOR isn't set. A last line says if classes are in another order.
 
 With --json each of these is a line of JSON: class, member (null: the class, or its lines before the members), change
 (removed, added, changed, or order with both null), and lines, each with its mark in front (`-`, `+`, a blank, or `@`

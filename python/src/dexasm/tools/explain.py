@@ -1,18 +1,18 @@
-"""Says in words what a refusal of dexasm means, and shows what stands at its place.
+"""Explains what a refusal of dexasm means, and shows what is at its place.
 
 usage: dexasm-explain [--json] [FILE]
 
-It reads what dexasm told from standard input, as in `dexasm check FILE 2>&1 | dexasm-explain FILE`. For each line `..
-refused N NAME at P` it prints the line, the sentence that docs/FORMAT.md or docs/LISTING.md has for N, and, with FILE,
-the bytes, the line or the class at P, the class or the method in which it stands, and what is often the reason: a comma
+It reads what dexasm printed from standard input, as in `dexasm check FILE 2>&1 | dexasm-explain FILE`. For each line
+`.. refused N NAME at P` it prints the line, the sentence that docs/FORMAT.md or docs/LISTING.md has for N, and, with
+FILE, the bytes, the line or the class at P, the class or the method that has it, and what is often the reason: a comma
 between registers, an archive, a file of another version, who wrote such a signature, the character that a name can't
-have, the member that stands twice, the number that is spelled too far. Of a listing it tells the line, the word and
-what would stand there instead, also where P is only a class that breaks a rule of programs or a limit, or a count.
-Other lines are printed as they are, but for what a terminal would obey. FILE may be an archive, as in `dexasm-apk check
-app.apk 2>&1 | dexasm-explain app.apk`: each line then names one of its .dex files.
+have, the member that is there twice, the number that is encoded too long. Of a listing it prints the line, the word and
+what is expected there, also where P is only a class that breaks a rule of programs or a limit, or a count. Other lines
+are printed as they are, but for what a terminal would obey. FILE may be an archive, as in `dexasm-apk check app.apk
+2>&1 | dexasm-explain app.apk`: each line then names one of its .dex files.
 
 With --json it prints a line of JSON for each refusal, and nothing else: `number`, `name`, `place`; `sentence` and
-`place_is`, as the pages have them; `found`, lines of what stands there; `hints`; and `line`, `column`, `class`,
+`place_is`, as the pages have them; `found`, lines of what is there; `hints`; and `line`, `column`, `class`,
 `member`, `instruction` (its number in its code, from 0) and `word` where they are known, else null.
 
 Exit status: 0 done, 2 wrong words, 3 something can't be read or written.

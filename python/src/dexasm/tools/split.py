@@ -9,9 +9,9 @@ says how many of a .dex file are dropped, unless --quiet is given.
 
 The class LHello/World; goes to FOLDER/Hello/World.txt. A name that is too long for a file, that begins with a minus or
 a name of this command's, or that only differs from another one's in upper and lower case, goes to FOLDER/@/ with a hash
-of the name. FOLDER/order lists the files in the order of their classes, one a line; what stands before the first class
-is in FOLDER/head, what stands after the last one in FOLDER/tail. FOLDER has to be new, empty, or made by this command:
-then files of classes that are gone are removed.
+of the name. FOLDER/order lists the files in the order of their classes, one a line; what is before the first class is
+in FOLDER/head, what is after the last one in FOLDER/tail. FOLDER has to be new, empty, or made by this command: then
+files of classes that are gone are removed.
 
 A listing that dexasm refuses (one that was cut, or is none) changes nothing, nor does a folder whose order names
 another place, or that leads to one by a link: nothing outside FOLDER is read, written or removed. A file of a class may

@@ -5,13 +5,13 @@ usage: dexasm-check [--lint] [--explain] [--quiet] [--allow-empty] [--color auto
        dexasm-check --json [--program] [--lint] [--quiet] [..] PATH..
        dexasm-check --sarif|--github|--junit [--lint] [--quiet] [..] PATH..
 
-PATH is a .dex file, a zip archive, of which each *.dex is looked at, or a listing, which is assembled. What is called
-*.dex is the first, *.apk, *.jar, *.zip, *.aar, *.aab and *.apks are the second, in any case, and of others the first
-bytes say it. Archives in an archive are looked into too, one deep. Of a folder it is each file below that has such a
+PATH is a .dex file, a zip archive, of which each *.dex is checked, or a listing, which is assembled. Files named *.dex
+are read as .dex files, those named *.apk, *.jar, *.zip, *.aar, *.aab and *.apks as archives, in any case, and others by
+their first bytes. Archives in an archive are checked too, one deep. Of a folder it is each file below that has such a
 name, or begins as a .dex file, an archive or a listing (`dex 035`) does; a file that looks like a listing but for its
 first line has a line. A link there isn't followed: each has a line, and so have pipes and devices; it is an error where
-something could pass unseen (what it leads to has such a name, begins so or is a folder, and lies elsewhere). `-` reads paths from standard input, each with a NUL after it. There is a line for each, in the
-order of the paths:
+something could pass unseen (what it leads to has such a name, begins so or is a folder, and lies elsewhere). `-` reads
+paths from standard input, each with a NUL after it. There is a line for each, in the order of the paths:
 
   a.dex: ok
   a.dex:0x0c: error: 9 Signature: the SHA-1 differs
@@ -19,16 +19,17 @@ order of the paths:
   app.aab!base/dex/classes.dex: ok
   x.txt:12:8: error: 102 Number: v16: v0 to v15 here; move/from16 or move/16 takes more
 
-After the name stands the place: the byte of a file, or line and column of a listing. Where no line is known of a class
-that breaks a rule, its number is told. What can't be read is such a line too, and the others go on; a file is one that
-begins as something else, with an archive behind that. An archive without a *.dex is accepted, unless it is called
-*.apk. Where nothing was looked at, a line on standard error says so and the status is 3.
+The place follows the name: the byte of a file, or line and column of a listing, or the number of the class if no line
+is known. A file that can't be read has such a line too, and the others are checked; so has a file that begins as
+something else, with an archive behind that. An archive without a *.dex is accepted, unless it is called *.apk. If
+nothing was checked, a line on standard error says so and the status is 3.
 
   --allow-empty  accepts that
   --lint     of what dexasm accepts, what a device would still refuse: each place where it breaks a rule of dexasm-lint
              (with its --code, whose manual has them) is such a line, and where none does it is `ok`:
              x.txt:9:12: error: v3 holds 0.., and .. (register-kind, B1)
-  --explain  prints below each refusal what dexasm-explain prints: the rule, the bytes or lines there, and the usual cause
+  --explain  prints below each refusal what dexasm-explain prints: the rule, the bytes or lines there, and the usual
+             cause
   --quiet    leaves out what is accepted
   --json     a line of JSON for each: file, uri, kind (dex, listing, archive), status, number, name, place, line,
              column, class, member, instruction, sentence, why, program, dexasm; what isn't known is null. The status is
@@ -37,13 +38,13 @@ begins as something else, with an archive behind that. An archive without a *.de
              or unknown) and sha256 of what answers. With --lint also address, register, rule and page, and the status
              broken
   --program  has program say the SHA-256 of the stripped bytes: equal where two files are one program
-  --sarif    one document of SARIF 2.1.0, which has what isn't accepted (also archives that can't be read), as notes what
-             was skipped or can't be read, and dexasm as above
+  --sarif    one document of SARIF 2.1.0, which has what isn't accepted (also archives that can't be read), as notes
+             what was skipped or can't be read, and dexasm as above
   --github   what isn't accepted, and what was skipped, as commands of a workflow of GitHub, which shows it at the file
   --junit    one document as JUnit writes it, for other servers
   --color    on a terminal, unless NO_COLOR is set, the verdicts have colours; always and never say so of each output
 
-The files are looked at by up to --jobs N workers (as many as there are processors): one for some thousands of small
+The files are checked by up to --jobs N workers (as many as there are processors): one for some thousands of small
 files or some megabytes, and another for each that many more. Each file, an archive with all that is in it, may take
 --seconds N of its processor (60, or a fraction such as 0.5; ten times as much by the clock) and --memory SIZE (2G); one
 at which a worker is stopped has a line that says so. On a terminal a line tells how far it is. Without libdexasm each
@@ -51,7 +52,7 @@ file is a run of dexasm, which takes longer. --version tells which build answers
 the environment only a proved one does.
 
 Exit status: 0 all are accepted, 1 one is refused or breaks a rule, 2 wrong words, 3 one can't be read or takes too
-long, or a method isn't looked at to its end, 4 one takes more than --memory. Of several it is the highest.
+long, or a method isn't checked to its end, 4 one takes more than --memory. Of several it is the highest.
 """
 from __future__ import annotations
 

@@ -17,19 +17,19 @@ file in which none is broken is `FILE: ok`. The rules:
   abstract-flags  an abstract method is private, static, final, synchronized, native or strict too
   code-missing  a method has no code, and isn't native or abstract
   code-unwanted  a method has code, and is native or abstract
-  field-list  a field stands among the static ones, and isn't, or the other way round
-  method-list  a method stands among the direct ones, and isn't static, private, <init> or <clinit>, or the other way
-      round
+  field-list  a field is in the list of static fields, and isn't static, or the other way round
+  method-list  a method is in the list of direct methods, and isn't static, private, <init> or <clinit>, or the other
+               way round
   in-both-lists  a method is direct and virtual
   method-name  a method's name begins with <, and isn't <init> or <clinit>
-  constructor-signature  <init> answers something, or <clinit> isn't ()V
+  constructor-signature  <init> returns something, or <clinit> isn't ()V
   value-type  a static field's value is of another type
   value-kind  a static field's value is an enum, a field, a method or an array
   outs-size  outs are more than 5 and more than registers
 
 They are those of ART 14 for version 035, which docs/VERIFIERS.md lists with all else that it asks.
 
-With --code the code of each method is looked at too, as a device does later: what kind of value each register holds on
+With --code the code of each method is checked too, as a device does later: what kind of value each register holds on
 each way, and what each instruction takes. For each place that breaks a rule of the page "Dalvik bytecode constraints"
 there is a line, at most five of a method. Of a listing it has line and column, otherwise the member, the instruction's
 number and its address in units:
@@ -37,9 +37,9 @@ number and its address in units:
   a.txt:9:12: error: v3 holds a reference (java.lang.String, from line 7), and add-int takes an int (register-kind, B1)
   a.dex: LA;->m(I)V: 7 (0x0a): error: v3 holds ..
 
-A class that isn't in the file is taken as right, whatever is asked of it; one that is, is taken as the file has it, also
-where a device has its own of that name (--skip-boot). Code behind a handler of a class that a device may not find isn't
-looked at, as then on the device. The rules:
+A class that isn't in the file is taken as right, whatever is required of it; one that is, is taken as the file has it,
+also where a device has its own of that name (--skip-boot). Code behind a handler of a class that a device may not find
+isn't checked, as then on the device. The rules:
 
   register-kind  a register holds another kind of value than the instruction takes
   ways-differ  a register is read that holds one kind of value on one way and another one on another
@@ -78,22 +78,21 @@ looked at, as then on the device. The rules:
 
   --json    a line of JSON for each: file, uri, kind (dex, listing), status, rule, page, line, column, class, member,
             instruction, address, register, sentence, why; what isn't known is null. The status is broken, ok (of a
-            file), refused or failed (it can't be looked at)
+            file), refused or failed (it can't be checked)
   --sarif   one document of SARIF 2.1.0, which has what is broken
   --skip-boot  takes a class of a package that the boot class path has (java, javax.net, android, dalvik, sun, org.json
-            ..) for one that isn't in the file, as a device does, and doesn't look at its code
+            ..) for one that isn't in the file, as a device does, and doesn't check its code
   --jobs N  has --code look by N workers, each at some of a file's classes
-  --seconds N  so long --code may take for a file, each worker of its processor (600, or a fraction such as 0.5; ten times
-            as much by the clock); what isn't looked at by then has a line that says so
+  --seconds N  so long --code may take for a file, each worker of its processor (600, or a fraction such as 0.5; ten
+            times as much by the clock); what isn't checked by then has a line that says so
 
-FILE is a .dex file or a listing, `-` or none at all standard input; or an archive, of which each classes*.dex is looked
-at, or app.apk!classes2.dex. One without a classes*.dex is a line and status 3, unless --allow-empty is given. One that dexasm refuses has dexasm's own line on
-standard error, and the others go on. A method with so many registers and ways that it isn't looked at to its end has a
-line that says so.
+FILE is a .dex file or a listing, `-` or none at all standard input; or an archive, of which each classes*.dex is
+checked, or app.apk!classes2.dex. One without a classes*.dex is a line and status 3, unless --allow-empty is given. One
+that dexasm refuses has dexasm's own line on standard error, and the others go on. A method with so many registers and
+ways that it isn't checked to its end has a line that says so.
 
 Exit status: 0 no rule is broken, 1 one is, or a file is refused; 2 wrong words; 3 something can't be read, written or
-looked at to its end; 4 out of memory. Of several files it is the highest.
-"""
+checked to its end; 4 out of memory. Of several files it is the highest."""
 from __future__ import annotations
 
 import os

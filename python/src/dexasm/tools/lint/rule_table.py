@@ -11,12 +11,13 @@ SENTENCES = {
     "abstract-flags": "an abstract method is private, static, final, synchronized, native or strict too",
     "code-missing": "a method has no code, and isn't native or abstract",
     "code-unwanted": "a method has code, and is native or abstract",
-    "field-list": "a field stands among the static ones, and isn't, or the other way round",
-    "method-list": "a method stands among the direct ones, and isn't static, private, <init> or "
+    "field-list": "a field is in the list of static fields, and isn't static, or the other way "
+    "round",
+    "method-list": "a method is in the list of direct methods, and isn't static, private, <init> or "
     "<clinit>, or the other way round",
     "in-both-lists": "a method is direct and virtual",
     "method-name": "a method's name begins with <, and isn't <init> or <clinit>",
-    "constructor-signature": "<init> answers something, or <clinit> isn't ()V",
+    "constructor-signature": "<init> returns something, or <clinit> isn't ()V",
     "value-type": "a static field's value is of another type",
     "value-kind": "a static field's value is an enum, a field, a method or an array",
     "outs-size": "outs are more than 5 and more than registers",
@@ -59,7 +60,4 @@ SENTENCES = {
     "cast-type": "check-cast or instance-of names a primitive type",
     "ins-count": "the ins of a code aren't as many as the method's parameters take",
     "outs-short": "the outs of a code aren't enough for a call",
-    "--skip-boot": "takes a class of a package that the boot class path has (java, javax.net, "
-    "android, dalvik, sun, org.json ..) for one that isn't in the file, as a device "
-    "does, and doesn't look at its code",
 }  # fmt: skip

@@ -3,24 +3,24 @@
 usage: dexasm-merge [--same] [--fit] [--quiet] FILE.. --output OUT
        dexasm-merge --replace [--fit] [--quiet] FILE FILE.. --output OUT
 
-Each FILE is a .dex file or a listing, an archive, whose classes*.dex are meant, or app.apk!classes2.dex; `-` is standard
-input, and as OUT standard output. The classes stand in the order
-in which they are given, except that the superclass and the interfaces of a class are put before it, as the format asks.
-OUT is the file of the merged program as `dexasm assemble` writes it: like `dexasm strip`, this leaves out debug
-information and annotations. A line says how many, unless --quiet is given.
+Each FILE is a .dex file or a listing, an archive, whose classes*.dex are meant, or app.apk!classes2.dex; `-` is
+standard input, and as OUT standard output. The classes are in the order in which they are given, except that the
+superclass and the interfaces of a class are put before it, as the format requires. OUT is the file of the merged
+program as `dexasm assemble` writes it: like `dexasm strip`, this leaves out debug information and annotations. A line
+says how many, unless --quiet is given.
 
 A class that two files define is refused, and both files are named. With --same a class that is the same text in all of
 them is taken once. With --replace a class of a later file takes the place of the one before: `dexasm-merge --replace
-a.dex class.txt --output a.dex` puts back a class that `dexasm-query show` listed and somebody edited. A later file that
-replaces nothing is an error. Classes that are superclasses or interfaces of one another, round in a circle, have no order, and
-are refused by name. What doesn't fit into one file is refused with the number of the limit, the class and its file, and
-what goes beyond: 80 and 81 are too many types and prototypes, 82 to 84 strings, fields and methods that an instruction
-doesn't reach.
+a.dex class.txt --output a.dex` puts back a class that `dexasm-query show` listed and that was edited. A later file that
+replaces nothing is an error. Classes that are superclasses or interfaces of one another, round in a circle, have no
+order, and are refused by name. What doesn't fit into one file is refused with the number of the limit, the class and
+its file, and what goes beyond: 80 and 81 are too many types and prototypes, 82 to 84 strings, fields and methods that
+an instruction doesn't reach.
 
-With --fit longer instructions stand where 82 or 85 would be refused, that of one file too: const-string/jumbo for
+With --fit longer instructions are used where 82 or 85 would be refused, that of one file too: const-string/jumbo for
 strings beyond the 65,536th, goto/16 and goto/32 for a goto that doesn't reach, and an `if` around a goto/32 for an `if`
-that doesn't; payloads are aligned anew. (A listing that is refused for these has to be as `list` prints it.) A line says what was changed, and how often. Nothing else is, and what fits
-stays as it is.
+that doesn't; payloads are aligned again. (A listing that is refused for these has to be as `list` prints it.) A line
+says what was changed, and how often. Nothing else is, and what fits stays as it is.
 
 OUT is written by the command's own rules, once the whole answer is there. A refusal changes nothing, and OUT may be one
 of the files.

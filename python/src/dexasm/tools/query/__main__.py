@@ -12,29 +12,29 @@ usage: dexasm-query classes|strings|calls|fields [FILE]
   calls    each method of the file, and the methods that it calls, in the order of the code
   fields   each field of the file, and each other one that code names, with the methods that read and write it
   tables   the rows of the file's tables, in its order: of strings, types, protos, fields, methods or classes, all of
-           them where none is asked for; with --lines a line for each, its table, its index and what it says
+           them if none is named; with --lines a line for each, its table, its index and what it says
   show     the listing of these classes (LA; or com.x.A) or members (LA;->m()V, LA;->f:I, or LA;->m for all of that
-           name; m alone for those of all classes) alone, which can be assembled. In a NAME a * stands for any
-           characters and a ? for one: com.x.*, LA;->get*
+           name; m alone for those of all classes) alone, which can be assembled. In a NAME a * matches any characters
+           and a ? one: com.x.*, LA;->get*
   uses     of each NAME who has it, how and how often: who calls a method, reads or writes a field, names a class or has
            it in another name. NAME is as for `show`, but that a member has its class, and it needn't be of the file; a
            member is also what the file's classes inherit from there. With --strings each NAME is a text: who has it
   outside  each class that the file names and hasn't, with who names it, and its members with who names these; and of
            the file's own classes the members that they inherit from such a class
-  find     the classes, fields, methods and strings of the file, and those that it names, in which PATTERN stands; with
+  find     the classes, fields, methods and strings of the file, and those that it names, that contain PATTERN; with
            a * or a ? it is a pattern for all of the name or text. With --insns each PATTERN is a mnemonic (const-*) or
            a number (8332, 0x7f010000, -1): the instructions with it, and the fields with that initial value, by whom
            and how often
 
-With --addresses each line of `show` stands behind blanks, and an instruction behind its offset in the file and its
+With --addresses each line of `show` follows blanks, and an instruction behind its offset in the file and its
 address in units of 16 bits, both in hexadecimal, as dexdump has them. With --kinds a comment above an instruction says
 which registers have another kind there than above, as `dexasm-lint --code` follows them.
 
-All but `tables` walk the objects of the module for Python (dexasm.Program), so each query is a few lines. FILE may be
-a listing too; `tables` and addresses are then those of the file that dexasm makes of it. Of an archive all classes*.dex
-are one program; `tables` and addresses want one of them, app.apk!classes2.dex, where there are several. Names and strings are decoded
-alike: what a listing writes as an escape is the character here, and JSON writes it as its own escape. `access` has the
-words for flags.
+All but `tables` walk the objects of the module for Python (dexasm.Program), so each query is a few lines. FILE may be a
+listing too; `tables` and addresses are then those of the file that dexasm makes of it. Of an archive all classes*.dex
+are one program; `tables` and addresses want one of them, app.apk!classes2.dex, where there are several. Names and
+strings are decoded alike: what a listing writes as an escape is the character here, and JSON writes it as its own
+escape. `access` has the words for flags.
 
 Exit status: 0 done, 1 the file is refused, 2 wrong words, or a name that names nothing, 3 something can't be read or
 written, 4 out of memory.

@@ -14,7 +14,7 @@ column from code to unused, so all rows add up to the file.
   tables   rows of types, prototypes, fields, methods and classes, lists of types, class data; of the file its header
            and its map
   values   initial values of static fields
-  debug    debug information and annotations, as far as they can be followed: dexasm doesn't look at them
+  debug    debug information and annotations, as far as they can be followed: dexasm ignores them
   unused   names that the program doesn't need, and bytes that nothing refers to
   strip    what `dexasm strip` takes away: how many bytes fewer this row has in the stripped file
 
@@ -23,16 +23,16 @@ classes), names that none needs are the row (no class), and header, map and gaps
 its code and its debug information, if no other method has these too; all else of its class stays in the class's row. A
 string has its row and its item, and what is no string is one row.
 
-FILE, A and B may be archives: the rows are those of all their classes*.dex, added up by name; app.apk!classes2.dex is one
-of them alone. Of A and B each row that changed is shown, what changed most first, by names where two changed alike. The columns are
-the differences, with a sign; the bytes of the row before, in A, and after, in B; and what it did: it came, went, grew
-or shrank, or it moved, with as many bytes as before in other columns. Those that are as they were are one row. So the
-rows add up: before to A, after to B, and change to the difference of the two.
+FILE, A and B may be archives: the rows are those of all their classes*.dex, added up by name; app.apk!classes2.dex is
+one of them alone. Of A and B each row that changed is shown, what changed most first, by names where two changed alike.
+The columns are the differences, with a sign; the bytes of the row before, in A, and after, in B; and what it did: it
+came, went, grew or shrank, or it moved, with as many bytes as before in other columns. Those that are as they were are
+one row. So the rows add up: before to A, after to B, and change to the difference of the two.
 
 --sort COLUMN puts the rows in the order of that column, `name` by name; of A and B in that of its differences. --html
-OUT writes one page in place of the table, which needs nothing from the network: of FILE with a picture of the packages, their classes and
-what these consist of, and tables of the 2,000 largest that sort; of A and B with such tables by package, class, method
-and string.
+OUT writes one page in place of the table, which needs nothing from the network: of FILE with a picture of the packages,
+their classes and what these consist of, and tables of the 2,000 largest that sort; of A and B with such tables by
+package, class, method and string.
 
 --count has rows of the file's tables in place of bytes, of which a file can have 65,536 methods, fields and types: how
 many `methods` and `fields` the classes of each package have that the file names, how many of these methods it has
@@ -41,7 +41,7 @@ With B the columns are what B has more, and the number of methods before, in FIL
 
 --json and --csv have the rows that a table has, but for those that add others up. With --csv a cell that a spreadsheet
 could take for a formula has an apostrophe before it; --csv-raw is for programs that aren't spreadsheets. Of a string
-400 characters are told and how many it has, and in the name of a method 1,000 of the class, the name and the
+400 characters are printed and how many it has, and in the name of a method 1,000 of the class, the name and the
 parameters; what is alike then is one row.
 
 Exit status: 0 done, 1 a file is refused, 2 wrong words, 3 something can't be read or written, 4 out of memory.
