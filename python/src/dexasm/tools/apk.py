@@ -1,11 +1,11 @@
-"""Checks, lists, strips, takes out or exchanges each classes*.dex of an .apk, a .jar or another zip archive.
+"""Checks, lists, strips, extracts or replaces each classes*.dex of an .apk, a .jar or another zip archive.
 
 usage: dexasm-apk [--close] [--allow-empty] check|list|strip|extract ARCHIVE [FOLDER]
        dexasm-apk [--close] [--quiet] replace ARCHIVE FILE.. --output OUT
 
 check and list write the name of the .dex file before each line: `classes2.dex: ok`. With FOLDER the listings go to
 FOLDER/classes.txt and so on, one for each .dex file; strip and extract want it, and write FOLDER/classes.dex and so on,
-stripped or as it is (extract asks dexasm nothing, so a refused file is taken out too). What is
+stripped or as it is (extract does not validate, so a refused file is extracted too). What is
 refused, or can't be read out of the archive, is a line on standard error with the same name before it, and the others
 go on. Nothing else of the archive is read, and nothing outside FOLDER is written: a link there, a file with another
 name, and what is no file are lines too. After `--` a word is a file whatever it begins with.
@@ -28,7 +28,8 @@ the command's rules, once it is whole; ARCHIVE stays, unless it is OUT. If FILE 
 information than the entry that it replaces, a line says how much is dropped, unless --quiet is given.
 
 Exit status: 0, or the highest of dexasm's; 2 wrong words; 3 no archive, no classes*.dex in it, or one that can't be
-read or written."""
+read or written.
+"""
 from __future__ import annotations
 
 import contextlib

@@ -19,7 +19,8 @@ With --textconv it prints one file's listing with labels numbered so: for git, w
 status of its own, so that git keeps nothing of it.
 
 Exit status, as of diff: 0 the same program, 1 another one, 2 trouble: a file that is refused or can't be read, or wrong
-words. Two files that are refused are never the same. With --textconv: 0 done, 2 trouble."""
+words. Two files that are refused are never the same. With --textconv: 0 done, 2 trouble.
+"""
 from __future__ import annotations
 
 import difflib

@@ -22,7 +22,8 @@ end wait meanwhile. A run that is killed then leaves FOLDER/.dexasm-split/unfini
 dexasm-split has run again.
 
 Exit status: 0 done, 1 the listing or the file is refused, 2 wrong words, 3 something can't be read or written, 4 out of
-memory."""
+memory.
+"""
 from __future__ import annotations
 
 import contextlib

@@ -6,8 +6,8 @@ FOLDER/index.html opens in any browser, from the disk or from a web server, and 
 numbers, a picture of the packages (click one to go into it) and the largest methods and classes; a page for each class
 with the code of its methods as `dexasm list` prints it, in which each name and label is a link to its place, and each
 instruction follows its offset in the file and its address; of each member which others use it and what it calls; the
-strings, with where they are used; and a search over classes, members and strings. No page has two megabytes: what would
-be larger goes on in further pages, but a single line isn't cut.
+strings, with where they are used; and a search over classes, members and strings. Pages stay below two megabytes: what
+would be larger continues on further pages, but a single line isn't cut.
 
 FILE may be a listing too, or an archive: all its classes*.dex are one set of pages then, with their packages and
 classes by file, and a name leads to its class in whichever of them that is, of several to the first, which is the one

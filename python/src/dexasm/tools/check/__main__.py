@@ -1,4 +1,4 @@
-"""Says of many files whether dexasm accepts them, in lines for people or in a form for machines.
+"""Checks many files, and reports as text, JSON, SARIF, GitHub annotations or JUnit.
 
 usage: dexasm-check [--lint] [--explain] [--quiet] [--allow-empty] [--color auto|always|never] [--jobs N] [--seconds N]
                     [--memory SIZE] PATH..

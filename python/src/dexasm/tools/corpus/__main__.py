@@ -1,4 +1,4 @@
-"""Keeps what many .dex files have in a database, and asks it: which are one program, who holds a class, who calls.
+"""Indexes many .dex files in a database and queries it: which are one program, which have a class, what calls what.
 
 usage: dexasm-corpus add [--processes N] [--seconds N] [--memory SIZE] [--again] [--strict] [--allow-empty] DATABASE
                          PATH..
@@ -34,9 +34,9 @@ tables, views or triggers is refused; still, the content of a database is as tru
 
 Each file is read by one of --processes N workers (as many as there are processors) which may take --seconds N of its
 processor for it (60, or a fraction such as 0.5; ten times as much by the clock) and --memory SIZE (2G). A file at which
-it is stopped is a row with the status time, memory or killed, which --again reads again. What was killed goes on by the
-same command, and loses and doubles nothing. With --scheduler the workers are those of Dask, and --send sends them the
-bytes of the files, where they haven't got the folder. A process that replies at ADDRESS can run programs here and
+it is stopped is a row with the status time, memory or killed, which --again reads again. After an interruption run the
+same command again: nothing is lost or duplicated. With --scheduler the workers are those of Dask, and --send sends them
+the bytes of the files, where they haven't got the folder. A process that replies at ADDRESS can run programs here and
 there; so it is tls://, with the certificates of Dask's own configuration (distributed.comm.tls), or a tcp:// of this
 machine, 127.0.0.1 or localhost, at which another user of this machine could reply first. Any other one is taken with
 --trust only.

@@ -37,7 +37,7 @@ number and its address in units:
   a.txt:9:12: error: v3 holds a reference (java.lang.String, from line 7), and add-int takes an int (register-kind, B1)
   a.dex: LA;->m(I)V: 7 (0x0a): error: v3 holds ..
 
-A class that isn't in the file is taken as right, whatever is required of it; one that is, is taken as the file has it,
+A class that isn't in the file is assumed correct; one that is, is taken as the file has it,
 also where a device has its own of that name (--skip-boot). Code behind a handler of a class that a device may not find
 isn't checked, as then on the device. The rules:
 
@@ -92,7 +92,8 @@ that dexasm refuses has dexasm's own line on standard error, and the others go o
 ways that it isn't checked to its end has a line that says so.
 
 Exit status: 0 no rule is broken, 1 one is, or a file is refused; 2 wrong words; 3 something can't be read, written or
-checked to its end; 4 out of memory. Of several files it is the highest."""
+checked to its end; 4 out of memory. Of several files it is the highest.
+"""
 from __future__ import annotations
 
 import os

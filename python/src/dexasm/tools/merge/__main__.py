@@ -12,10 +12,9 @@ says how many, unless --quiet is given.
 A class that two files define is refused, and both files are named. With --same a class that is the same text in all of
 them is taken once. With --replace a class of a later file takes the place of the one before: `dexasm-merge --replace
 a.dex class.txt --output a.dex` puts back a class that `dexasm-query show` listed and that was edited. A later file that
-replaces nothing is an error. Classes that are superclasses or interfaces of one another, round in a circle, have no
-order, and are refused by name. What doesn't fit into one file is refused with the number of the limit, the class and
-its file, and what goes beyond: 80 and 81 are too many types and prototypes, 82 to 84 strings, fields and methods that
-an instruction doesn't reach.
+replaces nothing is an error. Cyclic inheritance is refused, with the names of the classes. What doesn't fit into one
+file is refused with the number of the limit, the class and its file, and what goes beyond: 80 and 81 are too many types
+and prototypes, 82 to 84 strings, fields and methods that an instruction doesn't reach.
 
 With --fit longer instructions are used where 82 or 85 would be refused, that of one file too: const-string/jumbo for
 strings beyond the 65,536th, goto/16 and goto/32 for a goto that doesn't reach, and an `if` around a goto/32 for an `if`

@@ -16,9 +16,10 @@ usage: dexasm-query classes|strings|calls|fields [FILE]
   show     the listing of these classes (LA; or com.x.A) or members (LA;->m()V, LA;->f:I, or LA;->m for all of that
            name; m alone for those of all classes) alone, which can be assembled. In a NAME a * matches any characters
            and a ? one: com.x.*, LA;->get*
-  uses     of each NAME who has it, how and how often: who calls a method, reads or writes a field, names a class or has
-           it in another name. NAME is as for `show`, but that a member has its class, and it needn't be of the file; a
-           member is also what the file's classes inherit from there. With --strings each NAME is a text: who has it
+  uses     references to each NAME, with kind and count: who calls a method, reads or writes a field, names a class or
+           has it in another name. NAME is as for `show`, but that a member has its class, and it needn't be of the
+           file; a member is also what the file's classes inherit from there. With --strings each NAME is a text: who
+           has it
   outside  each class that the file names and hasn't, with who names it, and its members with who names these; and of
            the file's own classes the members that they inherit from such a class
   find     the classes, fields, methods and strings of the file, and those that it names, that contain PATTERN; with

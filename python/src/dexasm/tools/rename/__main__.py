@@ -13,8 +13,9 @@ a class from outside should keep its own: a line says from which such classes a 
 A constructor keeps its name. A new name that a class, a member of the class or one above or below it already has is
 refused, and so is a class that the file only names.
 
---mapping takes back what R8 or ProGuard did: classes and members that are called as MAP has it on the right get the names
-on its left; with --forward it is the other way. What MAP has and FILE hasn't is left out, and a line says how much.
+--mapping undoes the renaming of R8 or ProGuard: classes and members that are called as MAP has it on the right get the
+names on its left; with --forward it is the other way. What MAP has and FILE hasn't is left out, and a line says how
+much.
 
 Texts are left as they are. Where one has an old name as a word, as reflection would have it, a line says which.
 
@@ -23,8 +24,8 @@ Members and classes stay in their order, so what is renamed and renamed back is 
 is given), by the command's own rules for OUT; FILE may be a listing too, `-` is standard input and output, and OUT may
 be FILE. A refusal changes nothing.
 
-Exit status: 0 done, 1 FILE is refused, or a name, 2 wrong words, or a name that names nothing, 3 something can't be read
-or written, 4 out of memory.
+Exit status: 0 done, 1 FILE is refused, or a name, 2 wrong words, or a name that names nothing, 3 something can't be
+read or written, 4 out of memory.
 """
 from __future__ import annotations
 

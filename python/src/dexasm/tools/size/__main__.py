@@ -40,8 +40,8 @@ many `methods` and `fields` the classes of each package have that the file names
 With B the columns are what B has more, and the number of methods before, in FILE, and after, in B.
 
 --json and --csv have the rows that a table has, but for those that add others up. With --csv a cell that a spreadsheet
-could take for a formula has an apostrophe before it; --csv-raw is for programs that aren't spreadsheets. Of a string
-400 characters are printed and how many it has, and in the name of a method 1,000 of the class, the name and the
+could take for a formula has an apostrophe before it; --csv-raw is for programs that aren't spreadsheets. Strings are
+cut at 400 characters and the length follows, and in the name of a method 1,000 of the class, the name and the
 parameters; what is alike then is one row.
 
 Exit status: 0 done, 1 a file is refused, 2 wrong words, 3 something can't be read or written, 4 out of memory.
