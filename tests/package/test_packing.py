@@ -53,7 +53,8 @@ class Packing(TestCase):
 
     def test_given(self) -> None:
         """A program named by --of is not called proved, also where tools/build puts its own."""
-        for given, is_given in ((("program", "library"), True), ((packages.PROGRAM, packages.LIBRARY), True), (None, False)):
+        own = packages.PROGRAM, packages.LIBRARY
+        for given, is_given in ((("program", "library"), True), (own, True), (None, False)):
             with (
                 self.subTest(given),
                 mock.patch.object(packages, "built", lambda: (packages.PROGRAM, packages.LIBRARY)),

@@ -90,11 +90,14 @@ class Close(HelperTest):
         got = tool("dexasm-close", "-q", "--in-place", "link", at=at)
         is_so = got == (0, "", "") and os.path.islink(os.path.join(at, "link")) and get(at, "sp ace") == good
         self.check("dexasm-close, a link stays one", is_so, got)
-        for words in (("none", "--in-place"), (".", "--in-place"), ("sp ace", "--output", "none/out"), ("sp ace", "--output", ".")):
+        for words in (
+            ("none", "--in-place"), (".", "--in-place"), ("sp ace", "--output", "none/out"), ("sp ace", "--output", "."),
+        ):  # fmt: skip
             got = tool("dexasm-close", *words, at=at)
             self.check(f"dexasm-close {words}", got[:2] == (3, "") and is_one_line(got[2], "dexasm-close: "), got)
         put(at, "a", good)
-        for words in ((), ("a",), ("a", "b"), ("--in-place", "a", "--output", "b"), ("--in-place", "--check", "a"), ("--check", "a", "--output", "b"), ("--chek", "a"), (f"--{ESC}[31m",)):
+        both = ("--in-place", "a", "--output", "b"), ("--in-place", "--check", "a")
+        for words in (*both, (), ("a",), ("a", "b"), ("--check", "a", "--output", "b"), ("--chek", "a"), (f"--{ESC}[31m",)):
             got = tool("dexasm-close", *words, at=at)
             self.check(f"dexasm-close {words!r}", got[:2] == (2, "") and ESC not in got[2] and "usage: " in got[2], got)
         got = tool("dexasm-close", "sp ace", "--output", "out", at=at, most=64)

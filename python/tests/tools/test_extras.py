@@ -8,7 +8,8 @@ from .archives import archive
 from .rooms import HEAD, HelperTest, assembled, get, put, room, tool
 from .signed import resigned
 
-TEXT = HEAD + b"class LA; 0x1\nsuper Ljava/lang/Object;\ndirect m ()V 0x9\ncode 0 0 0\nreturn-void\nend code\nend class\n"
+TEXT = HEAD + b"class LA; 0x1\nsuper Ljava/lang/Object;\ndirect m ()V 0x9\ncode 0 0 0\nreturn-void\nend code\n"
+TEXT += b"end class\n"
 DEBUG = b"\1\0\0"  # a line_start, no names of parameters, and the end
 BUILD, RUNTIME, SYSTEM = 0, 1, 2
 FILE_SIZE, CLASSES, DATA_SIZE = 32, 100, 104

@@ -200,10 +200,10 @@ class Inputs(HelperTest):
 
 class Memory(HelperTest):
     def test_little(self) -> None:
-        """Less memory than a helper's modules need: never status 1, which means refused, and a last line that says so."""
+        """Less memory than a helper's modules need: never status 1, which means refused, and a last line."""
         at = room("little memory")
         put(at, "a.dex", assembled(A))
-        words = ("check a.dex", "query classes a.dex", "corpus add c.db a.dex", "browse a.dex --output out", "lint a.dex")
+        words = "check a.dex", "query classes a.dex", "corpus add c.db a.dex", "browse a.dex -o out", "lint a.dex"
         for kilobytes in range(16500, 26000, 1500):
             for word in words:
                 status, out, said = shell(f"ulimit -v {kilobytes}; dexasm-{word}", at)
@@ -318,7 +318,7 @@ class Replacing(HelperTest):
             ("no archive", b"no archive", ["classes.dex"], 3, "no zip archive can be read"),
             ("a cut one", good[:-9], ["classes.dex"], 3, "no zip archive can be read"),
             *(
-                (f"flag bit {bit}", changed(good, "classes.dex", *FLAGS, 1 << bit), ["classes.dex"], 3, "it is encrypted")
+                (f"flag {bit}", changed(good, "classes.dex", *FLAGS, 1 << bit), ["classes.dex"], 3, "it is encrypted")
                 for bit in (0, 5, 6, 13)
             ),
         ):

@@ -1,4 +1,4 @@
-"""Annotations and debug information of .dex files, which dexasm never writes: how many there are, and what is dropped."""
+"""Annotations and debug information of .dex files, which dexasm never writes: counts, and what is dropped."""
 from __future__ import annotations
 
 from typing import NamedTuple
@@ -35,8 +35,8 @@ class Extras(NamedTuple):
 
 
 class Counter:
-    """Counts the extras of a file that dexasm accepts. It does not check annotations, so they can be anything: each item
-    is read once, and only a few bytes for each byte of the file.
+    """Counts the extras of a file that dexasm accepts. It does not check annotations, so they can be anything: each
+    item is read once, and only a few bytes for each byte of the file.
     """
 
     def __init__(self, data: bytes) -> None:

@@ -154,7 +154,7 @@ def digest(text: str | bytes) -> int:
 
 
 def database_uri(path: str, mode: str) -> str:
-    """The URI by which SQLite opens this file, also one named `:memory:` or `file:..`, if the files beside it are safe."""
+    """The URI by which SQLite opens this file, also one named `:memory:`, if the files beside it are safe."""
     check_side_files(path)
     return f"file:{quote(os.path.join(os.getcwdb(), os.fsencode(path)))}?mode={mode}"
 
@@ -173,7 +173,8 @@ def check_side_files(path: str) -> None:
             continue
         shown = escaped((database if os.path.islink(path) else path) + suffix)
         if suffix == "-journal":
-            raise Failed(f"{shown}: a rollback journal, which SQLite would apply; remove it if you do not know its origin")
+            why = "a rollback journal, which SQLite would apply; remove it if you do not know its origin"
+            raise Failed(f"{shown}: {why}")
         if not stat.S_ISREG(found.st_mode) or found.st_nlink > 1:
             raise Failed(f"{shown}: not a regular file with one name, and SQLite would write into it; remove it")
         if found.st_uid not in owners:

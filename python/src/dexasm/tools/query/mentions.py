@@ -174,7 +174,7 @@ def find(program: Program, asked: list[str]) -> dict[str, list[str]]:
 # ---- find --insns
 
 NUMBER = re.compile(r"-?(?:0x[0-9A-Fa-f]{1,16}|[0-9]{1,20})")
-HIGH = {"const/high16": 16, "const-wide/high16": 48}  # by how much a literal is shifted in the number that it stands for
+HIGH = {"const/high16": 16, "const-wide/high16": 48}  # how far a literal is shifted in its number
 INTEGERS = ("byte", "short", "char", "int", "long")
 
 
