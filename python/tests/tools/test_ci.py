@@ -128,7 +128,7 @@ class ReadmeLine(HelperTest):
     """The build that README's line has to stop, and the one that goes on."""
 
     def is_stopped(self, what: str, seen: Ended, at: str = "") -> None:
-        self.check(f"README's line, {what}", seen[0] > 0 and seen[1] == "" and "Traceback" not in seen[2], seen)
+        self.check(f"README's line, {what}", seen[0] != 0 and seen[1] == "" and "Traceback" not in seen[2], seen)
         if at:
             document = json.loads(get(at, "dexasm.sarif"))
             found, run_of = document["runs"][0]["results"], document["runs"][0]["invocations"][0]
