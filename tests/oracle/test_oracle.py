@@ -55,11 +55,11 @@ class Vectors(TestCase):
                          dict(sorted(vectors.contents().items())))
 
     def test_errors(self) -> None:
-        """docs/ERRORS.md has a section for each fault, and for each vector that is refused its line."""
+        """docs/ERRORS.md has a section for each fault, and the line of the vector that is named by it."""
         with open(os.path.join(DOCS, "ERRORS.md"), encoding="utf8") as page:
             text = page.read()
         sections = {int(number): name for number, name in re.findall(r"^### (\d+) (\w+)$", text, re.M)}
         self.assertEqual(sections, {number: name for table in NUMBERS.values() for name, number in table.items()})
-        refused = [one for one in vectors.vectors() if one.expected != "ok"]
+        refused = [one for one in vectors.vectors() if re.fullmatch(r"\d+-\w+\.\w+", one.name)]
         shown = [f"[{one.name}](../tests/vectors/{one.name}), `dexasm {one.command}`:\n  `{one.expected}`" for one in refused]
         self.assertEqual([line for line in shown if line not in text], [])

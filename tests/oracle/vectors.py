@@ -1,10 +1,12 @@
-"""Test vectors, tests/vectors: for each fault a small input and the line that is expected, for readers in any language.
+"""Test vectors, tests/vectors: small inputs and the line that is expected of each, for readers in any language. Each fault
+has one that is named by it alone; the other worked examples are named by what they are too.
 
 `python3 -m tests.oracle.vectors`, at the top of the repository, writes the folder from the worked examples (whose
 answers are worked out by hand from docs/FORMAT.md and docs/LISTING.md) and from those below. The test in test_oracle.py
 fails if the folder isn't as it would be written.
 """
 import os
+import re
 import shutil
 import struct
 import zlib
@@ -18,7 +20,8 @@ from .pages import Refusal
 from .textexamples import text_examples
 
 FOLDER = os.path.join(TOP, "tests", "vectors")
-LARGEST = 300_000  # bytes of an input
+LARGEST = 300_000  # bytes of a fault's smallest input
+SMALL = 4096  # bytes of the others
 HEAD = """# Each line is NAME COMMAND: STATUS LINE. `dexasm COMMAND NAME` exits with STATUS and prints LINE: `ok` on standard output,
 # or a refusal on standard error. COMMAND is check for a .dex file and assemble for a listing. The rules are those of
 # docs/FORMAT.md and docs/LISTING.md. No listing breaks 111; the limits 80 to 84 and 87 to 90 need much larger inputs.
@@ -64,6 +67,9 @@ def more_files() -> Iterator[Example]:
     yield "a class V", changed(ONE_METHOD, (0xA0, "02000000")), ("ClassKind", 0xA0)
     yield "a method of the superclass", changed(ONE_METHOD, (0x98, "0100")), ("MemberOwner", 0xA0)
     yield "a string past the table in code", with_code(bytes.fromhex("1a0004000e00")), ("OperandIndex", 0xD0)
+    yield "a class its own superclass", changed(ONE_METHOD, (0xA8, "00000000")), ("ClassOrder", 0xA0)
+    yield "three units of an array, of width 3", with_code(bytes.fromhex("000303000000")), ("Cut", 0xD0)
+    yield "an array of width 3", with_code(bytes.fromhex("0003030000000000")), ("Payload", 0xD0)
     yield from more_tables()
 
 
@@ -88,21 +94,43 @@ def smallest(found: dict[int, Vector], number: int, one: Vector) -> None:
         found[number] = one
 
 
-def vectors() -> list[Vector]:
-    """The smallest input for each fault, and some that are accepted."""
-    files, texts = dict[int, Vector](), dict[int, Vector]()
-    for _, data, answer in [*examples(), *more_files()]:
-        if answer:
-            refusal = Refusal("file", *answer)
-            name = f"{refusal.number:03}-{refusal.name}.dex"
-            smallest(files, refusal.number, Vector(name, "check", data, str(refusal).rstrip("\n")))
+def of_files() -> Iterator[Vector]:
+    """The smallest file for each fault, and the other small ones."""
+    found, others = dict[int, Vector](), list[Vector]()
+    for what, data, answer in [*examples(), *more_files()]:
+        refusal = Refusal("file", *answer) if answer else None
+        name = f"{refusal.number:03}-{refusal.name}" if refusal else "ok"
+        expected = str(refusal).rstrip("\n") if refusal else "ok"
+        if refusal:
+            smallest(found, refusal.number, Vector(f"{name}.dex", "check", data, expected))
+        if len(data) <= SMALL:
+            others.append(Vector(f"{name}-{slug(what)}.dex", "check", data, expected))
+    yield from found.values()
+    known = {one.data for one in found.values()} | {NO_CLASSES, ONE_METHOD}
+    yield from (one for one in others if one.data not in known)
+
+
+def slug(what: str) -> str:
+    """What an example is, as a part of a name."""
+    return re.sub(r"[^a-z0-9]+", "-", what.lower()).strip("-")
+
+
+def of_texts() -> Iterator[Vector]:
+    """The smallest listing for each fault."""
+    found = dict[int, Vector]()
     for _, data, is_aligned, fault in text_examples(False):
         if fault and not is_aligned:
             refusal = Refusal(*fault)
             name = f"{refusal.number:03}-{refusal.name}.txt"
-            smallest(texts, refusal.number, Vector(name, "assemble", data, str(refusal).rstrip("\n")))
+            smallest(found, refusal.number, Vector(name, "assemble", data, str(refusal).rstrip("\n")))
+    yield from found.values()
+
+
+def vectors() -> list[Vector]:
+    """All of them: those of two files that are accepted, then the others by name."""
     accepted = [("no-classes.dex", NO_CLASSES), ("one-method.dex", ONE_METHOD)]
-    return [Vector(name, "check", data, "ok") for name, data in accepted] + sorted([*files.values(), *texts.values()])
+    others = {one.name: one for one in (*of_files(), *of_texts())}
+    return [Vector(name, "check", data, "ok") for name, data in accepted] + sorted(others.values())
 
 
 def manifest(found: list[Vector]) -> str:

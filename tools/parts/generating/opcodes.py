@@ -51,9 +51,9 @@ listing. Written by `tools/generate` from `crates/dex_insn/src/opcodes.rt`.
 
 ## Formats
 
-The first unit is on the left, and in each unit the high bits are. A letter is four bits, `00` must be zero, `op` is the
-opcode. An index is that of a row of the table that the opcode names. A target counts units from the first unit of the
-instruction.
+The first unit is on the left, and so are the high bits of each unit. A letter is four bits, `00` must be zero, `op` is
+the opcode. An index is that of a row of the table that the opcode names. A target counts units from the first unit of
+the instruction.
 
 | Format | Units | Operands |
 |---|---|---|
