@@ -76,7 +76,7 @@ PROVED = "DEXASM=proved "
 
 def line_of_readme() -> str:
     """The line that README has for CI, but without DEXASM=proved, by which a build that isn't proved stops it."""
-    lines = [line for line in get(TOP, "README.md").decode().splitlines() if line.endswith("> dexasm.sarif || exit")]
+    lines = [line for line in get(TOP, "README.md").decode().splitlines() if line.endswith("> dexasm.sarif || exit 1")]
     assert len(lines) == 1 and lines[0].startswith(PROVED)
     return lines[0].removeprefix(PROVED)
 
@@ -128,7 +128,7 @@ class ReadmeLine(HelperTest):
     """The build that README's line has to stop, and the one that goes on."""
 
     def is_stopped(self, what: str, seen: Ended, at: str = "") -> None:
-        self.check(f"README's line, {what}", seen[0] != 0 and seen[1] == "" and "Traceback" not in seen[2], seen)
+        self.check(f"README's line, {what}", seen[:2] == (1, "") and "Traceback" not in seen[2], seen)
         if at:
             document = json.loads(get(at, "dexasm.sarif"))
             found, run_of = document["runs"][0]["results"], document["runs"][0]["invocations"][0]

@@ -234,6 +234,7 @@ class CorpusRuns(CorpusTest):
         at = room("corpus held")
         put(at, "a.dex", assembled(LISTING))
         db = sqlite3.connect(os.path.join(at, "c.db"), isolation_level=None)
+        db.execute("pragma journal_mode = memory")  # (as dexasm-corpus has it; a journal beside it would be refused)
         db.execute("begin immediate")
         running = begun(at, "add", "c.db", "a.dex")
         time.sleep(1)

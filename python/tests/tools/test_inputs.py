@@ -128,7 +128,7 @@ class Inputs(HelperTest):
         self.check_equal("dexasm-merge, all", get(at, "m.dex"), get(at, "n.dex"))
         for words in ("query tables two.apk", "query show --addresses two.apk LA;", "split two.apk cut"):
             self.is_told(words, 2, "two.apk: it has 2 .dex files: name one, as two.apk!classes.dex", at)
-        self.is_told("close two.apk!classes.dex", 2, "--output says where it goes", at)
+        self.is_told("close --in-place two.apk!classes.dex", 2, "--output says where it goes", at)
         seen = tool("dexasm-explain", "two.apk", given=b"classes2.dex: dexasm: refused 8 Checksum at 8\n", at=at)
         self.check("dexasm-explain, by its entry", seen[0] == 0 and "  Hint: it is " in seen[1], seen)
         seen = tool("dexasm-explain", "two.apk", given=b"dexasm: refused 2 Magic at 0\n", at=at)
@@ -203,7 +203,7 @@ class Memory(HelperTest):
         """Less memory than a helper's modules need: never status 1, which means refused, and a last line."""
         at = room("little memory")
         put(at, "a.dex", assembled(A))
-        words = "check a.dex", "query classes a.dex", "corpus add c.db a.dex", "browse a.dex -o out", "lint a.dex"
+        words = "check a.dex", "query classes a.dex", "corpus add c.db a.dex", "browse a.dex --output out", "lint a.dex"
         for kilobytes in range(16500, 26000, 1500):
             for word in words:
                 status, out, said = shell(f"ulimit -v {kilobytes}; dexasm-{word}", at)

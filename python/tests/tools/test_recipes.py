@@ -174,7 +174,7 @@ class Recipes(HelperTest):
             seen = [shell(with_names(line, name), at) for line in (explain, close, strip)]
             is_so = "refused 9 Signature" in seen[0][1] and "signed as D8 before 1.6.20 wrote it" in seen[0][1]
             self.check(f"README, {explain}", is_so, seen)
-            is_so = seen[1:] == [(0, "", "")] * 2 and get(at, f"{name}b.dex") == file
+            is_so = seen[1][:2] == (0, "") and seen[2] == (0, "", "") and get(at, f"{name}b.dex") == file
             self.check(
                 f"README, {close}; {strip}", is_so and get(at, f"{name}c.dex") == dexasm("strip", given=file), seen
             )
