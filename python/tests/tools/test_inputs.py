@@ -128,7 +128,7 @@ class Inputs(HelperTest):
         self.check_equal("dexasm-merge, all", get(at, "m.dex"), get(at, "n.dex"))
         for words in ("query tables two.apk", "query show --addresses two.apk LA;", "split two.apk cut"):
             self.is_told(words, 2, "two.apk: it has 2 .dex files: name one, as two.apk!classes.dex", at)
-        self.is_told("close --in-place two.apk!classes.dex", 2, "--output says where it goes", at)
+        self.is_told("close --in-place two.apk!classes.dex", 2, "use --output", at)
         seen = tool("dexasm-explain", "two.apk", given=b"classes2.dex: dexasm: refused 8 Checksum at 8\n", at=at)
         self.check("dexasm-explain, by its entry", seen[0] == 0 and "  Hint: it is " in seen[1], seen)
         seen = tool("dexasm-explain", "two.apk", given=b"dexasm: refused 2 Magic at 0\n", at=at)
