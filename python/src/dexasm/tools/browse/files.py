@@ -5,6 +5,7 @@ from bisect import bisect_right
 from collections.abc import Iterable, Iterator
 
 from dexasm.tools.asking import ask, dex_from, listed, together
+from dexasm.tools.basis import FAILED, Failed
 from dexasm.tools.helper import say
 from dexasm.tools.layout import KINDS, Dex, Tables, addresses, code_sizes
 from dexasm.tools.sizes import rows_of
@@ -27,6 +28,8 @@ class File:
     def measure(self, prog: str) -> None:
         """Its bytes: by class and what is no class's, and of each method that has code."""
         stripped = ask("strip", given=self.data)
+        if stripped.status == FAILED:
+            raise Failed(f"{self.name}: {stripped.last()}")
         if stripped.status:
             say(f"{prog}: {self.name}: it can't be stripped, so nothing is said of that: {stripped.last()}")
         dex = Dex(self.data)
