@@ -20,7 +20,7 @@ from typing import Any
 
 import dexasm
 from dexasm import ArrayData, Catch, Class, Code, Field, FieldRef, Insn, Label, Method, MethodRef, PackedSwitch, Program
-from dexasm import Proto, Refused, SparseSwitch, Try, Type, Value, formats
+from dexasm import Proto, Refused, SparseSwitch, Try, Type, Value, code, formats
 from tests import TOP, sought, tried
 from . import edits
 from .edits import is_accepted, made_files
@@ -536,6 +536,18 @@ class Words(ObjectsTest):
                 self.check("a text of another kind", False, dexasm.assemble(text))
             except Refused as refused:
                 self.check("a text of another kind", refused.number == 100, refused)
+
+
+class Kept(ModuleTest):
+    def test_long_lines(self) -> None:
+        """Lines are kept for the next such line, but no long ones: a file can't make the module large."""
+        for length, is_kept in ((10, True), (1000, False)):
+            line = f'const-string v0 "{"k" * length}"'
+            listing = f"dex 035 listing 2\nclass LA; 1\ndirect m ()V 9\ncode 1 0 0\n{line}\nreturn-void\nend code\nend class\n"
+            found = Program.parse(listing)["LA;"].method("m()V").code
+            texts = [insn.text for insn in found.insns] if found else []
+            self.check_equal(f"text of {length}", texts, ["k" * length, None])
+            self.check_equal(f"kept, {length}", line in code._LINES, is_kept)
 
 
 class Changes(ObjectsTest):

@@ -294,28 +294,31 @@ class Code:
 # ---- reading
 
 _NEW = Insn.__new__
-_MOST_KEPT = 1 << 15
+_MOST_KEPT, _LONGEST_KEPT = 1 << 15, 256  # lines or words, and characters of one
 
 Words = list[str]
 Read = tuple[str, tuple[int, ...], int | None, Type | FieldRef | MethodRef | None, str | None, int | None]
 
 
 class _Kept(dict[str, Any]):
-    """What words say, each read once; it forgets all when it is full, so that no file makes it large."""
+    """The meaning of words, each read once. It drops all when it is full and keeps no long ones: no file makes it large.
+    """
 
     def __init__(self, read: Callable[[str], Any]) -> None:
         self.read = read
 
     def __missing__(self, word: str) -> Any:
-        if len(self) >= _MOST_KEPT:
-            self.clear()
-        found = self[word] = self.read(word)
+        found = self.read(word)
+        if len(word) <= _LONGEST_KEPT:
+            if len(self) >= _MOST_KEPT:
+                self.clear()
+            self[word] = found
         return found
 
 
 _REGISTERS = _Kept(lambda word: int(word[1:]))
 _OPERANDS = _Kept(operand_of)
-_LINES: dict[str, Read] = {}  # what lines without a label say
+_LINES: dict[str, Read] = {}  # the meaning of lines without a label
 
 
 @of_listing
@@ -410,10 +413,11 @@ def _keep(
     text: str | None = None,
     count: int | None = None,
 ) -> Insn:
-    """An instruction of a line without a label, which the next such line says too."""
-    if len(_LINES) >= _MOST_KEPT:
-        _LINES.clear()
-    _LINES[line] = mnemonic, registers, literal, name, text, count
+    """Return the instruction of a line without a label, and keep it for the next such line."""
+    if len(line) <= _LONGEST_KEPT:
+        if len(_LINES) >= _MOST_KEPT:
+            _LINES.clear()
+        _LINES[line] = mnemonic, registers, literal, name, text, count
     return _fill(_NEW(Insn), mnemonic, registers, literal, None, name, text, count)
 
 
