@@ -43,13 +43,11 @@ FAULTS = {
 
 # What the texts don't say.
 OUT_PART = (
-    "The output while it is being written, beside OUT (.1.part and so on if that name is taken). It replaces OUT when it is complete. An OUT that "
-    "can't be replaced, such as a file with several names or a mount point, is overwritten once this file is complete; if the bytes don't fit there, "
-    "this file stays, complete. A run that is killed may leave it: you can delete it, but where OUT can't be replaced (several names, a mount point, "
-    "another user's file in a sticky folder) it may be the only whole copy, so look first which of the two is whole. A device, a pipe, a link to nothing and a file in a folder that takes no new "
-    "file are written in place, without it. Nobody but its owner may open it until it has OUT's mode. OUT loses its access control list and extended "
-    "attributes, and its group gets the permissions of the list's mask; to keep them, let the shell write: 'dexasm strip FILE > OUT'. What replaces a "
-    "file is synced to the disk first, which takes some milliseconds; under a new name nothing waits for the disk."
+    "The output while it is being written, beside OUT (.1.part and so on if that name is taken). It replaces OUT when it is complete, or, if OUT cannot "
+    "be replaced (several hard links, a mount point, another user's file in a sticky folder), OUT is then overwritten. A run that is killed may leave "
+    "it: in these cases it may be the only complete copy, otherwise it can be deleted. OUT loses its access control list and extended attributes; to "
+    "keep them, let the shell write: 'dexasm strip FILE > OUT'. A file that is replaced is synced to the disk first, which takes some milliseconds. "
+    "SECURITY.md has the exceptions."
 )
 # What the launcher of a repository heeds.
 PROVED = (

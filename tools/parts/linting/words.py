@@ -31,7 +31,6 @@ GENERATED = {"docs/DEFINITIONS.md", "docs/FILES.md"}
 # Where a word is defined or quoted, by page: a part of the line that has it.
 EXCEPTIONS = {
     "docs/FORMAT.md": ("| spells |", "| stands |", "| holds, breaks |"),  # the table that defines them, for the specs
-    "docs/man/dexasm.1": ("Nobody but its owner",),  # the help of the proved command, crates/dexasm_plan
 }
 
 
