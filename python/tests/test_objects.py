@@ -21,7 +21,7 @@ from typing import Any
 import dexasm
 from dexasm import ArrayData, Catch, Class, Code, Field, FieldRef, Insn, Label, Method, MethodRef, PackedSwitch, Program
 from dexasm import Proto, Refused, SparseSwitch, Try, Type, Value, code, formats
-from tests import TOP, sought, tried
+from tests import TOP, tried
 from . import edits
 from .edits import is_accepted, made_files
 from .harm import EVIL, MEMBERS, MNEMONICS, WRONG
@@ -736,6 +736,26 @@ class Changes(ObjectsTest):
         self.check_equal("where there is no program", str(Refused(8, "Checksum", 8)), "refused 8 Checksum at 8")
 
 
+# Commands over the programs of docs/cookbook, and what they print.
+COOKBOOK = (
+    ("python3 make-hello.py hello.dex", ""),
+    ("wc -c <hello.dex", "620\n"),
+    ("cp hello.dex broken.dex; printf 'X' | dd of=broken.dex bs=1 seek=200 conv=notrunc status=none", ""),
+    (
+        "python3 verdict.py hello.dex broken.dex",
+        "hello.dex: ok\nbroken.dex: 8 Checksum at 8\nError: 1 refused\n",
+    ),
+    (
+        "python3 callers.py hello.dex 'Ljava/io/PrintStream;->println(Ljava/lang/String;)V'",
+        "LMain;->main([Ljava/lang/String;)V\n",
+    ),
+    ("python3 retext.py hello.dex hello 'good evening, \"all\"' evening.dex", ""),
+    ("python3 verdict.py evening.dex", "evening.dex: ok\n"),
+    ("python3 changed.py hello.dex evening.dex", "changed LMain;\n"),
+    ("python3 changed.py hello.dex hello.dex", ""),
+)
+
+
 class Pages(ObjectsTest):
     """The pages of the module, and its types."""
 
@@ -785,28 +805,18 @@ class Pages(ObjectsTest):
             self.check("mypy of a wrong use", seen.startswith("wrong.py:8: error: ") and "Found 1 error" in seen, seen)
 
     def test_cookbook(self) -> None:
-        """The cookbook's programs, by its sessions, in the order of the page."""
-        blocks = page("docs/COOKBOOK-PYTHON.md")
-        programs = {sought(r'^"""([\w-]+)', text)[1]: text for kind, text in blocks if kind == "python"}
-        sessions = [
-            step.split("\n", 1)
-            for kind, text in blocks
-            if kind == "console"
-            for step in re.split(r"^\$ ", text, flags=re.M)[1:]
-        ]
-        self.check("COOKBOOK-PYTHON: five programs", len(programs) == 5, [*programs])
-        self.check(
-            "COOKBOOK-PYTHON: each is run", all(any(f"{name}.py" in it[0] for it in sessions) for name in programs)
-        )
+        """The cookbook's programs, each on what those before it made."""
+        folder = os.path.join(TOP, "docs", "cookbook")
+        names = {name for name in os.listdir(folder) if name.endswith(".py")}
+        self.check_equal("cookbook: each program is run", names, {name for step in COOKBOOK for name in names if name in step[0]})
         with tempfile.TemporaryDirectory() as at:
             os.mkdir(f"{at}/bin")
             os.symlink(sys.executable, f"{at}/bin/python3")
-            for name, text in programs.items():
-                with open(f"{at}/{name}.py", "w", encoding="utf8") as file:
-                    file.write(text)
-            for command, want in sessions:
+            for name in names:
+                shutil.copy(f"{folder}/{name}", at)
+            for command, want in COOKBOOK:
                 seen = run(["bash", "-c", command], at)
-                self.check_equal(f"COOKBOOK-PYTHON: {command}", seen, want)
+                self.check_equal(f"cookbook: {command}", seen, want)
 
 
 class Laws(ModuleTest, edits.LawsTest):

@@ -1,5 +1,6 @@
 """The binding for Java beside the command: the class Dexasm in one process, the jar as command, a library or a JNA that
 isn't there, the places of refusals, and the examples."""
+import glob
 import os
 import re
 import shutil
@@ -25,7 +26,19 @@ WORDS: tuple[tuple[str | bytes, ...], ...] = (
     ("list", "FILE", "--output", "a+b %41"), ("--version",), ("-V", "check"), ("check", "FILE", "-V"),
 )  # fmt: skip
 HOSTILE = ("check", "--\x1b[31m\n\u202e\x07")
-COOKBOOK = "docs/COOKBOOK-JAVA.md"
+# Commands over the programs of docs/cookbook, in their order, and what they print.
+COOKBOOK = (
+    ("MakeHello hello.dex", ""),
+    ("Verdict hello.dex broken.dex", "hello.dex: ok\nbroken.dex: 8 Checksum at 8\n"),
+    (
+        "Callers hello.dex 'Ljava/io/PrintStream;->println(Ljava/lang/String;)V'",
+        "LMain;->main([Ljava/lang/String;)V\n",
+    ),
+    ("Retext hello.dex hello 'good evening, \"all\"' evening.dex", ""),
+    ("Verdict evening.dex", "evening.dex: ok\n"),
+    ("Changed hello.dex evening.dex", "changed LMain;\n"),
+    ("Changed hello.dex hello.dex", ""),
+)
 # A library of another version, or with a call too few; and one whose strip says that the answer is 2^40 bytes long, and
 # whose list is out of memory.
 VERSION_ELSE = """#include <stddef.h>
@@ -53,10 +66,11 @@ def blocks(page: str, kind: str) -> list[str]:
 
 
 def programs() -> dict[str, str]:
-    """The programs of the pages and of the class's comment, by the class's name."""
+    """The programs of the binding's page, the class's comment and the cookbook, by the class's name."""
     with open(f"{JAVA}/src/dexasm/Dexasm.java", encoding="utf8") as file:
         comment = sought(r"<pre>\{@code\n(.*?)^ \* \}</pre>", file.read(), re.S | re.M)[1]
-    texts = [text for page in ("bindings/java/README.md", COOKBOOK) for text in blocks(page, "java")]
+    texts = blocks("bindings/java/README.md", "java")
+    texts += [get(path).decode() for path in sorted(glob.glob(os.path.join(glob.escape(TOP), "docs/cookbook/*.java")))]
     texts.append(re.sub(r"^ \* ?", "", comment, flags=re.M))
     return {sought(r"public class (\w+)", text)[1]: text for text in texts}
 
@@ -247,11 +261,14 @@ class JavaBinding(JavaTest):
             put(f"{folder}/{name}.java", text.encode())
         jars_of_dexasm.javac(folder, sorted(f"{folder}/{name}" for name in os.listdir(folder)), self.java.jar)
         os.symlink(self.java.jar, f"{folder}/dexasm.jar")
-        for text in blocks(COOKBOOK, "console"):
-            for step in re.split(r"^\$ ", text, flags=re.M)[1:]:
-                line, _, want = step.partition("\n")
-                status, out, said = run("bash", "-c", line, cwd=folder, env=self.java.env)
-                self.check(f"Java: the cookbook's {line}", out.decode() + said == want, f"{status} {out!r} {said!r}")
+        for line, want in COOKBOOK:
+            command = f"java -cp .:dexasm.jar {line}"
+            status, out, said = run("bash", "-c", command, cwd=folder, env=self.java.env)
+            self.check(f"Java: the cookbook's {line}", out.decode() + said == want, f"{status} {out!r} {said!r}")
+            if line.startswith("MakeHello"):
+                made = get(f"{folder}/hello.dex")
+                self.check_equal("Java: the cookbook's hello.dex has as many bytes as the page says", len(made), 620)
+                put(f"{folder}/broken.dex", made[:200] + b"X" + made[201:])
         by, small = f"{folder}{os.pathsep}{self.java.jar}", f"{folder}/small.dex"
         got = self.java.run(*QUICK, "-cp", by, "StripOne", self.right, small)
         is_so = got == (0, b"", "") and get(small) == run(self.java.program, "strip", self.right)[1]
