@@ -364,7 +364,7 @@ class Corpus(CorpusTest):
         put(at, "g.dex", padded(get(at, "f/a.dex")))
         self.added("for RECIPES", at, "corpus.db", "f", "g.dex")
         found = re.findall(r"^ask \"([^\"]*)\"", blocks("docs/RECIPES.md")["A corpus"][1], re.M)
-        self.check_equal("RECIPES: queries of a corpus", len(found), 12)
+        self.check_equal("RECIPES: queries of a corpus", len(found), 9)
         for words in found:
             self.check(f"RECIPES: {words[:60]}", len(rows(at, words, "corpus.db")) > 0)
         schema = sought(r"```sql\n(.*?)```", get(TOP, "docs/CORPUS.md").decode(), re.S)[1]
@@ -379,11 +379,11 @@ class Corpus(CorpusTest):
         """The commands of RECIPES as they stand there, in a folder of evil names; those for Slurm by a sbatch of
         ours."""
         at, recipes = os.path.join(room("corpus recipes"), "d"), blocks("docs/RECIPES.md")["A corpus"]
-        put(at, "build1.dex", assembled(TEXT))
+        put(at, "a.dex", assembled(TEXT))
         for name in NAMES:
             put(at, f"{name}.dex", assembled(TEXT))
         status, out, said = shell(recipes[0], at)
-        wants = f"{len(NAMES) + 1} paths, 0 not read; 1 new files", "LHello;->ask()V", "the answer,LHello;->name:", "build1.dex", "same"
+        wants = f"{len(NAMES) + 1} paths, 0 not read; 1 new files", "LHello;->ask()V", "the answer,LHello;->name:", "a.dex", "same"
         self.check(
             "RECIPES: a corpus", (status, said) == (0, "") and all(word in out for word in wants), (status, out, said)
         )

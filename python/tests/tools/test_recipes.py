@@ -31,7 +31,7 @@ def prepared(what: str, name: str) -> str:
     at = room(f"recipe {what}")
     file = assembled(TEXT)
     other = assembled(TEXT.replace(b"v0 41", b"v0 42").replace(b"return v0", b"nop\nnop\nreturn v0"))
-    for one, given in (("a", file), ("b", other), ("build1", file), ("build2", file), ("classes", file)):
+    for one, given in (("a", file), ("b", other), ("hello", file[:-1]), ("classes", file)):
         put(at, f"{name}{one}.dex", given)
     put(at, f"{name}a.txt", TEXT.replace(b"const/16 v0 41", b"const/16 v9 41"))
     put(at, f"{name}app.apk", archive(("classes.dex", file), ("classes2.dex", b"no file")))
@@ -51,6 +51,12 @@ def killing(at: str) -> str:
     return os.path.join(at, "kill")
 
 
+def recipes_of_readme() -> list[str]:
+    """The commands of README's recipes, without those that make their files."""
+    _, commands = blocks("README.md")["Recipes"][0].split("\n\n")
+    return [line for line in commands.splitlines() if not line.startswith("#")]
+
+
 class Recipes(HelperTest):
     def test_blocks(self) -> None:
         """Each recipe of one file, by a plain name and by an evil one."""
@@ -58,16 +64,12 @@ class Recipes(HelperTest):
         wants = {
             ("Inspecting a file", 0): ('digraph "calls" {', 'n0 [label="LHello;->ask()V\\l"]'),
             ("An .apk", 0): ("classes.dex: ok\n", "classes2.dex: dexasm: refused 1 TooShort at 7\n"),
-            ("What a refusal means", 0): ("ok\n",),
-            ("A file that D8 before 1.6.20 signed", 0): ("both sums hold\n",),
+            ("What a refusal means", 0): ("ok\n", "both sums hold\n"),
             ("A file for a device", 0): ("ok\n", "a.dex: ok\n"),
-            ("A file for a device", 1): ("a.txt: ok\n",),
+            ("A file for a device", 1): ("edit.txt: ok\n",),
             ("Two files", 0): ("@@ LHello;->get(Z)I in both @@\n", "\n-const/16 v0 41\n+const/16 v0 42\n"),
             ("Two files", 1): ("differ",),
-            ("A class or a method", 0): ("class LHello; 0x1\n", "end class\n", "direct get (Z)I 0x9\n", "return-void"),
-            ("Queries", 0): ('"LHello;->get(Z)I": []', "\nLHello;->ask()V\n"),
-            ("What takes the space", 0): ("  LHello;\n", "  LHello;->get(Z)I\n", "  all\n"),
-            ("A build that grew", 0): ("  grew  LHello;->get(Z)I\n", "  all\n"),
+            ("What takes the space", 0): ("  LHello;\n", "  grew  LHello;->get(Z)I\n", "  all\n"),
         }
         for (head, which), words in wants.items():
             text = found[head][which]
@@ -82,25 +84,30 @@ class Recipes(HelperTest):
                 self.check(
                     f"RECIPES: {head}, {which}, {'an evil name' if name else 'as it stands'}", is_so, (out, said)
                 )
-        for line in blocks("README.md")["Recipes"][0].splitlines():
-            if line.startswith("#"):
-                continue
+        for line in recipes_of_readme():
             for name in ("", EVIL):
-                at = prepared(f"README {line[:20]} {bool(name)}".replace("/", ""), name)
+                at = prepared(f"README {line[:26]} {bool(name)}".replace("/", ""), name)
                 status, out, said = shell(with_names(line, name), at)
                 is_so = (
                     status in (0, 1) and "PWNED" not in seen_in(at) and "Traceback" not in said and "cannot" not in said
                 )
-                if line == "dexasm-check a.txt":
+                if line.startswith("dexasm-check a.txt"):
                     is_so = is_so and ": error: 118 Register: v9 of 2 registers (in get(Z)I, instruction " in out
                 self.check(f"README: {line}, {'an evil name' if name else 'as it stands'}", is_so, (status, out, said))
-        method = found["A class or a method"][0].partition("\n")[2]
-        seen = shell(method, prepared("method", ""))
-        self.check(
-            "RECIPES: a method",
-            seen[1].startswith("direct get (Z)I 0x9\ncode 2 1 0\n") and seen[1].endswith("return v0\nend code\n"),
-            seen,
-        )
+
+    def test_order(self) -> None:
+        """The recipes of the page in their order in one folder, on the files that its first block makes there."""
+        at, found = room("recipes in order"), blocks("docs/RECIPES.md")
+        made = shell("set -e\n" + found.pop("Files to try them on")[0], at)
+        self.check_equal("RECIPES: the files of the recipes", made, (0, "", ""))
+        for head in ("Many files", "A corpus"):
+            found[head] = found[head][:1]  # the others need other programs, and machines
+        found["Versions of a file in git"].pop(0)
+        for head, texts in found.items():
+            for number, text in enumerate(texts):
+                _, _, said = shell("".join(line for line in text.splitlines(True) if "apksigner" not in line), at)
+                is_so = not re.search(r"Traceback|No such file|cannot|usage:", said)
+                self.check(f"RECIPES: in order: {head}, {number}", is_so, said)
 
     def test_application(self) -> None:
         """An archive in place of a file, and a patched file put back, by plain names and by evil ones."""
@@ -130,7 +137,7 @@ class Recipes(HelperTest):
         for name in ("", EVIL):
             at = room(f"merged {bool(name)}")
             put(at, f"{name}a.dex", first)
-            put(at, f"{name}b.dex", second)
+            put(at, f"{name}other.dex", second)
             put(at, f"{name}app.apk", archive(("classes.dex", second), ("classes2.dex", first)))
             seen = shell(f"set -e\n{with_names(lines, name)}", at)
             listed = {one: dexasm("list", given=get(at, f"{name}{one}.dex")) for one in ("ab", "app", "a")}
@@ -164,37 +171,34 @@ class Recipes(HelperTest):
         )
 
     def test_signed(self) -> None:
-        """README's three commands on a file that D8 before 1.6.20 signed: it is explained, closed and stripped."""
-        lines = [line for line in blocks("README.md")["Recipes"][0].splitlines() if not line.startswith("#")]
-        explain, close, strip = (line for line in lines if re.search(r"explain|close|strip b\.dex", line))
+        """The commands for a file that D8 before 1.6.20 signed: it is explained, closed and stripped."""
+        explain, _, told, close, strip = blocks("docs/RECIPES.md")["What a refusal means"][0].splitlines()
         file = assembled(TEXT)
         for name in ("", EVIL):
             at = room(f"signed {bool(name)}")
             put(at, f"{name}a.dex", resigned(file, hashlib.sha1(file[32:-52]).digest()))
-            seen = [shell(with_names(line, name), at) for line in (explain, close, strip)]
+            seen = [shell(with_names(line, name), at) for line in (explain, told, close, strip)]
             is_so = "refused 9 Signature" in seen[0][1] and "signed as D8 before 1.6.20 wrote it" in seen[0][1]
-            self.check(f"README, {explain}", is_so, seen)
-            is_so = seen[1][:2] == (0, "") and seen[2] == (0, "", "") and get(at, f"{name}b.dex") == file
-            self.check(
-                f"README, {close}; {strip}", is_so and get(at, f"{name}c.dex") == dexasm("strip", given=file), seen
-            )
+            self.check(f"RECIPES, {explain}", is_so, seen)
+            self.check(f"RECIPES, {told}", seen[1][0] == 1, seen)
+            is_so = seen[2][:2] == (0, "") and seen[3] == (0, "", "") and get(at, f"{name}closed.dex") == file
+            stripped = dexasm("strip", given=file)
+            self.check(f"RECIPES, {close}; {strip}", is_so and get(at, f"{name}stripped.dex") == stripped, seen)
 
     def test_same(self) -> None:
         """No recipe says that two files are the same that are both refused."""
         recipes = [blocks("docs/RECIPES.md")["Two files"][0], blocks("docs/RECIPES.md")["Two files"][1]]
-        recipes += [
-            line for line in blocks("README.md")["Recipes"][0].splitlines() if re.match("dexasm-diff|.*&& cmp", line)
-        ]
+        recipes += [line for line in recipes_of_readme() if re.match("dexasm-diff|.*&& cmp", line)]
         self.check("recipes that compare", len(recipes) == 4, recipes)
         for number, recipe in enumerate(recipes):
             at = room(f"same {number}")
-            for name in ("a.dex", "b.dex", "build1.dex", "build2.dex"):
+            for name in ("a.dex", "b.dex"):
                 put(at, name, b"no file")
             seen = shell(recipe, at)
             self.check(
                 f"{recipe!r} of two files that are refused", seen[0] != 0 and "refused 1 TooShort" in seen[2], seen
             )
-            for name in ("a.dex", "b.dex", "build1.dex", "build2.dex"):
+            for name in ("a.dex", "b.dex"):
                 put(at, name, assembled(TEXT))
             seen = shell(recipe, at)
             self.check_equal(f"{recipe!r} of one file twice", seen, (0, "", ""))
@@ -247,11 +251,8 @@ class Recipes(HelperTest):
         for name in ("", EVIL):
             at = prepared(f"split {bool(name)}", name)
             seen = shell(with_names(block, name), at)
-            is_so = (
-                seen == (0, "", "")
-                and get(at, f"{name}a.dex") == get(at, f"{name}b.dex")
-                and "PWNED" not in seen_in(at)
-            )
+            is_so = seen == (0, "", "") and get(at, f"{name}a.dex") == get(at, f"{name}joined.dex")
+            is_so = is_so and "PWNED" not in seen_in(at)
             self.check(f"RECIPES: split and joined, {name!r}", is_so, seen)
 
     def test_many(self) -> None:
@@ -324,17 +325,14 @@ class Recipes(HelperTest):
     def test_page(self) -> None:
         """Each recipe is tried."""
         known = {
+            "Files to try them on": 1,
             "Inspecting a file": 1,
             "An .apk": 3,
             "What a refusal means": 1,
-            "A file that D8 before 1.6.20 signed": 1,
             "A file for a device": 2,
             "Two files": 2,
             "Versions of a file in git": 2,
-            "A class or a method": 1,
-            "Queries": 1,
             "What takes the space": 1,
-            "A build that grew": 1,
             "Several files in one": 1,
             "Many files": 2,
             "A corpus": 4,
