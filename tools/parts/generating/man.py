@@ -203,8 +203,8 @@ def rule_table() -> str:
 
 
 def inline(text: str) -> str:
-    """A line of a document as roff: code is bold."""
-    return re.sub(r"`([^`]*)`", r"\\fB\1\\fR", plain(text))
+    """A line of a document as roff: code is bold, and of a link the words stay."""
+    return re.sub(r"`([^`]*)`", r"\\fB\1\\fR", plain(re.sub(r"\[([^][]*)\]\([^()]*\)", r"\1", text)))
 
 
 def listing_page(said: dict[str, str]) -> str:
