@@ -34,10 +34,11 @@ OUT writes one page in place of the table, which needs nothing from the network:
 their classes and what these consist of, and tables of the 2,000 largest that sort; of A and B with such tables by
 package, class, method and string.
 
---count has rows of the file's tables in place of bytes, of which a file can have 65,536 methods, fields and types: how
-many `methods` and `fields` the classes of each package have that the file names, how many of these methods it has
-(`defined`), its `types`, arrays by their elements, and its `strings`, of the class that needs them, if only one does.
-With B the columns are what B has more, and the number of methods before, in FILE, and after, in B.
+--count has rows of the file's tables in place of bytes (instructions reach 65,536 methods and fields, and a file can
+have 65,535 types): how many `methods` and `fields` the classes of each package have that the file names, how many of
+these methods it has (`defined`), its `types`, arrays by their elements, and its `strings`, of the class that needs
+them, if only one does. With B the columns are what B has more, and the number of methods before, in FILE, and after,
+in B.
 
 --json and --csv have the rows that a table has, but for those that add others up. With --csv a cell that a spreadsheet
 could take for a formula has an apostrophe before it; --csv-raw is for programs that aren't spreadsheets. Strings are

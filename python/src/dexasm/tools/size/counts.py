@@ -1,4 +1,4 @@
-"""How many rows of its tables the packages or classes of a file take, of which a file has room for 65,536 each."""
+"""How many rows of its tables the packages or classes of a file take, of which a file can use about 65,536 each."""
 from __future__ import annotations
 
 from collections.abc import Iterator
