@@ -1,7 +1,7 @@
-"""docs/STATEMENT.md's quotations of contracts and its table of what each promise rests on, and docs/DEFINITIONS.md, which
-lists the definitions of four promises in the order in which one reads them. `tools/generate statement PROMISE` prints
+"""docs/STATEMENT.md's quotations of contracts and its table of what each promise rests on, those of docs/READING-PROOFS.md,
+and docs/DEFINITIONS.md, which lists the definitions of four promises in the order in which one reads them. `tools/generate statement PROMISE` prints
 the definitions themselves."""
-from collections.abc import Iterator
+from collections.abc import Iterator, Sequence
 from textwrap import wrap
 from typing import NamedTuple
 
@@ -10,7 +10,7 @@ from ..definitions import Owner
 from .making import Made, Missing
 from .tree import read
 
-PAGE, LISTS = "docs/STATEMENT.md", "docs/DEFINITIONS.md"
+PAGE, LISTS, READING = "docs/STATEMENT.md", "docs/DEFINITIONS.md", "docs/READING-PROOFS.md"
 READ, CHECK = ("crates/file_read/src/reading.rt", "read"), ("crates/file_read/src/checking.rt", "check")
 WRITE, STRIP = ("crates/file_write/src/writing.rt", "write"), ("crates/file_write/src/writing.rt", "strip")
 PARSE, PRINT = ("crates/listing_parse/src/listing.rt", "parse"), ("crates/listing_print/src/blocks.rt", "print")
@@ -38,6 +38,10 @@ SAID_BY = {
     "one_outcome": ("crates/dexasm_run/specs/Once.antt", "OneOutcome"),
     "out_is_never_lost": ("crates/dexasm_command/specs/Statuses.antt", "OutIsNeverLost"),
 }
+# What docs/READING-PROOFS.md takes apart: a contract, a definition and a proof.
+LAW = ("crates/dex_container/src/laws.rt", "one_fault")
+DEFINITION = ("crates/dex_container/specs/Faults.antt", "IsFrameFault")
+PROOF = "crates/dex_container/proofs/OneFault.antt"
 MEANS = ("crates/file_read/specs/Means.antt", "Means")
 IN_MEMORY = ("crates/program_types/specs/View.antt", "program")
 FORMED = ("crates/program_rules/specs/WellFormed.antt", "WellFormed")
@@ -78,12 +82,12 @@ def reached(known: Definitions, promise: Promise) -> set[Owner]:
     return known.reached(begins)
 
 
-def placed(page: str, name: str, text: str) -> str:
+def placed(page: str, name: str, text: str, path: str = PAGE) -> str:
     """The page with the text at the place that has this name."""
     marks = f"<!-- {name}: written by tools/generate -->\n", f"<!-- end of {name} -->\n"
     begin, end = (page.find(mark) for mark in marks)
     if begin < 0 or end < begin:
-        raise Missing(f"{PAGE} has no place for {name}")
+        raise Missing(f"{path} has no place for {name}")
     return page[:begin] + marks[0] + text + page[end:]
 
 
@@ -94,8 +98,11 @@ def quoted(known: Definitions, name: str) -> str:
     if name in SAID_BY:
         there, definition = SAID_BY[name]
         lines += ["", *known.files[there].text_of(definition).strip().split("\n")]
-    text = "\n".join(lines)
-    return f"[{crate_of(path)}](../{path})\n\n```rust\n{text}\n```\n"
+    return f"[{crate_of(path)}](../{path})\n\n{block('rust', lines)}"
+
+
+def block(kind: str, lines: Sequence[str]) -> str:
+    return f"```{kind}\n" + "\n".join(lines) + "\n```\n"
 
 
 def table(known: Definitions) -> str:
@@ -111,6 +118,16 @@ def statement(known: Definitions) -> str:
     for name in QUOTED:
         page = placed(page, name, quoted(known, name))
     return page
+
+
+def reading(known: Definitions) -> str:
+    """docs/READING-PROOFS.md with the law, the definition and the proof of today."""
+    path, name = DEFINITION
+    defined = known.files[path].text_of(name).strip().split("\n")
+    proof = [line for line in read(PROOF).strip().split("\n") if not line.startswith(("--", "use "))]
+    page = placed(read(READING), "law", block("rust", [line.rstrip() for line in known.contract(*LAW)]), READING)
+    page = placed(page, "definition", block("text", defined), READING)
+    return placed(page, "proof", block("text", "\n".join(proof).strip().split("\n")), READING)
 
 
 def new_in(known: Definitions, name: str) -> set[Owner]:
@@ -140,7 +157,7 @@ def lists(known: Definitions) -> str:
 
 def made() -> Made:
     known = definitions()
-    return Made({PAGE: statement(known), LISTS: lists(known)}, [])
+    return Made({PAGE: statement(known), LISTS: lists(known), READING: reading(known)}, [])
 
 
 def printed(name: str) -> str:
