@@ -1,5 +1,5 @@
 """Tests of the built program and library from outside, each part in a folder of its own. `tools/try PART` runs a part
-on a given program; `python3 -m unittest`, at the top of the repository, on the one that is built: see tried.py."""
+on a given program; `python3 -m unittest`, at the top of the repository, on the one that is built: see config.py."""
 import os
 import re
 import sys

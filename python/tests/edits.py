@@ -8,7 +8,7 @@ import dexasm
 from dexasm import Catch, Field, Insn, Label, Method, Program, Proto, Refused, Try, Type, Value
 from tests.base import TestCase
 from tests.oracle.loose import random_files
-from .harm import EVIL, MNEMONICS, WRONG
+from .bad_values import EVIL, MNEMONICS, WRONG
 
 
 def made_files(rng: random.Random, count: int) -> list[bytes]:

@@ -10,7 +10,7 @@ from collections.abc import Callable
 from typing import Any
 
 import dexasm
-from dexasm import calls
+from dexasm import _native as calls
 from tests import TOP
 from tests.base import MEGABYTE
 from tests.library.calls import JOBS, LISTINGS, LibraryTest, run
@@ -144,7 +144,7 @@ class Binding(LibraryTest):
         self.check_equal(
             "Python: its parts are read when they are asked for",
             got,
-            (0, b"['dexasm.calls']\n['dexasm.calls', 'dexasm.names']\nTrue True\nno\n", ""),
+            (0, b"['dexasm._native']\n['dexasm._native', 'dexasm.names']\nTrue True\nno\n", ""),
         )
         shutil.copytree(
             os.path.join(TOP, "python/src/dexasm"),

@@ -4,8 +4,8 @@ import shutil
 import sys
 from typing import Any
 
-from tests import tried
-from .tools.rooms import LISTING, TOP, Ended, HelperTest, assembled, dexasm, put, room, run
+from tests import config
+from .cli.support import LISTING, TOP, Ended, HelperTest, assembled, dexasm, put, room, run
 
 CALLS = """
 import dexasm
@@ -66,8 +66,8 @@ class Command(HelperTest):
         want = f"None True True\nb'dex\\n'\n4 FileSize 32\n1 TooShort 0\nTrue True\n{OBJECTS}{version}\n"
         seen = python(at, "-c", CALLS)
         self.check_equal("Python over the command", seen, (0, want + "no library\n", ""))
-        if tried.shared_library():
-            seen = python(at, "-c", CALLS, DEXASM_LIBRARY=tried.shared_library(), DEXASM_COMMAND="/none")
+        if config.shared_library():
+            seen = python(at, "-c", CALLS, DEXASM_LIBRARY=config.shared_library(), DEXASM_COMMAND="/none")
             self.check_equal("Python over the library", seen, (0, want, ""))
         seen = python(at, "-c", "import dexasm; dexasm.version()", DEXASM_COMMAND="/none")
         self.check(

@@ -14,9 +14,9 @@ import unittest.mock
 from typing import Any
 
 from dexasm import deliver
-from . import outs
-from .outs import LATE, NEW, OLD, holds, loaded, made, mode_of, only, outcome
-from .tools.rooms import get, put, seen_in
+from . import output_files
+from .output_files import LATE, NEW, OLD, holds, loaded, made, mode_of, only, outcome
+from .cli.support import get, put, seen_in
 
 
 def wait_for(child: int) -> int | str:
@@ -44,7 +44,7 @@ def change(at: str) -> None:
             os.replace(f"{at}/next", f"{at}/out")
 
 
-class Deliver(outs.OutTest):
+class Deliver(output_files.OutTest):
     def test_links(self) -> None:
         """A link stays and what it leads to is written; what others put beside OUT isn't touched."""
         at = self.room("links")

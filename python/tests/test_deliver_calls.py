@@ -9,8 +9,8 @@ import subprocess
 import sys
 from collections.abc import Iterator
 
-from .settings import BEGINS, SETTINGS, Room, order_wrong
-from .tools.rooms import TOP, HelperTest, can_trace, get, put, room, run, scratch
+from .write_cases import BEGINS, SETTINGS, Room, order_wrong
+from .cli.support import TOP, HelperTest, can_trace, get, put, room, run, scratch
 
 # What each call is failed and ended by; of some more, since what follows hangs on the error.
 ENDS = ("error=ENOSPC", "signal=SIGKILL", "signal=SIGTERM")

@@ -2,7 +2,7 @@
 at random.
 
 Laws are tried on 20 files that are made, or as many as are asked for, and on those below a folder that is named, and by
-200 edits: tried.py says how these are named. tools/try objects tries more.
+200 edits: config.py says how these are named. tools/try objects tries more.
 """
 import copy
 import glob
@@ -19,13 +19,33 @@ from collections.abc import Callable
 from typing import Any
 
 import dexasm
-from dexasm import ArrayData, Catch, Class, Code, Field, FieldRef, Insn, Label, Method, MethodRef, PackedSwitch, Program
-from dexasm import Proto, Refused, SparseSwitch, Try, Type, Value, code, formats
-from tests import TOP, tried
+from dexasm import (
+    ArrayData,
+    Catch,
+    Class,
+    Code,
+    Field,
+    FieldRef,
+    Insn,
+    Label,
+    Method,
+    MethodRef,
+    PackedSwitch,
+    Program,
+    Proto,
+    Refused,
+    SparseSwitch,
+    Try,
+    Type,
+    Value,
+    code,
+    formats,
+)
+from tests import TOP, sought, config
 from . import edits
 from .edits import is_accepted, made_files
-from .harm import EVIL, MEMBERS, MNEMONICS, WRONG
-from .module import ModuleTest
+from .bad_values import EVIL, MEMBERS, MNEMONICS, WRONG
+from .binding_case import ModuleTest
 
 Change = Callable[[Any, Any], Any]  # of a program and its class, also to what their types forbid
 HELLO = r"""dex 035 listing 2
@@ -823,22 +843,22 @@ class Laws(ModuleTest, edits.LawsTest):
     """On programs that are made at random, and on those of a folder."""
 
     def test_laws(self) -> None:
-        made = made_files(random.Random(tried.seed()), tried.count(20))
+        made = made_files(random.Random(config.seed()), config.count(20))
         for at, data in enumerate(made):
-            self.check_laws(f"seed {tried.seed()}, file {at}", data)
+            self.check_laws(f"seed {config.seed()}, file {at}", data)
 
     def test_files(self) -> None:
-        if not tried.files():
+        if not config.files():
             self.skipTest("no folder of .dex files is named: DEXASM_TESTS_FILES")
-        for path in sorted(glob.glob(os.path.join(glob.escape(tried.files()), "**", "*.dex"), recursive=True)):
+        for path in sorted(glob.glob(os.path.join(glob.escape(config.files()), "**", "*.dex"), recursive=True)):
             with open(path, "rb") as file:
                 data = file.read()
             if is_accepted(data):
                 self.check_laws(path, data)
 
     def test_edits(self) -> None:
-        rng, count = random.Random(tried.seed()), tried.edits(200)
-        made = made_files(rng, tried.count(20))
-        written = sum(self.check_edit(f"seed {tried.seed()}, edit {at}", rng, rng.choice(made)) for at in range(count))
+        rng, count = random.Random(config.seed()), config.edits(200)
+        made = made_files(rng, config.count(20))
+        written = sum(self.check_edit(f"seed {config.seed()}, edit {at}", rng, rng.choice(made)) for at in range(count))
         self.check("edits of both kinds", count // 5 < written < count, written)
         print(f"{len(made)} made files, {written} of {count} edits written")

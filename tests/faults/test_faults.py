@@ -27,7 +27,7 @@ import tempfile
 from collections.abc import Iterator
 from typing import Any, NamedTuple
 
-from .. import TOP, sought, tried
+from .. import TOP, sought, config
 from ..base import LIMIT, TestCase, can_trace
 from ..samples import without_classes
 
@@ -236,7 +236,7 @@ class Faults(TestCase):
     def setUp(self) -> None:
         if not can_trace():
             self.skipTest("strace is missing here, or may not trace")
-        self.program, self.scratch = tried.program(), os.path.realpath(self.new_folder())
+        self.program, self.scratch = config.program(), os.path.realpath(self.new_folder())
         os.chmod(self.scratch, 0o711)  # (for a run as another user)
 
     def ran(self, subject: Subject, setting: str, injected: str | None = None) -> Ended:

@@ -5,7 +5,7 @@ import subprocess
 import tempfile
 from typing import Any
 
-from .. import tried
+from .. import config
 from ..base import LIMIT, Ended, TestCase, ended, get
 from ..samples import BRANCHES, ODD, ONE_CLASS
 
@@ -36,7 +36,7 @@ class LibraryTest(TestCase):
     @classmethod
     def setUpClass(cls) -> None:
         super().setUpClass()
-        cls.program, cls.library = tried.program(), tried.library()
+        cls.program, cls.library = config.program(), config.library()
         os.environ["DEXASM_LIBRARY"] = os.path.join(cls.library, "libdexasm.so")
         cls.work = tempfile.mkdtemp(prefix="dexasm-test-")
         cls.addClassCleanup(shutil.rmtree, cls.work, ignore_errors=True)

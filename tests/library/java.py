@@ -8,7 +8,7 @@ import unittest
 from typing import Any
 
 import jars_of_dexasm
-from .. import TOP, tried
+from .. import TOP, config
 from ..base import Ended
 from .calls import LibraryTest, put, run
 
@@ -60,7 +60,7 @@ def made() -> Java:
     folder = os.path.realpath(tempfile.mkdtemp(prefix="dexasm-test-"))
     atexit.register(shutil.rmtree, folder, ignore_errors=True)
     os.chmod(folder, 0o755)  # (for the cases of another user)
-    java = Java(tried.program(), tried.library(), os.path.join(folder, "java"))
+    java = Java(config.program(), config.library(), os.path.join(folder, "java"))
     java.compile()
     os.chmod(java.folder, 0o755)
     return java

@@ -6,7 +6,7 @@ import random
 from collections.abc import Iterator
 from typing import Any
 
-from python.tests.marked import BODIES, CLASS, CODE, HEAD, filled, large, marked, refused, surrounded
+from python.tests.diagnostic_cases import BODIES, CLASS, CODE, HEAD, filled, large, marked, refused, surrounded
 from ..base import MEGABYTE
 from ..oracle.texts import random_texts
 

@@ -13,8 +13,8 @@ from collections.abc import Sequence
 from typing import Any
 from urllib.parse import quote, unquote
 
-from python.tests import outs, settings
-from python.tests.tools import rooms
+from python.tests import output_files, write_cases
+from python.tests.cli import support
 from ..base import LIMIT
 from .java import QUICK, Java, JavaTest, made
 
@@ -32,9 +32,9 @@ MORE = {
 # Access control lists, and what the owner, the group and the others may do with a file that can't have them: whom a
 # list names may do no more as one of the group or the others, and the mask holds for all that it names and the group.
 LISTS = (
-    (outs.listed(6, 6, 6, 4, 4), 0o644), (outs.listed(6, 7, 6, 4, 6), 0o644),
-    (outs.listed(6, 0, 4, 4, 4), 0o600), (outs.listed(6, 4, 6, 6, 6), 0o644),
-    (outs.listed(6, 6, 0, 6, 0), 0o600),
+    (output_files.listed(6, 6, 6, 4, 4), 0o644), (output_files.listed(6, 7, 6, 4, 6), 0o644),
+    (output_files.listed(6, 0, 4, 4, 4), 0o600), (output_files.listed(6, 4, 6, 6, 6), 0o644),
+    (output_files.listed(6, 6, 0, 6, 0), 0o600),
 )  # fmt: skip
 # How bringing ends where some of these failed.
 TOLD = {(call, error): error for call in ("write", "fsync", "rename") for error in ("ENOSPC", "EIO")}
@@ -90,14 +90,14 @@ INJECTED = (
 
 
 class Process:
-    """Outs of bindings/java/test: one process that brings answers to files, as outs.py of the tests of the module for
+    """Outs of bindings/java/test: one process that brings answers to files, as output_files.py of the tests of the module for
     Python asks."""
 
     def __init__(self, words: list[str], env: dict[str, str]) -> None:
         self.process = subprocess.Popen(words, stdin=subprocess.PIPE, stdout=subprocess.PIPE, env=env)
         self.timer = threading.Timer(5 * LIMIT, self.process.kill)
         self.timer.start()
-        self.given = os.path.join(rooms.scratch(), "given to Java")
+        self.given = os.path.join(support.scratch(), "given to Java")
 
     def __enter__(self) -> "Process":
         return self
@@ -112,7 +112,7 @@ class Process:
     def ran(
         self,
         out: str | bytes | os.PathLike[str],
-        given: bytes = outs.NEW,
+        given: bytes = output_files.NEW,
         user: int = 0,
         groups: Sequence[int] = (),
         mask: int = 0o022,
@@ -139,13 +139,13 @@ def words_of(java: Java, *more: str) -> list[str]:
     return ["java", *QUICK, f"-Ddexasm.library={java.library}/libdexasm.so", "-cp", java.path(), *more]
 
 
-class Traced(settings.Room):
+class Traced(write_cases.Room):
     """A folder in which OUT stands, and a process of its own that writes it under strace."""
 
     def run_java(self, java: Java, injected: str | None = None) -> tuple[int, list[str], str]:
         log, part = f"{self.home}/log", f"{self.real}.0.part"
         words = ["strace", "-qq", "-f", "-s", "0", "-o", log, "-P", part, "-P", "/it begins"]
-        words += ["-e", f"trace={settings.CALLS},statx"]
+        words += ["-e", f"trace={write_cases.CALLS},statx"]
         if injected and "signal" in injected:
             # (what comes after the call waits, so that a process that ends by the signal would end before it)
             slow = ",".join(call for call in ("fsync", "rename") if not injected.startswith(call))
@@ -154,14 +154,14 @@ class Traced(settings.Room):
             words += ["--seccomp-bpf", *(["-e", f"inject={injected}"] if injected else [])]  # (no signal comes by that)
         words += words_of(java, "dexasm.Outs", self.out, f"{self.home}/given")
         done = subprocess.run(words, stdin=subprocess.DEVNULL, capture_output=True, timeout=5 * LIMIT, env=java.env)
-        calls = rooms.get(log).decode("utf8", "replace").splitlines()
+        calls = support.get(log).decode("utf8", "replace").splitlines()
         return done.returncode if done.returncode < 128 else 128 - done.returncode, calls, done.stderr.decode("latin1")
 
 
 class JavaFaults(JavaTest):
     def setUp(self) -> None:
         super().setUp()
-        os.chmod(rooms.scratch(), 0o711)  # (for the cases of another user)
+        os.chmod(support.scratch(), 0o711)  # (for the cases of another user)
 
     def test_faults(self) -> None:
         """Each call of the C library, failed in turn: OUT is what it was or the answer, or that stands whole beside."""
@@ -170,11 +170,11 @@ class JavaFaults(JavaTest):
             self.skipTest("no C compiler here: no calls are failed")
         with Process(words_of(self.java, "dexasm.Outs"), self.java.env | {"LD_PRELOAD": failing}) as process:
             self.check_lists(process)
-            for name, setting in settings.SETTINGS.items():
+            for name, setting in write_cases.SETTINGS.items():
                 if os.geteuid() and (setting.user or name in ("a mount point", "an immutable folder")):
                     continue
                 try:
-                    settings.Room(name).end()
+                    write_cases.Room(name).end()
                 except (OSError, subprocess.CalledProcessError):
                     continue  # (none can be set up here)
                 count = sum(self.fail_each(process, name, call) for call in CALLS)
@@ -182,22 +182,22 @@ class JavaFaults(JavaTest):
 
     def check_lists(self, process: Process) -> None:
         """An access control list that can't be given."""
-        out = outs.made(rooms.room("lists"))
+        out = output_files.made(support.room("lists"))
         for given, mode in LISTS:
             try:
-                os.setxattr(out, outs.ACL, given)
+                os.setxattr(out, output_files.ACL, given)
             except OSError:
                 return
             seen = process.ran(out, fault=f"fsetxattr 1 {errno.EOPNOTSUPP}")
-            is_so = seen == "done\0" and outs.acl_of(out) is None and outs.mode_of(out) == mode
-            self.check(f"Java: OUT, a list that can't be given, {mode:o}", is_so, f"{seen!r} {outs.mode_of(out):o}")
+            is_so = seen == "done\0" and output_files.acl_of(out) is None and output_files.mode_of(out) == mode
+            self.check(f"Java: OUT, a list that can't be given, {mode:o}", is_so, f"{seen!r} {output_files.mode_of(out):o}")
 
     def fail_each(self, process: Process, name: str, call: str) -> int:
         """How many runs have met what was to fail."""
         count = 0
         for error in MORE.get(call, ERRORS[:1]):
             for nth in range(1, 100):
-                room = settings.Room(name)
+                room = write_cases.Room(name)
                 try:
                     fault = f"{call} {nth} {getattr(errno, error)}"
                     ended, *is_met = process.ran(room.out, mask=0, user=room.setting.user, fault=fault).split("\0")
@@ -226,17 +226,17 @@ class JavaFaults(JavaTest):
             room.end()
 
     def test_traced(self) -> None:
-        if not rooms.can_trace():
+        if not support.can_trace():
             self.skipTest("no strace here, or it may not trace")
         wrong, calls = self.traced()
-        order = settings.order_wrong("one name", calls) if wrong is None else None
+        order = write_cases.order_wrong("one name", calls) if wrong is None else None
         self.check("Java: OUT, the order of its calls", not wrong and order is None, f"{wrong} {order}")
         with concurrent.futures.ThreadPoolExecutor(os.cpu_count() or 1) as pool:
             for injected, (seen, _) in zip(INJECTED, pool.map(self.traced, INJECTED)):
                 self.check(f"Java: OUT, {injected}", seen is None, seen)
 
 
-class JavaOut(outs.OutTest):
+class JavaOut(output_files.OutTest):
     """The tests of the module for Python, of the binding for Java."""
 
     by = "Java: OUT"
@@ -244,7 +244,7 @@ class JavaOut(outs.OutTest):
     def setUp(self) -> None:
         super().setUp()
         java = made()
-        os.chmod(rooms.scratch(), 0o711)
+        os.chmod(support.scratch(), 0o711)
         stack = contextlib.ExitStack()
         self.process = stack.enter_context(Process(words_of(java, "dexasm.Outs"), java.env))
         self.addCleanup(stack.close)

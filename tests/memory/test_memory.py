@@ -11,7 +11,7 @@ import itertools
 import os
 import subprocess
 
-from .. import TOP, tried
+from .. import TOP, config
 from ..base import LIMIT, TestCase, compiler, get
 from ..samples import BRANCHES, NUMBERED, ODD, ONE_CLASS
 
@@ -29,7 +29,7 @@ class MemoryTest(TestCase):
     """A test of the program with requests refused, by a library that a folder of its own has."""
 
     def setUp(self) -> None:
-        self.program, self.folder = tried.program(), self.new_folder()
+        self.program, self.folder = config.program(), self.new_folder()
         source = os.path.join(os.path.dirname(os.path.abspath(__file__)), "refuse.c")
         words = [*compiler(), "-O2", "-shared", "-fPIC", "-o", os.path.join(self.folder, "refuse.so"), source]
         subprocess.run(words, check=True)
@@ -113,7 +113,7 @@ class Calls(MemoryTest):
     """Single calls, by the program of crates/bench."""
 
     def setUp(self) -> None:
-        self.bench = tried.bench()
+        self.bench = config.bench()
         super().setUp()
         self.file = get(os.path.join(TOP, "crates/bench/stdin"))
 

@@ -11,7 +11,7 @@ There are three comparisons, each on worked examples and on cases made at random
          program spelled in nineteen ways
 The files of `check` are made of random programs, and of those .dex files below a folder that is named that have no
 fault and at most 64 KB; larger ones are compared as they are. `files` compares the .dex files below it too. A case on
-which the two differ is kept in a temporary folder, and a line says what each answers. tried.py says by what these are
+which the two differ is kept in a temporary folder, and a line says what each answers. config.py says by what these are
 named.
 """
 import collections
@@ -23,7 +23,7 @@ import tempfile
 from collections.abc import Iterator
 from typing import Any
 
-from .. import tried
+from .. import config
 from ..base import LIMIT
 from . import faults
 from .examples import examples
@@ -122,13 +122,13 @@ class CheckComparison(Comparison):
     def run(self) -> None:
         for what, data, answer in examples():
             self.compare_sample(what, data, answer)
-        for path, data in files_below(tried.files()):
+        for path, data in files_below(config.files()):
             self.compare_sample(path, data)
-        seed = tried.seed()
+        seed = config.seed()
         rng = random.Random(seed)
         for i, data in enumerate(random_samples(rng, 100)):
             self.compare_sample(f"sample {i} of seed {seed}", data)
-        for i, data in enumerate(itertools.islice(mutated(rng, self.samples), tried.count(3000))):
+        for i, data in enumerate(itertools.islice(mutated(rng, self.samples), config.count(3000))):
             self.compare(f"file {i} of seed {seed}", data)
 
 
@@ -157,11 +157,11 @@ class TextComparison(Comparison):
                 print_listing(classes))])
 
     def run(self) -> None:
-        for what, text, is_aligned, answer in text_examples(tried.is_large()):
+        for what, text, is_aligned, answer in text_examples(config.is_large()):
             self.compare(what, text, is_aligned, answer)
-        seed = tried.seed()
+        seed = config.seed()
         cases = random_texts(random.Random(seed))
-        for i, (text, is_aligned) in enumerate(itertools.islice(cases, tried.count(1500))):
+        for i, (text, is_aligned) in enumerate(itertools.islice(cases, config.count(1500))):
             self.compare(f"text {i} of seed {seed}", text, is_aligned)
 
 
@@ -183,7 +183,7 @@ class FileComparison(Comparison):
         self.are_one(f"{what}, listed", data, ".dex", [("program", listed), ("second reading", print_listing(classes))])
 
     def run(self) -> None:
-        found = [*((path, data) for path, data in files_below(tried.files())),
+        found = [*((path, data) for path, data in files_below(config.files())),
                  *((f"example: {what}", data) for what, data, _ in examples()),
                  *((f"example: {what}", data) for what, data in file_examples())]
         for what, data in found:
@@ -195,9 +195,9 @@ class FileComparison(Comparison):
             self.differing.append(("spelled otherwise", "two of the files are one"))
         for what, data in files:
             self.compare(f"spelled otherwise: {what}", data, written)
-        seed = tried.seed()
+        seed = config.seed()
         cases = random_files(random.Random(seed))
-        for i, (data, is_packed) in enumerate(itertools.islice(cases, tried.count(500))):
+        for i, (data, is_packed) in enumerate(itertools.islice(cases, config.count(500))):
             self.compare(f"file {i} of seed {seed}", data, *[data] * is_packed)
 
 

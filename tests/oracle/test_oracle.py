@@ -4,7 +4,7 @@ import re
 import subprocess
 import sys
 
-from .. import tried
+from .. import config
 from ..base import TestCase, get
 from . import vectors
 from .comparing import CheckComparison, Comparison, FileComparison, TextComparison
@@ -15,7 +15,7 @@ class SecondReading(TestCase):
     """Each comparison is one test: its cases are too many for a sub-test each, which those that differ are."""
 
     def setUp(self) -> None:
-        self.program = tried.program()
+        self.program = config.program()
         self.addCleanup(sys.setrecursionlimit, sys.getrecursionlimit())
         self.addCleanup(sys.set_int_max_str_digits, sys.get_int_max_str_digits())
         sys.setrecursionlimit(10000)  # a value may be more than 64 deep before it's refused
@@ -44,7 +44,7 @@ class Vectors(TestCase):
         """The program does what the manifest of tests/vectors expects."""
         for one in vectors.vectors():
             path = os.path.join(vectors.FOLDER, one.name)
-            done = subprocess.run([tried.program(), one.command, path], capture_output=True, text=True)
+            done = subprocess.run([config.program(), one.command, path], capture_output=True, text=True)
             with self.subTest(one.name):
                 wanted = (0, "ok\n", "") if one.expected == "ok" else (1, "", f"{one.expected}\n")
                 self.assertEqual((done.returncode, done.stdout, done.stderr), wanted)

@@ -14,7 +14,7 @@ from typing import Any
 from parts.packing.packages import pack
 from parts.packing.packing import GLIBC, HELPERS
 from parts.packing.wheel import backend
-from .. import TOP, sought, tried
+from .. import TOP, sought, config
 from ..base import LIMIT, TestCase, ended, get
 
 LISTING = b"dex 035 listing 2\nclass LHello; 0x1\nend class\n"
@@ -111,9 +111,9 @@ class PackageTest(TestCase):
     def setUpClass(cls) -> None:
         """Packs what is tried, but where packages are named."""
         super().setUpClass()
-        program, cls.library = tried.program(), tried.library()
-        cls.folder = tried.packages() or tempfile.mkdtemp(prefix="dexasm-test-")
-        if not tried.packages():
+        program, cls.library = config.program(), config.library()
+        cls.folder = config.packages() or tempfile.mkdtemp(prefix="dexasm-test-")
+        if not config.packages():
             cls.addClassCleanup(shutil.rmtree, cls.folder, ignore_errors=True)
             pack(program, cls.library, cls.folder)
         cls.made = [
@@ -315,7 +315,7 @@ class PackageTest(TestCase):
                     "python",
                     [backend() or "", *by_backend],
                     from_folder,
-                    {**env, "DEXASM_LIBRARY": f"{self.library}/libdexasm.so", "DEXASM_COMMAND": tried.program()},
+                    {**env, "DEXASM_LIBRARY": f"{self.library}/libdexasm.so", "DEXASM_COMMAND": config.program()},
                     "unknown",  # (nothing beside the library says whether it was proved)
                 ),
             ):
@@ -330,7 +330,7 @@ class PackageTest(TestCase):
         python = f"{place}/bin/python"
         self.runs(f"{what}: check", python, "-m", "dexasm", "check", "hello.dex", want="ok\n", env=env, cwd=room)
         self.runs(f"{what}: its command", f"{place}/bin/dexasm", "check", "hello.dex", want="ok\n", env=env, cwd=room)
-        is_same = get(f"{place}/bin/dexasm") == get(tried.program()) and os.access(f"{place}/bin/dexasm", os.X_OK)
+        is_same = get(f"{place}/bin/dexasm") == get(config.program()) and os.access(f"{place}/bin/dexasm", os.X_OK)
         self.check(f"{what}: its command is the program", is_same)
         typed = "import dexasm, pathlib; print(pathlib.Path(dexasm.__file__).with_name('py.typed').exists())"
         self.runs(f"{what}: its types", python, "-c", typed, want="True\n", env=env, cwd=room)
@@ -381,8 +381,8 @@ class Packages(PackageTest):
 
     def test_again(self) -> None:
         """Packing the same files again gives the same bytes."""
-        if tried.packages():
+        if config.packages():
             self.skipTest("these packages are there already")
         with tempfile.TemporaryDirectory() as again:
-            sums = pack(tried.program(), self.library, again)
+            sums = pack(config.program(), self.library, again)
         self.check_equal("packed again", sums, get(f"{self.folder}/SHA256SUMS").decode())

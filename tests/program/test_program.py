@@ -13,7 +13,7 @@ from collections.abc import Callable, Sequence
 from typing import Any
 
 from shapes import File, code, file_of_body, shared_code, sleb, uleb
-from .. import TOP, sought, tried
+from .. import TOP, sought, config
 from ..base import LIMIT, MEGABYTE, Ended, TestCase, ended, get, limited
 from ..samples import NUMBERED, ODD, closed, without_classes
 from ..samples import ONE_CLASS as LISTING
@@ -122,7 +122,7 @@ class ProgramTest(TestCase):
     """A test of the program, with a folder of its own."""
 
     def setUp(self) -> None:
-        self.program, self.folder = tried.program(), self.new_folder()
+        self.program, self.folder = config.program(), self.new_folder()
 
     def dexasm(self, *words: str | bytes, given: bytes = b"", **options: Any) -> Ended:
         """Runs the program; answers status, standard output, standard error."""

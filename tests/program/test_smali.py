@@ -4,7 +4,7 @@ import re
 import shutil
 import subprocess
 
-from .. import TOP, sought, tried
+from .. import TOP, sought, config
 from ..base import TestCase, get
 
 PAGE = get(os.path.join(TOP, "docs", "FROM-SMALI.md")).decode()
@@ -17,7 +17,7 @@ LINES = (
 
 class FromSmali(TestCase):
     def setUp(self) -> None:
-        self.program = tried.program()
+        self.program = config.program()
 
     def test_example(self) -> None:
         """smali's file of the example is listed as the page has it."""

@@ -14,7 +14,7 @@ import shutil
 import subprocess
 import time
 
-from .. import tried
+from .. import config
 from ..base import LIMIT, TestCase, ended
 
 OWN = re.compile(r"dexasm: refused (\d+) (\w+) at (\d+)\n")
@@ -59,7 +59,7 @@ def dump(path: str) -> list[str]:
 
 class Real(TestCase):
     def setUp(self) -> None:
-        self.program, self.top, self.folder = tried.program(), tried.files(), self.new_folder()
+        self.program, self.top, self.folder = config.program(), config.files(), self.new_folder()
         if not self.top:
             self.skipTest("no folder of .dex files is named: DEXASM_TESTS_FILES")
 

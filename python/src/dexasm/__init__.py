@@ -21,10 +21,10 @@ if TYPE_CHECKING:
     from collections.abc import Iterable
     from typing import Any
 
-    from dexasm.calls import Command, Library
+    from dexasm._native import Command, Library
+    from dexasm.classes import Class, Field, Method, Value
     from dexasm.code import ArrayData, Catch, Code, Insn, Label, PackedSwitch, SparseSwitch, Try
-    from dexasm.faultline import Place
-    from dexasm.members import Class, Field, Method, Value
+    from dexasm.listing.diagnostics import Place
     from dexasm.names import FieldRef, MethodRef, Proto, Type
     from dexasm.program import Program
 
@@ -38,16 +38,15 @@ Data = bytes | bytearray | memoryview
 # rest of this module, and whoever only checks or strips needs none.
 _PARTS = {
     "code": ("ArrayData", "Catch", "Code", "Insn", "Label", "PackedSwitch", "SparseSwitch", "Try"),
+    "classes": ("Class", "Field", "Method", "Value"),
     "faultline": ("Place",),
     "formats": (),
-    "listed": (),
-    "members": ("Class", "Field", "Method", "Value"),
     "names": ("FieldRef", "MethodRef", "Proto", "Type"),
     "program": ("Program",),
 }
 _PART_OF = {name: part for part, names in _PARTS.items() for name in names}
 
-_answering: Library | Command | None = None
+_core: Library | Command | None = None
 
 
 class Refused(ValueError):
@@ -68,9 +67,9 @@ class Refused(ValueError):
     @property
     def where(self) -> Place | None:
         if self._listing is not None:
-            from dexasm import faultline
+            from dexasm.listing.diagnostics import of
 
-            self._where, self._listing = faultline.of(self._listing[0], self.number, self.place, self._listing[1]), None
+            self._where, self._listing = of(self._listing[0], self.number, self.place, self._listing[1]), None
         return self._where
 
     @property
@@ -102,15 +101,15 @@ class Refused(ValueError):
         return self.where.why if self.where else None
 
     def __str__(self) -> str:
-        where, told = self.where, [str(self.args[0])]
+        where, parts = self.where, [str(self.args[0])]
         if where is not None and where.class_name is not None:
             from dexasm.names import spelled
 
             at = "" if where.insn is None else f", instruction {where.insn}"
-            told.append(f"{spelled(where.member or where.class_name)}{at}")
+            parts.append(f"{spelled(where.member or where.class_name)}{at}")
         if where is not None and where.sentence():
-            told.append(where.sentence())
-        return ": ".join(told)
+            parts.append(where.sentence())
+        return ": ".join(parts)
 
     def __reduce__(self) -> tuple[type[Refused], tuple[object, ...]]:
         return Refused, (self.number, self.name, self.place, self.where)
@@ -118,12 +117,12 @@ class Refused(ValueError):
 
 def core() -> Library | Command:
     """The library or the command that the calls run. It is looked for once, at the first call."""
-    global _answering
-    if _answering is None:
-        from dexasm.calls import found
+    global _core
+    if _core is None:
+        from dexasm._native import find_core
 
-        _answering = found()
-    return _answering
+        _core = find_core()
+    return _core
 
 
 def _bytes(data: Data) -> bytes:
@@ -133,30 +132,30 @@ def _bytes(data: Data) -> bytes:
 
 def check(data: Data) -> None:
     """Returns if the bytes are a file that keeps every rule of the format."""
-    given = _bytes(data)
-    core().check(given)
+    content = _bytes(data)
+    core().check(content)
 
 
 def list(data: Data) -> str:
     """The listing of a file's program."""
-    given = _bytes(data)
-    return core().list(given).decode("ascii")
+    content = _bytes(data)
+    return core().list(content).decode("ascii")
 
 
 def assemble(text: str | Data, align: bool = False) -> bytes:
     """The file of a listed program; with align a nop is put before each payload that would stand at an odd address."""
-    given = text.encode("utf8", "surrogatepass") if isinstance(text, str) else _bytes(text)
+    content = text.encode("utf8", "surrogatepass") if isinstance(text, str) else _bytes(text)
     try:
-        return core().assemble(given, align)
+        return core().assemble(content, align)
     except Refused as refused:
-        refused._listing = given, align
+        refused._listing = content, align
         raise
 
 
 def strip(data: Data) -> bytes:
     """A file's program, written again without what it doesn't need."""
-    given = _bytes(data)
-    return core().strip(given)
+    content = _bytes(data)
+    return core().strip(content)
 
 
 def fault_name(number: int) -> str:

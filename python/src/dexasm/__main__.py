@@ -3,7 +3,7 @@ import contextlib
 import os
 import sys
 
-from dexasm.calls import find_command
+from dexasm._native import find_command
 
 try:
     command = find_command()

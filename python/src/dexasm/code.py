@@ -7,7 +7,7 @@ from collections.abc import Callable, Iterable, Iterator
 from dataclasses import dataclass, field
 from typing import Any
 
-from dexasm.answers import of_listing
+from dexasm.canonical import canonical_reader
 from dexasm.formats import MNEMONICS, Format, format_of
 from dexasm.names import (
     FieldRef,
@@ -16,8 +16,8 @@ from dexasm.names import (
     number,
     operand,
     operand_of,
+    preview,
     quoted,
-    shown,
     spelled,
     type_of,
     unquoted,
@@ -68,27 +68,27 @@ class Insn:
         self.mnemonic, self.registers, self.literal, self.target = mnemonic, registers, literal, target
         self.name = name if name is None or isinstance(name, (Type, FieldRef, MethodRef)) else operand(name)
         self.text, self.count = text, count
-        self._look()
+        self._check_operands()
 
-    def _look(self) -> None:
+    def _check_operands(self) -> None:
         """Refuses at once a mnemonic that is none, and operands that it doesn't take. (What is missing may come yet.)"""
         form = _form(self.mnemonic)
         registers = len(self.registers)
-        given = {name: getattr(self, name) for name in ("literal", "target", "name", "text", "count")}
+        operands = {name: getattr(self, name) for name in ("literal", "target", "name", "text", "count")}
         taken = {"literal": form.literal, "target": form.target, "count": form.is_range}
         taken |= {"name": form.name not in ("", "text"), "text": form.name == "text"}
-        wrong = next((name for name, value in given.items() if value is not None and not taken[name]), None)
+        wrong = next((name for name, value in operands.items() if value is not None and not taken[name]), None)
         if wrong is not None:
-            raise ValueError(f"{takes(self.mnemonic)}, and no {wrong}: {shown(given[wrong])}")
+            raise ValueError(f"{takes(self.mnemonic)}, and no {wrong}: {preview(operands[wrong])}")
         if registers > 5 if form.is_list else registers != len(form.registers):
             raise ValueError(f"{takes(self.mnemonic)}: {registers} register{'s' * (registers != 1)} here")
 
     def __repr__(self) -> str:
-        given = [ascii(self.mnemonic), *map(ascii, self.registers)]
+        arguments = [ascii(self.mnemonic), *map(ascii, self.registers)]
         for slot in ("literal", "target", "name", "text", "count"):
             if getattr(self, slot) is not None:
-                given.append(f"{slot}={getattr(self, slot)!r}")
-        return f"{type(self).__name__}({', '.join(given)})"
+                arguments.append(f"{slot}={getattr(self, slot)!r}")
+        return f"{type(self).__name__}({', '.join(arguments)})"
 
     def labels(self) -> Iterable[Label]:
         """All labels that it leads to."""
@@ -114,16 +114,16 @@ def _fill(
 def _form(mnemonic: object) -> Format:
     form = format_of(mnemonic) if isinstance(mnemonic, str) else None
     if form is None:
-        from dexasm.faultform import near
+        from dexasm.listing.syntax import near
 
         hint = near(mnemonic, MNEMONICS) if isinstance(mnemonic, str) else ""
-        raise ValueError(f"no mnemonic: {shown(mnemonic)}{hint}")
+        raise ValueError(f"no mnemonic: {preview(mnemonic)}{hint}")
     return form
 
 
 def takes(mnemonic: str) -> str:
     """What an instruction takes, as a listing has it."""
-    from dexasm import faultform
+    from dexasm.listing import syntax as faultform
 
     return faultform.takes(mnemonic, faultform.operands_of(mnemonic, _form(mnemonic)))
 
@@ -224,11 +224,11 @@ class Code:
     @classmethod
     def of_text(cls, text: str) -> Code:
         """From the lines that a listing has of it, `code` the first and `end code` the last, as `list` writes them."""
-        made = cls.__new__(cls)
+        code = cls.__new__(cls)
         head, _, rest = text.partition("\n")
-        made.registers, made.ins, made.outs = map(int, head.split(" ")[1:])
-        made._text = rest
-        return made
+        code.registers, code.ins, code.outs = map(int, head.split(" ")[1:])
+        code._text = rest
+        return code
 
     @property
     def insns(self) -> list[Insn]:
@@ -236,9 +236,9 @@ class Code:
         return self._insns
 
     @insns.setter
-    def insns(self, given: Iterable[Insn]) -> None:
+    def insns(self, value: Iterable[Insn]) -> None:
         self._read()
-        self._insns = [*given]
+        self._insns = [*value]
 
     @property
     def tries(self) -> list[Try]:
@@ -246,16 +246,16 @@ class Code:
         return self._tries
 
     @tries.setter
-    def tries(self, given: Iterable[Try]) -> None:
+    def tries(self, value: Iterable[Try]) -> None:
         self._read()
-        self._tries = [*given]
+        self._tries = [*value]
 
     def replace(self, insn: Insn, *by: Insn) -> None:
         """Puts others, or none, in an instruction's place. What led there leads to the first of them or to the next."""
         insns = self.insns
         at = next((at for at, one in enumerate(insns) if one is insn), None)
         if at is None:
-            raise ValueError(f"no instruction of this code: {shown(insn)}")
+            raise ValueError(f"no instruction of this code: {preview(insn)}")
         insns[at : at + 1] = by
         heir = insns[at] if at < len(insns) else None
         for label in self.labels():
@@ -300,7 +300,7 @@ Words = list[str]
 Read = tuple[str, tuple[int, ...], int | None, Type | FieldRef | MethodRef | None, str | None, int | None]
 
 
-class _Kept(dict[str, Any]):
+class _Cache(dict[str, Any]):
     """The meaning of words, each read once. It drops all when it is full and keeps no long ones: no file makes it large.
     """
 
@@ -316,12 +316,12 @@ class _Kept(dict[str, Any]):
         return found
 
 
-_REGISTERS = _Kept(lambda word: int(word[1:]))
-_OPERANDS = _Kept(operand_of)
+_REGISTERS = _Cache(lambda word: int(word[1:]))
+_OPERANDS = _Cache(operand_of)
 _LINES: dict[str, Read] = {}  # the meaning of lines without a label
 
 
-@of_listing
+@canonical_reader
 def _read_lines(text: str) -> tuple[list[Insn], list[Try]]:
     insns: list[Insn] = []
     tries: list[Try] = []
@@ -374,37 +374,37 @@ def _kind(mnemonic: str) -> str:
     return "target" if form.target else "literal" if form.literal else "name" if form.name else ""
 
 
-_KINDS = _Kept(_kind)
+_KINDS = _Cache(_kind)
 
 
 def _read_insn(line: str, labels: dict[str, Label]) -> Insn:
     if '"' in line:
         line, _, word = line.partition(' "')
         mnemonic, register = line.split(" ")
-        return _keep(f'{line} "{word}', mnemonic, (_REGISTERS[register],), text=unquoted(f'"{word}'))
+        return _cache_insn(f'{line} "{word}', mnemonic, (_REGISTERS[register],), text=unquoted(f'"{word}'))
     words = line.split(" ")
     mnemonic, last = words[0], words[-1]
     if mnemonic[-8:] == "-payload":
         return _read_payload(words, labels)
     kind = _KINDS[mnemonic]
     if kind == "list":
-        return _keep(line, mnemonic, _registers(words[2:-2]), name=_OPERANDS[last])
+        return _cache_insn(line, mnemonic, _registers(words[2:-2]), name=_OPERANDS[last])
     if kind == "range":
-        return _keep(line, mnemonic, _registers(words[1:2]), name=_OPERANDS[last], count=int(words[2]))
+        return _cache_insn(line, mnemonic, _registers(words[1:2]), name=_OPERANDS[last], count=int(words[2]))
     if kind == "target":
         return _fill(_NEW(Insn), mnemonic, _registers(words[1:-1]), target=_label(labels, last))
     if kind == "literal":
-        return _keep(line, mnemonic, _registers(words[1:-1]), int(last))
+        return _cache_insn(line, mnemonic, _registers(words[1:-1]), int(last))
     if kind == "name":
-        return _keep(line, mnemonic, _registers(words[1:-1]), name=_OPERANDS[last])
-    return _keep(line, mnemonic, _registers(words[1:]))
+        return _cache_insn(line, mnemonic, _registers(words[1:-1]), name=_OPERANDS[last])
+    return _cache_insn(line, mnemonic, _registers(words[1:]))
 
 
-def _registers(words: Words) -> tuple[int, ...]:
-    return tuple([_REGISTERS[word] for word in words])
+def _registers(parser: Words) -> tuple[int, ...]:
+    return tuple([_REGISTERS[word] for word in parser])
 
 
-def _keep(
+def _cache_insn(
     line: str,
     mnemonic: str,
     registers: tuple[int, ...],
@@ -432,7 +432,7 @@ def _read_payload(words: list[str], labels: dict[str, Label]) -> Insn:
 # ---- writing
 
 
-class _Places:
+class _LabelNumbers:
     """Where the labels of a code stand, and how they are spelled."""
 
     def __init__(self, insns: list[Insn]) -> None:
@@ -444,13 +444,13 @@ class _Places:
 
     def word(self, label: Label) -> str:
         if not isinstance(label, Label):
-            raise ValueError(f"no Label: {shown(label)}")
+            raise ValueError(f"no Label: {preview(label)}")
         at = self.end
         if label.insn is not None:
             if id(label.insn) not in self.places:
-                raise ValueError(f"a label leads to no instruction of its code: {shown(label.insn)}")
+                raise ValueError(f"a label leads to no instruction of its code: {preview(label.insn)}")
             if id(label.insn) in self.twice:
-                raise ValueError(f"a label leads to an instruction that stands twice: {shown(label.insn)}")
+                raise ValueError(f"a label leads to an instruction that stands twice: {preview(label.insn)}")
             at = self.places[id(label.insn)]
         self.used.add(at)
         return f":L{at}"
@@ -459,7 +459,7 @@ class _Places:
 def _lines(code: Code) -> Iterator[str]:
     """The lines after the first and before the last."""
     insns, tries = code.insns, code.tries
-    places = _Places(insns)
+    places = _LabelNumbers(insns)
     written = [_insn_line(insn, places) for insn in insns]
     ends = [line for one in tries for line in _try_lines(one, places)]
     for at, line in enumerate(written):
@@ -474,7 +474,7 @@ def _lines(code: Code) -> Iterator[str]:
 @functools.lru_cache(maxsize=512)
 def _mnemonic(word: str) -> str:
     if not _MNEMONIC.fullmatch(word):
-        raise ValueError(f"no mnemonic: {shown(word)}")
+        raise ValueError(f"no mnemonic: {preview(word)}")
     return word
 
 
@@ -483,13 +483,13 @@ def _has_braces(mnemonic: str) -> bool:
     return mnemonic.startswith(("invoke-", "filled-new-array")) and not mnemonic.endswith("/range")
 
 
-def _insn_line(insn: Insn, places: _Places) -> str:
+def _insn_line(insn: Insn, places: _LabelNumbers) -> str:
     if isinstance(insn, _Payload):
         return " ".join(_payload_words(insn, places))
     if not isinstance(insn, Insn):
-        raise ValueError(f"no Insn: {shown(insn)}")
+        raise ValueError(f"no Insn: {preview(insn)}")
     if not isinstance(insn.mnemonic, str):
-        raise ValueError(f"no mnemonic: {shown(insn.mnemonic)}")
+        raise ValueError(f"no mnemonic: {preview(insn.mnemonic)}")
     words = [_mnemonic(insn.mnemonic)]
     registers = [f"v{number(register)}" for register in insn.registers]
     words += ["{", *registers, "}"] if _has_braces(insn.mnemonic) else registers
@@ -506,7 +506,7 @@ def _insn_line(insn: Insn, places: _Places) -> str:
     return " ".join(words)
 
 
-def _payload_words(insn: Insn, places: _Places) -> list[str]:
+def _payload_words(insn: Insn, places: _LabelNumbers) -> list[str]:
     if isinstance(insn, PackedSwitch):
         return [insn.word, number(insn.first), *map(places.word, insn.targets)]
     if isinstance(insn, SparseSwitch):
@@ -515,13 +515,13 @@ def _payload_words(insn: Insn, places: _Places) -> list[str]:
         pairs = zip(map(number, insn.keys), map(places.word, insn.targets))
         return [insn.word, *(word for pair in pairs for word in pair)]
     if not isinstance(insn, ArrayData) or not isinstance(insn.data, (bytes, bytearray)):
-        raise ValueError(f"no payload: {shown(insn)}")
+        raise ValueError(f"no payload: {preview(insn)}")
     return [insn.word, number(insn.width), *([insn.data.hex()] if insn.data else [])]
 
 
-def _try_lines(one: Try, places: _Places) -> Iterator[str]:
+def _try_lines(one: Try, places: _LabelNumbers) -> Iterator[str]:
     if not isinstance(one, Try):
-        raise ValueError(f"no Try: {shown(one)}")
+        raise ValueError(f"no Try: {preview(one)}")
     yield f"try {places.word(one.start)} {places.word(one.end)}"
     for catch in one.catches:
         yield f"catch {spelled(Type(catch.type))} {places.word(catch.target)}"

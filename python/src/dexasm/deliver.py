@@ -68,18 +68,18 @@ class Kept(OSError):
 def deliver(path: Path, answer: bytes, *, through: bool = True) -> None:
     """Brings the answer to the file, as above. With through=False what would write elsewhere (a link, a file of several names, a device, a
     pipe) is refused with ELOOP, EMLINK or ENXIO and stays as it is."""
-    place, file = reached(os.fsencode(path), through)
+    place, file = resolve(os.fsencode(path), through)
     if file is None:
-        with held():
-            bring(place, None, answer)
+        with blocked_signals():
+            write_at(place, None, answer)
         return
     is_replaced = False
     try:
         if stat.S_ISREG(os.fstat(file).st_mode):
-            with held():
-                is_replaced = bring(place, file, answer)
+            with blocked_signals():
+                is_replaced = write_at(place, file, answer)
         else:
-            put_all(file, answer)
+            write_all(file, answer)
     finally:
         # (where the old file fails to be closed that another one has replaced, nothing is lost of the answer)
         with contextlib.suppress(*[OSError] * is_replaced):
@@ -87,7 +87,7 @@ def deliver(path: Path, answer: bytes, *, through: bool = True) -> None:
 
 
 @contextlib.contextmanager
-def held() -> Iterator[None]:
+def blocked_signals() -> Iterator[None]:
     """Signals that end a process wait meanwhile, and a limit on file sizes ends none. This is so of the calling thread: a program with
     more threads blocks these signals in the others itself."""
     before = signal.pthread_sigmask(signal.SIG_BLOCK, ())
@@ -102,25 +102,25 @@ def held() -> Iterator[None]:
         signal.pthread_sigmask(signal.SIG_SETMASK, before)
 
 
-def reached(out: bytes, through: bool) -> tuple[bytes, int | None]:
+def resolve(out: bytes, through: bool) -> tuple[bytes, int | None]:
     """Where OUT stands, as a path without a link at its end (empty if none leads there), and OUT, open for writing; None where nothing
     stands."""
     for _ in range(TURNS):
-        is_link, there = look(out)
+        is_link, there = stat_target(out)
         if not through:
-            refuse_others(is_link, there)
+            require_plain_file(is_link, there)
         if there is None:
             place = os.path.realpath(out) if is_link else out
-            if is_nothing(place):
+            if is_absent(place):
                 return place, None
             continue
         try:
-            file = opened(out, is_link, there)
+            file = open_target(out, is_link, there)
         except FileNotFoundError:
             continue
         try:
             if os.path.samestat(os.fstat(file), there):
-                return place_of(out, is_link, there), file
+                return real_place(out, is_link, there), file
         except BaseException:
             os.close(file)
             raise
@@ -128,7 +128,7 @@ def reached(out: bytes, through: bool) -> tuple[bytes, int | None]:
     raise OSError(errno.EBUSY, os.strerror(errno.EBUSY))
 
 
-def look(out: bytes) -> tuple[bool, os.stat_result | None]:
+def stat_target(out: bytes) -> tuple[bool, os.stat_result | None]:
     """Whether it is a link; and what it is or leads to, or None for nothing.
 
     (The system follows the link here, so one that it doesn't follow for safety, as another user's in a sticky folder, is an error.)
@@ -145,7 +145,7 @@ def look(out: bytes) -> tuple[bool, os.stat_result | None]:
         return True, None
 
 
-def is_nothing(place: bytes) -> bool:
+def is_absent(place: bytes) -> bool:
     """Whether nothing stands there, not even a link. (A link that can't be looked at is the end of the path that Python makes of it.)"""
     try:
         os.lstat(place)
@@ -154,7 +154,7 @@ def is_nothing(place: bytes) -> bool:
     return False
 
 
-def refuse_others(is_link: bool, there: os.stat_result | None) -> None:
+def require_plain_file(is_link: bool, there: os.stat_result | None) -> None:
     """An error for all but a file of one name, or none."""
     number = 0
     if is_link:
@@ -167,7 +167,7 @@ def refuse_others(is_link: bool, there: os.stat_result | None) -> None:
         raise OSError(number, os.strerror(number))
 
 
-def opened(out: bytes, is_link: bool, there: os.stat_result) -> int:
+def open_target(out: bytes, is_link: bool, there: os.stat_result) -> int:
     """OUT, for writing; a regular file for reading too where that is allowed. (A pipe that is open for both waits for no reader.)"""
     flags = os.O_NOCTTY | (0 if is_link else os.O_NOFOLLOW)
     if stat.S_ISREG(there.st_mode):
@@ -176,7 +176,7 @@ def opened(out: bytes, is_link: bool, there: os.stat_result) -> int:
     return os.open(out, os.O_WRONLY | flags)
 
 
-def place_of(out: bytes, is_link: bool, there: os.stat_result) -> bytes:
+def real_place(out: bytes, is_link: bool, there: os.stat_result) -> bytes:
     """The path to what stands there; empty where none leads to it, as to a file that was removed and is open (/proc/self/fd/1)."""
     if not is_link:
         return out
@@ -187,19 +187,19 @@ def place_of(out: bytes, is_link: bool, there: os.stat_result) -> bytes:
         return b""
 
 
-def bring(place: bytes, file: int | None, answer: bytes) -> bool:
+def write_at(place: bytes, file: int | None, output: bytes) -> bool:
     """To that place, where this file stands or nothing does. Answers whether another file stands there now."""
     is_shared = file is not None and os.fstat(file).st_nlink > 1
-    made = new_part(place) if place else None
-    if made is None:
-        write_alone(place, file, answer)
+    beside = new_part(place) if place else None
+    if beside is None:
+        write_in_place(place, file, output)
         return False
-    part, new = made
+    part, new = beside
     with removed_on_failure(part):
-        fill(new, folder_of(place), file, answer, is_kept=file is not None)
-        if not is_shared and has_moved(part, place):
+        fill(new, folder_of(place), file, output, is_kept=file is not None)
+        if not is_shared and try_rename(part, place):
             return True
-    copy_over(part, place, file, answer)
+    copy_into(part, place, file, output)
     return False
 
 
@@ -237,24 +237,24 @@ def removed_on_failure(path: bytes) -> Iterator[None]:
         raise
 
 
-def fill(new: int, folder: bytes | int, like: int | None, answer: bytes, is_kept: bool = False) -> None:
+def fill(new: int, folder: bytes | int, like: int | None, output: bytes, is_kept: bool = False) -> None:
     """The whole answer in a new file, on the disk if it is to be kept, and closed. It looks as the other one, or as what is new there."""
     try:
         if like is not None:
-            dress(new, like)
+            copy_metadata(new, like)
         elif not stat.S_IMODE(os.fstat(new).st_mode) & ~PRIVATE:
             # (where it has more than it was made with, the system of files has modes of its own, as that of a memory stick)
             os.fchmod(new, new_mode(folder, 0o666))
-        put_all(new, answer)
+        write_all(new, output)
         if is_kept:
             os.fsync(new)
     finally:
         os.close(new)
 
 
-def put_all(file: int, answer: bytes) -> None:
+def write_all(file: int, output: bytes) -> None:
     """All the bytes, however few the system takes at a time."""
-    left = memoryview(answer)
+    left = memoryview(output)
     while left:
         count = os.write(file, left)
         if count == 0:
@@ -262,7 +262,7 @@ def put_all(file: int, answer: bytes) -> None:
         left = left[count:]
 
 
-def has_moved(part: bytes, place: bytes) -> bool:
+def try_rename(part: bytes, place: bytes) -> bool:
     """Whether the part has taken OUT's place; it hasn't where OUT keeps it."""
     try:
         os.rename(part, place)
@@ -273,13 +273,13 @@ def has_moved(part: bytes, place: bytes) -> bool:
     return True
 
 
-def copy_over(part: bytes, place: bytes, file: int | None, answer: bytes) -> None:
+def copy_into(part: bytes, place: bytes, file: int | None, output: bytes) -> None:
     """The bytes of the part in OUT. Where they don't fit there, the part stays."""
     try:
         if file is None:
-            put_new(place, answer)
+            put_new(place, output)
         else:
-            overwrite(file, answer)
+            overwrite(file, output)
             os.fsync(file)
     except OSError as error:
         raise Kept(error, part) from error
@@ -287,42 +287,42 @@ def copy_over(part: bytes, place: bytes, file: int | None, answer: bytes) -> Non
         os.unlink(part)
 
 
-def write_alone(place: bytes, file: int | None, answer: bytes) -> None:
+def write_in_place(place: bytes, file: int | None, output: bytes) -> None:
     """The answer in OUT itself, with nothing beside it. Where it doesn't fit, what OUT held comes back."""
     if file is None:
-        put_new(place, answer)
+        put_new(place, output)
         return
-    old = bytes_of(file)
+    old = read_all(file)
     try:
-        overwrite(file, answer)
+        overwrite(file, output)
     except BaseException:
         if old is not None:
-            put_back(file, old)
+            restore(file, old)
         raise
 
 
-def put_new(place: bytes, answer: bytes) -> None:
+def put_new(place: bytes, output: bytes) -> None:
     new = new_file(place)
     with removed_on_failure(place):
-        fill(new, folder_of(place), None, answer)
+        fill(new, folder_of(place), None, output)
 
 
-def overwrite(file: int, answer: bytes) -> None:
+def overwrite(file: int, output: bytes) -> None:
     # (it isn't cut before it is written, so that its room is still there for what comes back)
-    put_all(file, answer)
-    os.ftruncate(file, len(answer))
+    write_all(file, output)
+    os.ftruncate(file, len(output))
 
 
-def put_back(file: int, old: bytes) -> None:
+def restore(file: int, old: bytes) -> None:
     # (where a limit on the size of files stops it, what stands behind that limit wasn't written before either)
     with contextlib.suppress(OSError):
         os.lseek(file, 0, os.SEEK_SET)
-        put_all(file, old)
+        write_all(file, old)
     with contextlib.suppress(OSError):
         os.ftruncate(file, len(old))
 
 
-def bytes_of(file: int) -> bytes | None:
+def read_all(file: int) -> bytes | None:
     """What an open file holds; None where it may not be read, or is too much to be kept."""
     if os.fstat(file).st_size > MOST_KEPT:
         return None
@@ -335,12 +335,12 @@ def bytes_of(file: int) -> bytes | None:
     return bytes(held_bytes)
 
 
-def dress(new: int, like: int) -> None:
+def copy_metadata(new: int, like: int) -> None:
     """Gives an open file or folder the mode, the ACL, the attributes and, if the system allows it, the owner of another one. Where one
     can't be given, nobody may do with it what the other didn't let them."""
     there = os.fstat(like)
     mode, acl = stat.S_IMODE(there.st_mode), acl_of(like)
-    give_owner(new, there)
+    copy_owner(new, there)
     now = os.fstat(new)
     if now.st_uid != there.st_uid:
         mode &= ~stat.S_ISUID
@@ -350,7 +350,7 @@ def dress(new: int, like: int) -> None:
     os.fchmod(new, mode if has_acl(new, acl) else mode_without(mode, acl or []))
 
 
-def give_owner(new: int, there: os.stat_result) -> None:
+def copy_owner(new: int, there: os.stat_result) -> None:
     """User and group, or the group alone."""
     for user in (there.st_uid, -1):
         with contextlib.suppress(OSError):
@@ -385,13 +385,13 @@ def attribute(file: bytes | int, name: str) -> bytes | None:
 
 
 def acl_of(file: bytes | int, name: str = ACL) -> Acl | None:
-    given = attribute(file, name)
-    if given is None:
+    value = attribute(file, name)
+    if value is None:
         return None
     try:
-        acl = [(int(tag), int(may), int(whose)) for tag, may, whose in struct.iter_unpack("<HHI", given[4:])]
+        acl = [(int(tag), int(may), int(whose)) for tag, may, whose in struct.iter_unpack("<HHI", value[4:])]
         tags = {tag for tag, _, _ in acl}
-        if struct.unpack_from("<I", given) != (ACL_VERSION,) or not tags >= {USER_OBJ, GROUP_OBJ, OTHER}:
+        if struct.unpack_from("<I", value) != (ACL_VERSION,) or not tags >= {USER_OBJ, GROUP_OBJ, OTHER}:
             raise struct.error
     except struct.error:
         raise OSError(errno.EINVAL, "its access control list can't be read") from None

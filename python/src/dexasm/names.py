@@ -27,7 +27,7 @@ _PRIMITIVES = {
     "D": "double",
 }
 
-Given = TypeVar("Given", bound="Name")
+NameT = TypeVar("NameT", bound="Name")
 
 
 class Name(str):
@@ -36,11 +36,11 @@ class Name(str):
     __slots__ = ()
     form: re.Pattern[str]
 
-    def __new__(cls: type[Given], text: str) -> Given:
+    def __new__(cls: type[NameT], text: str) -> NameT:
         if type(text) is cls:
             return text
         if not isinstance(text, str) or not cls.form.fullmatch(text):
-            raise ValueError(f"no {cls.__name__}: {shown(text)}")
+            raise ValueError(f"no {cls.__name__}: {preview(text)}")
         return str.__new__(cls, text)
 
     @property
@@ -61,7 +61,7 @@ class Type(Name):
     @property
     def element(self) -> Type | None:
         """Of an array the type of its elements."""
-        return _known(Type, self[1:]) if self[0] == "[" else None
+        return _unchecked(Type, self[1:]) if self[0] == "[" else None
 
     @property
     def pretty(self) -> str:
@@ -84,11 +84,11 @@ class Proto(Name):
 
     @property
     def parameters(self) -> tuple[Type, ...]:
-        return tuple(_known(Type, found) for found in _ONE_TYPE.findall(self, 1, self.index(")")))
+        return tuple(_unchecked(Type, found) for found in _ONE_TYPE.findall(self, 1, self.index(")")))
 
     @property
     def returns(self) -> Type:
-        return _known(Type, self[self.index(")") + 1 :])
+        return _unchecked(Type, self[self.index(")") + 1 :])
 
 
 class FieldRef(Name):
@@ -103,7 +103,7 @@ class FieldRef(Name):
 
     @property
     def owner(self) -> Type:
-        return _known(Type, self.partition("->")[0])
+        return _unchecked(Type, self.partition("->")[0])
 
     @property
     def name(self) -> str:
@@ -111,7 +111,7 @@ class FieldRef(Name):
 
     @property
     def type(self) -> Type:
-        return _known(Type, self.partition(":")[2])
+        return _unchecked(Type, self.partition(":")[2])
 
 
 class MethodRef(Name):
@@ -126,7 +126,7 @@ class MethodRef(Name):
 
     @property
     def owner(self) -> Type:
-        return _known(Type, self.partition("->")[0])
+        return _unchecked(Type, self.partition("->")[0])
 
     @property
     def name(self) -> str:
@@ -134,7 +134,7 @@ class MethodRef(Name):
 
     @property
     def proto(self) -> Proto:
-        return _known(Proto, self[self.index("(") :])
+        return _unchecked(Proto, self[self.index("(") :])
 
 
 _MEMBER_NAME = re.compile(_MEMBER)
@@ -143,23 +143,23 @@ _MEMBER_NAME = re.compile(_MEMBER)
 def member(name: str) -> str:
     """The name of a field or of a method, if it is one."""
     if not isinstance(name, str) or not _MEMBER_NAME.fullmatch(name):
-        raise ValueError(f"no name of a member: {shown(name)}")
+        raise ValueError(f"no name of a member: {preview(name)}")
     return name
 
 
 def operand(text: str) -> Type | FieldRef | MethodRef:
     """What an instruction names, its kind told by its form."""
     if not isinstance(text, str):
-        raise ValueError(f"no name: {shown(text)}")
+        raise ValueError(f"no name: {preview(text)}")
     if "->" not in text:
         return Type(text)
     return MethodRef(text) if "(" in text else FieldRef(text)
 
 
-def shown(given: object) -> str:
+def preview(value: object) -> str:
     """What was given, in a line: its beginning, without what a terminal obeys."""
-    said = ascii(given)
-    return said if len(said) <= 80 else f"{said[:77]}..."
+    text = ascii(value)
+    return text if len(text) <= 80 else f"{text[:77]}..."
 
 
 # ---- words of a listing
@@ -168,7 +168,7 @@ _STRANGE = re.compile(r"[^!-\[\]-~]")
 _ESCAPED = re.compile(r"[^ !#-\[\]-~]")
 
 
-def _known(kind: type[Given], text: str) -> Given:
+def _unchecked(kind: type[NameT], text: str) -> NameT:
     """A name of a text that is known to be one."""
     return str.__new__(kind, text)
 
@@ -193,22 +193,22 @@ def spelled(name: str) -> str:
 def quoted(text: str) -> str:
     """A text as a word."""
     if not isinstance(text, str):
-        raise ValueError(f"no text: {shown(text)}")
+        raise ValueError(f"no text: {preview(text)}")
     return f'"{_ESCAPED.sub(_units, text)}"'
 
 
-def number(given: Any) -> str:
+def number(value: Any) -> str:
     """A number as a word."""
     try:
-        return int.__repr__(index(given))
+        return int.__repr__(index(value))
     except TypeError:
-        raise ValueError(f"no number: {shown(given)}") from None
+        raise ValueError(f"no number: {preview(value)}") from None
 
 
-def flags(given: Any) -> str:
+def flags(value: Any) -> str:
     """Flags as a word."""
-    number(given)
-    return hex(index(given))
+    number(value)
+    return hex(index(value))
 
 
 def unspelled(word: str) -> str:
@@ -222,16 +222,16 @@ def unquoted(word: str) -> str:
 
 
 def type_of(word: str) -> Type:
-    return _known(Type, unspelled(word))
+    return _unchecked(Type, unspelled(word))
 
 
 def proto_of(word: str) -> Proto:
-    return _known(Proto, unspelled(word))
+    return _unchecked(Proto, unspelled(word))
 
 
 def operand_of(word: str) -> Type | FieldRef | MethodRef:
     """What a word of an instruction names."""
     name = unspelled(word) if "\\" in word else word
     if "->" not in name:
-        return _known(Type, name)
-    return _known(MethodRef, name) if "(" in name else _known(FieldRef, name)
+        return _unchecked(Type, name)
+    return _unchecked(MethodRef, name) if "(" in name else _unchecked(FieldRef, name)

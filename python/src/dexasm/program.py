@@ -10,9 +10,9 @@ from collections.abc import Iterable, Iterator, MutableSequence
 from typing import Any, overload
 
 import dexasm
-from dexasm.answers import NoListing, of_listing
-from dexasm.members import Class
-from dexasm.names import Type, shown, unspelled
+from dexasm.canonical import NoListing, canonical_reader
+from dexasm.classes import Class
+from dexasm.names import Type, preview, unspelled
 
 HEAD = "dex 035 listing 2\n"
 # How many near names are told, of what length at most, and how many are compared letter by letter.
@@ -25,7 +25,7 @@ class Classes(MutableSequence[Class]):
 
     __slots__ = ("_text", "_rows", "_changed", "_index")
 
-    @of_listing
+    @canonical_reader
     def __init__(self, text: str) -> None:
         self._text = text
         self._rows: list[Class | tuple[int, int]] = []
@@ -59,24 +59,24 @@ class Classes(MutableSequence[Class]):
             return [self._read(one) for one in range(len(self._rows))[at]]
         return self._read(at)
 
-    def __setitem__(self, at: Any, given: Any) -> None:
+    def __setitem__(self, at: Any, value: Any) -> None:
         self._changed += 1
         if isinstance(at, slice):
-            self._rows[at] = [_known(one) for one in given]
+            self._rows[at] = [_checked(one) for one in value]
         else:
-            self._rows[at] = _known(given)
+            self._rows[at] = _checked(value)
 
     def __delitem__(self, at: int | slice) -> None:
         self._changed += 1
         del self._rows[at]
 
-    def insert(self, at: int, given: Class) -> None:
+    def insert(self, at: int, value: Class) -> None:
         is_indexed = at == len(self._rows) and self._index[0] == (Class.renamed, self._changed)
         self._changed += 1
-        self._rows.insert(at, _known(given))
+        self._rows.insert(at, _checked(value))
         if is_indexed:
             # (so that whoever adds many and looks for each has it quick)
-            self._index[1].setdefault(given.name, at)
+            self._index[1].setdefault(value.name, at)
             self._index = (Class.renamed, self._changed), self._index[1]
 
     def __repr__(self) -> str:
@@ -107,7 +107,7 @@ class Classes(MutableSequence[Class]):
     def _name(self, row: Class | tuple[int, int]) -> str:
         return row.name if isinstance(row, Class) else self._name_in_text(row[0])
 
-    @of_listing
+    @canonical_reader
     def _name_in_text(self, at: int) -> str:
         begin = at + len("class ")
         return unspelled(self._text[begin : self._text.index(" ", begin)])
@@ -115,7 +115,7 @@ class Classes(MutableSequence[Class]):
     def _type(self, row: Class | tuple[int, int]) -> Type:
         return Type(row.name) if isinstance(row, Class) else self._type_in_text(row[0])
 
-    @of_listing
+    @canonical_reader
     def _type_in_text(self, at: int) -> Type:
         return Type(self._name_in_text(at))
 
@@ -129,18 +129,18 @@ class NoClass(KeyError):
 
     def __str__(self) -> str:
         found = near_names(str(self.args[0]), [str(name) for name in self._classes.names()])
-        return f"no class {shown(self.args[0])}" + (f"; near it: {', '.join(map(shown, found))}" if found else "")
+        return f"no class {preview(self.args[0])}" + (f"; near it: {', '.join(map(preview, found))}" if found else "")
 
     def __reduce__(self) -> tuple[object, ...]:
         return KeyError, (str(self),)
 
 
-def near_names(asked: str, names: list[str]) -> list[str]:
+def near_names(name_wanted: str, names: list[str]) -> list[str]:
     """Names of classes that somebody could have meant: by another spelling (com.x.Y, com/x/Y), of another package, or
     with letters that differ.
     """
-    bare = asked.removeprefix("L").removesuffix(";")
-    for spelled in (f"L{asked.replace('.', '/')};", f"L{bare.replace('.', '/')};"):
+    bare = name_wanted.removeprefix("L").removesuffix(";")
+    for spelled in (f"L{name_wanted.replace('.', '/')};", f"L{bare.replace('.', '/')};"):
         if spelled in names:
             return [spelled]
     last = re.split("[./]", bare)[-1].lower()
@@ -149,13 +149,13 @@ def near_names(asked: str, names: list[str]) -> list[str]:
         return alike[:MOST_NEAR]
     import difflib
 
-    return difflib.get_close_matches(asked, names[:MOST_COMPARED], MOST_NEAR, 0.75)
+    return difflib.get_close_matches(name_wanted, names[:MOST_COMPARED], MOST_NEAR, 0.75)
 
 
-def _known(given: object) -> Class:
-    if not isinstance(given, Class):
-        raise TypeError(f"no Class: {shown(given)}")
-    return given
+def _checked(value: object) -> Class:
+    if not isinstance(value, Class):
+        raise TypeError(f"no Class: {preview(value)}")
+    return value
 
 
 class Program:
@@ -175,8 +175,8 @@ class Program:
         return self._classes
 
     @classes.setter
-    def classes(self, given: Iterable[Class]) -> None:
-        self._classes[:] = [*given]
+    def classes(self, value: Iterable[Class]) -> None:
+        self._classes[:] = [*value]
 
     @classmethod
     def read(cls, data: dexasm.Data) -> Program:
@@ -193,9 +193,9 @@ class Program:
         """The program of a listing that `list` wrote. It isn't looked at again: `parse` takes other texts."""
         if not text.startswith(HEAD):
             raise NoListing("no listing as list writes it")
-        made = cls()
-        made._classes = Classes(text)
-        return made
+        program = cls()
+        program._classes = Classes(text)
+        return program
 
     def write(self, align: bool = False) -> bytes:
         """The file of the program. Where it breaks a rule this raises Refused, which says where in the program."""

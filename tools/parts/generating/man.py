@@ -425,8 +425,8 @@ def made() -> Made:
     pages |= {f"docs/man/{name}.1": helper_page(name, doc, said) for name, doc in helpers().items()}
     pages |= {f"contrib/completion/{name}": words(said) for name, words in (("dexasm.bash", bash), ("_dexasm", zsh), ("dexasm.fish", fish))}
     pages |= {f"python/bin/{name}": Program(HELPER % (name, name)) for name in helpers() if name != LAUNCHER}
-    pages["python/src/dexasm/tools/fault_table.py"] = fault_table()
-    pages["python/src/dexasm/tools/lint/rule_table.py"] = rule_table()
+    pages["python/src/dexasm/cli/fault_table.py"] = fault_table()
+    pages["python/src/dexasm/analysis/verifier/rule_table.py"] = rule_table()
     if misnamed():
         raise Missing(f"{FORMAT} and {LISTING} don't name these faults as {NAMES} does: {', '.join(misnamed())}")
     look_at_version(said)

@@ -1,0 +1,217 @@
+"""What a program names, and where: for dexasm-query uses, outside and find."""
+from __future__ import annotations
+
+import functools
+import re
+from collections import Counter
+from collections.abc import Callable, Iterator
+from typing import TYPE_CHECKING, NamedTuple
+
+from dexasm.analysis.xref import Xref, classes_in, descriptor_of, unescaped
+from dexasm.cli.errors import USAGE, CliError
+from dexasm.cli.sanitize import escaped
+from dexasm.cli.show import PATTERN, pattern
+
+if TYPE_CHECKING:
+    from typing import Any
+
+    from dexasm.classes import Class, Method, Value
+    from dexasm.program import Program
+
+    Rows = list[dict[str, Any]]
+
+VALUES = ("type", "field", "enum", "method")  # kinds of values that name something
+
+
+class Reference(NamedTuple):
+    """What is named, or a text, by which class or member, and how: by an instruction, its mnemonic."""
+
+    name: str
+    is_text: bool
+    by: str
+    how: str
+
+
+def references(program: Program) -> Iterator[Reference]:
+    """Each, in the order of the listing."""
+    for one in program.classes:
+        owner = str(one.name)
+        yield from (Reference(str(name), False, owner, "superclass") for name in (one.superclass,) if name is not None)
+        yield from (Reference(str(name), False, owner, "interface") for name in one.interfaces)
+        for field in one.fields:
+            by = str(one.ref(field))
+            yield Reference(str(field.type), False, by, "type")
+            yield from of_value(by, field.value)
+        for method in one.methods:
+            yield from of_method(one, method)
+
+
+def of_value(by: str, value: Value | None) -> Iterator[Reference]:
+    for one in value.all() if value else ():
+        if one.kind == "string" or one.kind in VALUES:
+            yield Reference(str(one.value), one.kind == "string", by, "value")
+
+
+def of_method(one: Class, method: Method) -> Iterator[Reference]:
+    by = str(one.ref(method))
+    yield Reference(str(method.proto), False, by, "prototype")
+    for insn in method.insns:
+        if insn.name is not None:
+            yield Reference(str(insn.name), False, by, insn.mnemonic)
+        elif insn.text is not None:
+            yield Reference(insn.text, True, by, insn.mnemonic)
+    for each in method.code.tries if method.code else ():
+        yield from (Reference(str(catch.type), False, by, "catch") for catch in each.catches)
+
+
+# ---- uses
+
+
+def find_uses(program: Program, names: list[str], is_text: bool) -> dict[str, Rows]:
+    """Of each name or text that was asked for, who has it and how, in the order of the listing, with how often."""
+    wanted = {one: matcher(program, one, is_text) for one in names}
+    found: dict[str, Counter[Reference]] = {one: Counter() for one in names}
+    for mention in references(program):
+        for one, is_meant in wanted.items():
+            if mention.is_text == is_text and is_meant(mention.name):
+                found[one][mention] += 1
+    missing = next((one for one in names if not found[one]), None)
+    if missing is not None:
+        raise CliError(f"{escaped(missing)}: nothing of the file {'has that text' if is_text else 'names that'}", USAGE)
+    return {one: [row_of(mention, times) for mention, times in rows.items()] for one, rows in found.items()}
+
+
+def row_of(mention: Reference, times: int) -> dict[str, Any]:
+    return {"name": mention.name, "by": mention.by, "how": mention.how, "times": times}
+
+
+def matcher(program: Program, wanted_name: str, is_text: bool) -> Callable[[str], bool]:
+    """Whether a name, or a text, is one that was asked for."""
+    if is_text:
+        return functools.partial(matches, wanted_name)
+    owner, is_member, wanted = unescaped(wanted_name).partition("->")
+    owner = descriptor_of(owner)
+    if is_member:
+        return functools.lru_cache(None)(functools.partial(is_member_of, Xref(program), owner, wanted))
+    return functools.lru_cache(None)(lambda name: any(matches(owner, each) for each in classes_in(name)))
+
+
+def is_member_of(known: Xref, owner: str, wanted: str, name: str) -> bool:
+    """Whether a name is that of a member, of a class or of one that inherits it from there in this program."""
+    of, is_member, signature = name.partition("->")
+    if not is_member or not (matches(wanted, signature) or matches(wanted, re.split("[(:]", signature)[0])):
+        return False
+    number = known.resolve(of, signature)
+    return matches(owner, of) or number is not None and matches(owner, str(known.classes[known.row_of(number)].name))
+
+
+def matches(wanted: str, name: str) -> bool:
+    """Whether a name, or a text, is this one, or of this pattern."""
+    return wanted == name or PATTERN.search(wanted) is not None and pattern(wanted).fullmatch(name) is not None
+
+
+# ---- outside
+
+
+def outside(program: Program) -> dict[str, dict[str, Any]]:
+    """Each class that is named and isn't there, with who names it, and its members; and of a class that is there the
+    members that neither it nor what it inherits from here has."""
+    known = Xref(program)
+    found: dict[str, dict[str, Any]] = {}
+    for mention in references(program):
+        if mention.is_text:
+            continue
+        owner, is_member, signature = mention.name.partition("->")
+        for name in dict.fromkeys(classes_in(mention.name)):
+            if name not in known.rows:
+                add(found.setdefault(name, {"by": {}, "members": {}})["by"], mention.by)
+        if is_member and owner.startswith("L") and known.resolve(owner, signature) is None:
+            row = found.setdefault(owner, {"by": {}, "members": {}})
+            add(row["members"].setdefault(signature, {}), mention.by)
+    return {name: listed(found[name]) for name in sorted(found)}
+
+
+def add(to: dict[str, None], by: str) -> None:
+    to[by] = None
+
+
+def listed(row: dict[str, Any]) -> dict[str, Any]:
+    members = row["members"]
+    return {"by": [*row["by"]], "members": {signature: [*members[signature]] for signature in sorted(members)}}
+
+
+# ---- find
+
+
+def find(program: Program, patterns: list[str]) -> dict[str, list[str]]:
+    """The names and the texts of a program in which a text stands, or that a pattern with * and ? is all of."""
+    forms = [pattern(one if PATTERN.search(one) else f"*{one}*") for one in patterns]
+    found: dict[str, dict[str, None]] = {"classes": {}, "fields": {}, "methods": {}, "strings": {}}
+
+    def look(kind: str, text: str) -> None:
+        if any(form.fullmatch(text) for form in forms):
+            found[kind][text] = None
+
+    for one in program.classes:
+        look("classes", str(one.name))
+        for field in one.fields:
+            look("fields", str(one.ref(field)))
+        for method in one.methods:
+            look("methods", str(one.ref(method)))
+    for mention in dict.fromkeys(mention[:2] for mention in references(program)):
+        name, is_text = mention
+        if is_text:
+            look("strings", name)
+        elif "->" in name:
+            look("methods" if "(" in name else "fields", name)
+        else:
+            for each in classes_in(name):
+                look("classes", each)
+    return {kind: sorted(names) for kind, names in found.items()}
+
+
+# ---- find --insns
+
+NUMBER = re.compile(r"-?(?:0x[0-9A-Fa-f]{1,16}|[0-9]{1,20})")
+HIGH = {"const/high16": 16, "const-wide/high16": 48}  # how far a literal is shifted in its number
+INTEGERS = ("byte", "short", "char", "int", "long")
+
+
+def find_insns(program: Program, patterns: list[str]) -> dict[str, Rows]:
+    """The instructions of each mnemonic or pattern, or with each number, and the fields with that initial value."""
+    found: dict[str, Counter[Numbered]] = {one: Counter() for one in patterns}
+    forms: dict[str, frozenset[int] | re.Pattern[str]]
+    forms = {one: number_of(one) if NUMBER.fullmatch(one) else pattern(one) for one in patterns}
+    for each in numbered(program):
+        number = each.number
+        numbers = () if number is None else (number, number << HIGH.get(each.how, 0))
+        for one, form in forms.items():
+            is_meant = not form.isdisjoint(numbers) if isinstance(form, frozenset) else form.fullmatch(each.how)
+            if is_meant:
+                found[one][each] += 1
+    return {one: [each._asdict() | {"times": times} for each, times in rows.items()] for one, rows in found.items()}
+
+
+class Numbered(NamedTuple):
+    """An instruction, by its mnemonic, or an initial value ("value"): who has it, and its number if it has one."""
+
+    by: str
+    how: str
+    number: int | None
+
+
+def numbered(program: Program) -> Iterator[Numbered]:
+    for one in program.classes:
+        for field in one.statics:
+            for value in field.value.all() if field.value else ():
+                if value.kind in INTEGERS:
+                    yield Numbered(str(one.ref(field)), "value", value.value)
+        for method in one.methods:
+            by = str(one.ref(method))
+            yield from (Numbered(by, insn.mnemonic, insn.literal) for insn in method.insns)
+
+
+def number_of(word: str) -> frozenset[int]:
+    """A number of the command line; one beyond what is signed is also the negative number of these bits."""
+    number = int(word, 0) if "x" in word else int(word)
+    return frozenset((number, *(number - (1 << bits) for bits in (32, 64) if 1 << bits - 1 <= number < 1 << bits)))

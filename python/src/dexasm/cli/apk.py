@@ -1,0 +1,176 @@
+"""Checks, lists, strips, extracts or replaces each classes*.dex of an .apk, a .jar or another zip archive.
+
+usage: dexasm-apk [--close] [--allow-empty] check|list|strip|extract ARCHIVE [FOLDER]
+       dexasm-apk [--close] [--quiet] replace ARCHIVE FILE.. --output OUT
+
+check and list write the name of the .dex file before each line: `classes2.dex: ok`. With FOLDER the listings go to
+FOLDER/classes.txt and so on, one for each .dex file; strip and extract want it, and write FOLDER/classes.dex and so on,
+stripped or as it is (extract does not validate, so a refused file is extracted too). What is
+refused, or can't be read out of the archive, is a line on standard error with the same name before it, and the others
+go on. Nothing else of the archive is read, and nothing outside FOLDER is written: a link there, a file with another
+name, and what is no file are lines too. After `--` a word is a file whatever it begins with.
+
+With --close each .dex file whose signature or checksum doesn't hold is closed first, as by `dexasm-close`, and a line
+on standard error says so and what didn't hold: D8 before 1.6.20 signed its files in a way that dexasm refuses. The
+others are taken as they are, and so is what has no header or another length. The archive isn't changed.
+
+An entry is not read if it is encrypted or has the flag of it (Android ignores the flag), if its sum is wrong or its
+method unknown, or if another entry has its name (Android refuses such an archive). Each .dex file is held in memory. A
+file that begins as something else, with an archive behind that, and an archive in which other tools can find other
+entries are refused (status 3). An archive without classes*.dex is an error (status 3) too, unless --allow-empty is
+given. `dexasm-check` also checks other names: *.dex in other folders, archives in the archive.
+
+replace writes OUT, the archive with its classes.dex exchanged for a FILE of that name, and so on, if dexasm accepts it.
+Each other entry stays byte for byte, at the place that zipalign asks for where it isn't compressed (4 bytes, 16 KB for
+lib/*.so); signatures are left out, since they don't hold any more: META-INF/*.SF, *.RSA, *.DSA and *.EC, of an
+application their MANIFEST.MF, and the block of Android's own. OUT has to be signed, as by apksigner. It is written by
+the command's rules, once it is whole; ARCHIVE stays, unless it is OUT. If FILE has less annotations or debug
+information than the entry that it replaces, a line says how much is dropped, unless --quiet is given.
+
+Exit status: 0, or the highest of dexasm's; 2 wrong words; 3 no archive, no classes*.dex in it, or one that can't be
+read or written.
+"""
+from __future__ import annotations
+
+import contextlib
+import os
+import stat
+import sys
+
+from dexasm.checksums import header_problem, mismatches, with_checksums
+from dexasm.cli.core import run_job, run_or_fail
+from dexasm.cli.errors import FAILED, USAGE, CliError, reason
+from dexasm.cli.io import read_file, write_file
+from dexasm.cli.main import command, print_error
+from dexasm.cli.sanitize import escaped
+from dexasm.cli.zip_read import NAME, dex_entries, open_archive, read_entry
+
+TYPE_CHECKING = False  # (as in typing)
+if TYPE_CHECKING:
+    from argparse import Namespace
+    from zipfile import ZipFile, ZipInfo
+
+    from dexasm.cli.main import Parser
+
+
+def output_path(job: str, folder: str | None, name: str) -> str | None:
+    """Where the answer goes, or None for standard output. What would be written elsewhere isn't written."""
+    if folder is None:
+        return None
+    place = os.path.join(folder, name.removesuffix("dex") + "txt" if job == "list" else name)
+    try:
+        there = os.lstat(place)
+    except FileNotFoundError:
+        return place
+    except OSError as error:
+        raise CliError(f"{escaped(place)}: {reason(error)}") from None
+    if stat.S_ISLNK(there.st_mode):
+        raise CliError(f"{escaped(place)} is a link, so it isn't written")
+    if not stat.S_ISREG(there.st_mode):
+        raise CliError(f"{escaped(place)} is no file, so it isn't written")
+    if there.st_nlink > 1:
+        raise CliError(f"{escaped(place)} has another name too, so it isn't written")
+    return place
+
+
+def fix_checksums(data: bytes, name: str) -> bytes:
+    """The bytes with sums that hold, if they have a header and its length; what didn't hold is told."""
+    wrong = [] if header_problem(data) else mismatches(data)
+    if wrong:
+        print_error(f"{name}: dexasm-apk: closed: {'; '.join(wrong)}")
+    return with_checksums(data) if wrong else data
+
+
+def run_entry_job(job: str, archive: ZipFile, folder: str | None, name: str, entries: list[ZipInfo], closes: bool) -> int:
+    """The job on one .dex file; answers the status."""
+    try:
+        place, data = output_path(job, folder, name), read_entry(archive, entries)
+        if job == "extract" and place is not None:
+            write_file(place, fix_checksums(data, name) if closes else data, through=False)
+            return 0
+        result = run_job(job, data=fix_checksums(data, name) if closes else data)
+        if place is not None and result.status == 0:
+            write_file(place, result.output, through=False)
+    except CliError as failed:
+        print_error(f"{name}: dexasm-apk: {failed.line}")
+        return failed.status
+    line: bytes | str  # (of the answer, and of what was told)
+    for line in result.output.splitlines() if place is None else ():
+        print(f"{name}: {line.decode('ascii', 'backslashreplace')}")
+    for line in result.error_lines:
+        sys.stdout.flush()
+        print_error(f"{name}: {escaped(line)}")
+    return result.status
+
+
+@command(unread=FAILED)
+def main(parser: Parser) -> int:
+    parser.add_argument("--close", action="store_true")
+    parser.add_argument("--allow-empty", action="store_true")
+    parser.add_argument("--quiet", "-q", action="store_true")
+    parser.add_argument("--output", "-o")
+    parser.add_argument("job", choices=("check", "list", "strip", "extract", "replace"))
+    parser.add_argument("archive")
+    parser.add_argument("rest", nargs="*")
+    args = parser.parse_intermixed_args()  # (an option may stand behind the files)
+    if args.job == "replace":
+        return replace(parser, args)
+    if args.output is not None or args.quiet:
+        parser.error("--output and --quiet are of replace alone")
+    if len(args.rest) > 1:
+        parser.error("too many words")
+    args.folder = args.rest[0] if args.rest else None
+    if args.job in ("strip", "extract") and args.folder is None:
+        parser.error(f"{args.job} wants a FOLDER")
+    if args.job == "check" and args.folder is not None:
+        parser.error("check takes one ARCHIVE and no FOLDER: dexasm-check looks at many")
+    with open_archive(args.archive) as archive:
+        entries = dex_entries(archive)
+        if not entries and not args.allow_empty:
+            raise CliError(f"{escaped(args.archive)}: no classes*.dex in it")
+        if args.folder is not None:
+            try:
+                os.makedirs(args.folder, exist_ok=True)
+            except OSError as error:
+                raise CliError(f"{escaped(args.folder)}: {reason(error)}", FAILED) from None
+        ends = (run_entry_job(args.job, archive, args.folder, name, found, args.close) for name, found in entries)
+        return max(ends, default=0)
+
+
+def replace(parser: Parser, args: Namespace) -> int:
+    """Writes the archive with these files in it."""
+    if args.output is None or not args.rest:
+        parser.error("replace wants FILEs, and --output OUT")
+    from dexasm.cli.zip_write import replace_entries
+
+    files: dict[str, bytes] = {}
+    for path in args.rest:
+        entry, data = os.path.basename(path), read_file(path)
+        if NAME.fullmatch(entry) is None or entry in files:
+            why = "it is given twice" if entry in files else "no classes*.dex"
+            raise CliError(f"{escaped(path)}: {why}: FILE has the name of what it replaces", USAGE)
+        files[entry] = fix_checksums(data, escaped(path)) if args.close else data
+        run_or_fail("check", data=files[entry], name=escaped(path))
+    lines = [] if args.quiet else drop_lines(args.archive, files)
+    write_file(args.output, replace_entries(args.archive, files))
+    for line in lines:
+        print_error(f"dexasm-apk: {line}")
+    return 0
+
+
+def drop_lines(path: str, files: dict[str, bytes]) -> list[str]:
+    """A line for each file that has less annotations or debug information than the entry that it replaces."""
+    from dexasm.analysis.extras import drop_line
+
+    with open_archive(path) as archive:
+        old: dict[str, bytes] = {}
+        for name, entries in dex_entries(archive):
+            if name in files:
+                with contextlib.suppress(CliError):  # (what can't be read of an entry is reported as it is replaced)
+                    old[name] = read_entry(archive, entries)
+    found = [drop_line(name, [data], files[name]) for name, data in old.items()]
+    return [line for line in found if line is not None]
+
+
+if __name__ == "__main__":
+    main()

@@ -1,0 +1,203 @@
+"""Checks many files, and reports as text, JSON, SARIF, GitHub annotations or JUnit.
+
+usage: dexasm-check [--lint] [--explain] [--quiet] [--allow-empty] [--color auto|always|never] [--jobs N] [--seconds N]
+                    [--memory SIZE] PATH..
+       dexasm-check --json [--program] [--lint] [--quiet] [..] PATH..
+       dexasm-check --sarif|--github|--junit [--lint] [--quiet] [..] PATH..
+
+PATH is a .dex file, a zip archive, of which each *.dex is checked, or a listing, which is assembled. Files named *.dex
+are read as .dex files, those named *.apk, *.jar, *.zip, *.aar, *.aab and *.apks as archives, in any case, and others by
+their first bytes. Archives in an archive are checked too, one deep. Of a folder it is each file below that has such a
+name, or begins as a .dex file, an archive or a listing (`dex 035`) does; a file that looks like a listing but for its
+first line has a line. A link there isn't followed: each has a line, and so have pipes and devices; it is an error where
+something could pass unseen (what it leads to has such a name, begins so or is a folder, and lies elsewhere). `-` reads
+paths from standard input, each with a NUL after it. There is a line for each, in the order of the paths:
+
+  a.dex: ok
+  a.dex:0x0c: error: 9 Signature: the SHA-1 differs
+  app.apk!classes2.dex: ok
+  app.aab!base/dex/classes.dex: ok
+  x.txt:12:8: error: 102 Number: v16: v0 to v15 here; move/from16 or move/16 takes more
+
+The place follows the name: the byte of a file, or line and column of a listing, or the number of the class if no line
+is known. A file that can't be read has such a line too, and the others are checked; so has a file that begins as
+something else, with an archive behind that. An archive without a *.dex is accepted, unless it is called *.apk. If
+nothing was checked, a line on standard error says so and the status is 3.
+
+  --allow-empty  accepts that
+  --lint     of what dexasm accepts, what a device would still refuse: each place where it breaks a rule of dexasm-lint
+             (with its --code, whose manual has them) is such a line, and where none does it is `ok`:
+             x.txt:9:12: error: v3 holds 0.., and .. (register-kind, B1)
+  --explain  prints below each refusal what dexasm-explain prints: the rule, the bytes or lines there, and the usual
+             cause
+  --quiet    leaves out what is accepted
+  --json     a line of JSON for each: file, uri, kind (dex, listing, archive), status, number, name, place, line,
+             column, class, member, instruction, sentence, why, program, dexasm; what isn't known is null. The status is
+             ok, refused, empty (an archive without a *.dex), skipped (a link or no file, or an archive two deep, which
+             is accepted), failed (it can't be read), time, memory or killed. dexasm has version, build (proved, quick
+             or unknown) and sha256 of what answers. With --lint also address, register, rule and page, and the status
+             broken
+  --program  has program say the SHA-256 of the stripped bytes: equal where two files are one program
+  --sarif    one document of SARIF 2.1.0, which has what isn't accepted (also archives that can't be read), as notes
+             what was skipped or can't be read, and dexasm as above
+  --github   what isn't accepted, and what was skipped, as commands of a workflow of GitHub, which shows it at the file
+  --junit    one document as JUnit writes it, for other servers
+  --color    on a terminal, unless NO_COLOR is set, the verdicts have colours; always and never say so of each output
+
+The files are checked by up to --jobs N workers (as many as there are processors): one for some thousands of small
+files or some megabytes, and another for each that many more. Each file, an archive with all that is in it, may take
+--seconds N of its processor (60, or a fraction such as 0.5; ten times as much by the clock) and --memory SIZE (2G); one
+at which a worker is stopped has a line that says so. On a terminal a line tells how far it is. Without libdexasm each
+file is a run of dexasm, which takes longer. --version tells which build answers and its SHA-256; with DEXASM=proved in
+the environment only a proved one does.
+
+Exit status: 0 all are accepted, 1 one is refused or breaks a rule, 2 wrong words, 3 one can't be read or takes too
+long, or a method isn't checked to its end, 4 one takes more than --memory. Of several it is the highest.
+"""
+from __future__ import annotations
+
+import os
+import sys
+
+from dexasm.cli.core import core_build
+from dexasm.cli.errors import FAILED, CliError
+from dexasm.cli.main import Version, byte_count, command, positive_number, print_error, seconds
+from dexasm.cli.reporters import ACCEPTED, GitHub, JUnit, Json, Sarif, Text, exit_status, is_of_member
+from dexasm.cli.scheduler import check_all, find_inputs
+from dexasm.cli.terminal import StatusLine, is_colored
+
+TYPE_CHECKING = False  # (as in typing)
+if TYPE_CHECKING:
+    from argparse import Namespace
+
+    from dexasm.cli.main import Parser
+    from dexasm.cli.scheduler import Verdict
+
+NOTHING = "nothing was looked at: no .dex file, archive or listing is there (--allow-empty takes that)"
+FORMS: dict[str, type[Text]] = {"json": Json, "sarif": Sarif, "github": GitHub, "junit": JUnit}
+
+
+class ExplainedText(Text):
+    """Lines, and below each refusal what dexasm-explain knows of it."""
+
+    def lines(self, verdict: Verdict) -> list[str]:
+        lines = super().lines(verdict)
+        if verdict.number is None or verdict.name is None or verdict.place is None:
+            return lines
+        from dexasm.cli.explain import explain_refusal
+
+        data = bytes_of(verdict)
+        return [*lines, *explain_refusal(verdict.number, verdict.name, verdict.place, data).lines()]
+
+
+def bytes_of(verdict: Verdict) -> bytes | None:
+    """The bytes that were refused; None of what can't be read any more, or is in an archive in an archive."""
+    from dexasm.cli.inputs import read_input
+    from dexasm.cli.workers.worker import opened_file
+
+    try:
+        if verdict.entry:
+            return read_input(verdict.path + b"!" + os.fsencode(verdict.entry)).data
+        with opened_file(verdict.path) as file:
+            return file.read()
+    except (CliError, OSError):
+        return None
+
+
+class Progress:
+    """Prints verdicts in a form, and knows the status and how far it is."""
+
+    def __init__(self, form: Text, is_quiet: bool, count: int) -> None:
+        self.form, self.is_quiet, self.count = form, is_quiet, count
+        self.status = self.done = self.bad = 0
+        self.has_checked = False  # at anything
+        self.last: tuple[bytes, str] | None = None
+        self.line = StatusLine()
+
+    def wait(self) -> None:
+        if self.line.is_due():
+            sys.stdout.flush()
+            self.line.draw(f"{self.done} of {self.count} files, {self.bad} not accepted")
+
+    def add(self, verdict: Verdict) -> None:
+        is_bad, file = verdict.status not in ACCEPTED, (verdict.path, verdict.entry)
+        if not is_of_member(verdict) or file != self.last:
+            self.done, self.bad = self.done + 1, self.bad + is_bad
+        self.last = file
+        self.status = max(self.status, exit_status(verdict))
+        self.has_checked = self.has_checked or verdict.status != "skipped"
+        if is_bad or not self.is_quiet:
+            self.print(self.form.lines(verdict))
+        self.wait()
+
+    def print(self, lines: list[str]) -> None:
+        if lines:
+            self.line.draw()
+            self.form.print(lines)
+
+    def end(self, is_empty_allowed: bool) -> int:
+        """Tells where nothing was looked at, and what comes last; answers the status."""
+        if not self.has_checked and not is_empty_allowed:
+            self.status = FAILED
+            self.print(self.form.nothing(NOTHING))
+        self.print(self.form.end(self.status))
+        if not self.has_checked and not is_empty_allowed:
+            sys.stdout.flush()
+            print_error(f"dexasm-check: {NOTHING}")
+        return self.status
+
+
+class Build(Version):
+    """Prints the version, and which build of dexasm answers."""
+
+    def text(self, prog: str) -> str:
+        return f"{super().text(prog)}\n{core_build()}"
+
+
+def parse_args(parser: Parser) -> Namespace:
+    form = parser.add_mutually_exclusive_group()
+    for name in FORMS:
+        form.add_argument(f"--{name}", dest="form", action="store_const", const=name)
+    parser.add_argument("--program", action="store_true")
+    parser.add_argument("--lint", action="store_true")
+    parser.add_argument("--explain", action="store_true")
+    parser.add_argument("--quiet", action="store_true")
+    parser.add_argument("--allow-empty", action="store_true")
+    parser.add_argument("--color", choices=("auto", "always", "never"), default="auto")
+    parser.add_argument("--jobs", type=positive_number, default=os.cpu_count())
+    parser.add_argument("--seconds", type=seconds, default=60)
+    parser.add_argument("--memory", type=byte_count, default=2 << 30)
+    parser.add_argument("--version", action=Build)
+    parser.add_argument("paths", nargs="+", metavar="PATH")
+    args = parser.parse_args()
+    if args.program and args.form != "json":
+        parser.error("--program is for --json")
+    if args.explain and args.form is not None:
+        parser.error("--explain is for lines, without --json, --sarif, --github and --junit")
+    return args
+
+
+def form_of(args: Namespace) -> Text:
+    if args.form is None:
+        return (ExplainedText if args.explain else Text)(is_colored(args.color))
+    return Json(args.lint) if args.form == "json" else FORMS[args.form]()
+
+
+@command(unread=FAILED)
+def main(parser: Parser) -> int:
+    args = parse_args(parser)
+    form = form_of(args)
+    found = [*find_inputs(args.paths)]
+    if form.has_build or os.environ.get("DEXASM") == "proved":
+        form.build = core_build()
+    progress = Progress(form, args.quiet, len(found))
+    try:
+        for verdict in check_all(found, args, progress.wait):
+            progress.add(verdict)
+    finally:
+        progress.line.draw()
+    return progress.end(args.allow_empty)
+
+
+if __name__ == "__main__":
+    main()

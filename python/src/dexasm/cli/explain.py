@@ -1,0 +1,344 @@
+"""Explains what a refusal of dexasm means, and shows what is at its place.
+
+usage: dexasm-explain [--json] [FILE]
+
+It reads what dexasm printed from standard input, as in `dexasm check FILE 2>&1 | dexasm-explain FILE`. For each line
+`.. refused N NAME at P` it prints the line, the sentence that docs/FORMAT.md or docs/LISTING.md has for N, and, with
+FILE, the bytes, the line or the class at P, the class or the method that has it, and what is often the reason: a comma
+between registers, an archive, a file of another version, who wrote such a signature, the character that a name can't
+have, the member that is there twice, the number that is encoded too long. Of a listing it prints the line, the word and
+what is expected there, also where P is only a class that breaks a rule of programs or a limit, or a count. Other lines
+are printed as they are, but for what a terminal would obey. FILE may be an archive, as in `dexasm-apk check app.apk
+2>&1 | dexasm-explain app.apk`: each line then names one of its .dex files.
+
+With --json it prints a line of JSON for each refusal, and nothing else: `number`, `name`, `place`; `sentence` and
+`place_is`, as the pages have them; `found`, lines of what is there; `hints`; and `line`, `column`, `class`,
+`member`, `instruction` (its number in its code, from 0) and `word` where they are known, else null.
+
+Exit status: 0 done, 2 wrong words, 3 something can't be read or written.
+"""
+from __future__ import annotations
+
+import json
+import re
+import struct
+import sys
+import zlib
+
+from dexasm.checksums import signature_of, signature_origin
+from dexasm.cli.core import REFUSAL, run_job
+from dexasm.cli.errors import CliError
+from dexasm.cli.faults import OF_CLASSES, OF_COUNTS, OF_LINES, REMEDIES, SENTENCES
+from dexasm.cli.filetypes import DEX
+from dexasm.cli.inputs import Input, read_inputs, split_entry
+from dexasm.cli.io import display_name, read_file
+from dexasm.cli.main import command
+from dexasm.cli.sanitize import escaped, shortened
+from dexasm.dexfile import Malformed, Tables
+
+TYPE_CHECKING = False  # (as in typing)
+if TYPE_CHECKING:
+    from collections.abc import Iterator
+    from typing import Any
+
+    from dexasm.cli.main import Parser
+    from dexasm.listing.diagnostics import Place
+
+    Row = tuple[str, str, str]  # of a fault: its name, its sentence, and what its place is
+
+AROUND = 16  # bytes a row
+OF_ROWS, OF_CODES = range(40, 50), range(60, 80)  # faults whose place is a class row's, or in a code
+# Faults of names: the table, and which characters are of the name's form too.
+OF_NAMES = {24: ("type", "[/;"), 31: ("field", ""), 34: ("method", "")}
+LISTED = b"dex 035"
+HEADS = (
+    (b"PK", "it is a zip archive (an .apk or a .jar): dexasm-apk looks at the .dex files in it"),
+    (b"dey\n", "it is an .odex file, which an old Android made on the device: the .dex file has to be taken out of it"),
+    (b"cdex", "it is a compact .dex file, which Android made on the device"),
+    (b"\x7fELF", "it is an ELF file (an .oat, .odex or .so): the .dex file has to be taken out of it"),
+    (b"\xca\xfe\xba\xbe", "it is a Java class file: d8 or dx makes a .dex file of it"),
+    (LISTED, "it is a listing: dexasm assemble makes a .dex file of it"),
+)
+
+
+def bytes_at(data: bytes, place: int) -> Iterator[str]:
+    """Two rows of bytes, the first of which has the place."""
+    first = place - place % AROUND
+    for at in (first, first + AROUND):
+        if at < len(data):
+            row = data[at : at + AROUND]
+            text = "".join(chr(byte) if 0x20 <= byte < 0x7F else "." for byte in row)
+            mark = "".join("^^ " if at + i == place else "   " for i in range(len(row))).rstrip()
+            yield f"{at:08x}  {row.hex(' '):<47}  {text}"
+            if mark:
+                yield f"          {mark}"
+
+
+# ---- files
+
+
+def file_hints(number: int, data: bytes) -> Iterator[str]:
+    """What is often the reason why these bytes are refused by this number."""
+    if number in (1, 2):
+        yield from (hint for head, hint in HEADS if data.startswith(head))
+        if not data:
+            yield "the file is empty"
+        elif number == 1 and all(byte in b"\t\n\r" or 0x20 <= byte < 0x7F for byte in data):
+            yield "it is a text"
+    elif number == 3:
+        version = escaped(data[4:7])
+        yield f"its version is {version}" + (", made for a newer Android" if b"036" < data[4:7] < b"100" else "")
+        yield "where you make it, ask for version 035: d8 --min-api 23, or smali assemble --api 23"
+    elif number == 4 and len(data) >= 36:
+        yield f"file_size is {struct.unpack_from('<I', data, 32)[0]}, and the file has {len(data)} bytes"
+    elif number == 8 and len(data) >= 32:
+        is_there = struct.unpack_from("<I", data, 8)[0]
+        yield f"it is {is_there:08x}, and that of the bytes is {zlib.adler32(data[12:]):08x}"
+    elif number == 9 and len(data) >= 32:
+        yield f"it is {data[12:32].hex()}, and that of the bytes is {signature_of(data).hex()}"
+        yield f"{signature_origin(data)}: `dexasm-close` computes both sums anew"
+
+
+# What a SimpleName of version 035 is made of (docs/FORMAT.md), and what version 040 added.
+SIMPLE = re.compile("[A-Za-z0-9$_\u00a1-\u1fff\u2010-\u2027\u2030-\ud7ff\ue000-\uffef\U00010000-\U0010ffff-]")
+SPACES = re.compile("[ \u00a0\u2000-\u200a\u202f]")
+
+
+def character_hint(name: str, others: str) -> str | None:
+    """The first character of a name that no name can have; `others` are those of its form."""
+    if name[:1] == "<" and name[-1:] == ">" and not others:
+        name = name[1:-1]
+    at = next((at for at, char in enumerate(name) if not SIMPLE.match(char) and char not in others), None)
+    if at is None:
+        return None if name else "the name is empty"
+    since = "names can have since version 040 alone" if SPACES.match(name[at]) else "no name can have"
+    return f"the name {shortened(escaped(name))} has U+{ord(name[at]):04X} at its character {at + 1}, which {since}"
+
+
+# ---- listings
+
+
+def line_hints(text: bytes, is_first: bool) -> Iterator[str]:
+    """What is often the reason why this line isn't of the listing's form."""
+    from dexasm.listing.syntax import common_mistakes
+
+    return (why for _, why in common_mistakes(text.decode("utf8", "surrogateescape"), is_first))
+
+
+def words_of(line: bytes) -> list[bytes]:
+    return line.strip(b" ").split()
+
+
+class Explanation:
+    """What is known of one refusal."""
+
+    line: int | None
+    column: int | None
+    class_: str | None
+    member: str | None
+    insn: int | None
+    word: str | None
+    found: list[str]
+    hints: list[str]
+
+    def __init__(self, number: int, name: str, place: int, row: Row) -> None:
+        self.number, self.name, self.place = number, name, place
+        _, self.sentence, self.place_is = row
+        self.line = self.column = self.class_ = self.member = self.insn = self.word = None
+        self.found, self.hints = [], []
+
+    def at_line(self, data: bytes) -> None:
+        rows = data.split(b"\n")
+        if not 0 < self.place <= len(rows):
+            return
+        self.line = self.place
+        if self.number in (101, 102):
+            is_first = not any(words_of(row) and words_of(row)[0][:1] != b"#" for row in rows[: self.place - 1])
+            self.hints += line_hints(rows[self.place - 1], is_first)
+        self.found.append(f"{self.line}: {cut(rows[self.line - 1])}")
+        self.set_location(locate(self.number, self.place, data))
+
+    def at_class(self, data: bytes) -> None:
+        """What is at fault in the class of this number, or where a count was too great."""
+        from dexasm.listing.source import Listing
+
+        is_file = data.startswith(DEX)
+        if is_file:
+            data = run_job("list", data=data).output
+        where, heads = locate(self.number, self.place, data), Listing(data).heads
+        if where:
+            numbers = sorted(filter(None, {where.class_line, where.member_line, where.line}))
+        elif self.number not in OF_COUNTS and self.place < len(heads):
+            numbers = [heads[self.place]]
+        else:
+            return
+        rows = data.split(b"\n")
+        self.line, self.class_ = numbers[-1], class_of_line(rows[numbers[0] - 1])
+        self.found += [("" if is_file else f"{number}: ") + cut(rows[number - 1]) for number in numbers]
+        self.set_location(where)
+        if is_file:
+            self.line = self.column = None
+
+    def set_location(self, where: Place | None) -> None:
+        """Takes what is known of the place in a listing."""
+        if where is None:
+            return
+        self.class_ = where.class_name and where.class_name.spelled
+        self.member = where.member and where.member.spelled.partition("->")[2]
+        self.column, self.insn, self.word = where.column, where.insn, where.word and escaped(where.word)
+        if where.why:
+            # (of a line that isn't of the form what is wrong is often no word)
+            self.hints = [hint for hint in self.hints if hint != where.why]
+            self.hints.append(shortened(escaped(where.why if self.number == 100 else where.sentence())))
+
+    def in_file(self, data: bytes) -> None:
+        """The class whose row it is, or the method whose code has the place, if this is the file that was refused."""
+        try:
+            tables = Tables(data)
+            if self.number in OF_NAMES:
+                self.in_name(tables, *OF_NAMES[self.number])
+                return
+            if self.number in OF_ROWS:
+                self.in_row(tables, (self.place - tables.at["class"]) // 32, [4 * len(data)])
+                return
+            left, rows = [4 * len(data)], range(tables.count["class"])
+            codes = ((code, index, row) for row in rows for code, index in tables.codes_of(row, left))
+            found = max((one for one in codes if one[0] <= self.place), default=None)
+            if found is None:
+                return
+            _, index, row = found
+            self.class_, self.member = escaped(tables.class_name(row)), escaped(tables.method_name(index))
+        except (Malformed, MemoryError):
+            self.class_ = self.member = None
+
+    def in_name(self, tables: Tables, table: str, others: str) -> None:
+        """The character of a type's, a field's or a method's name that isn't one of names."""
+        row = (self.place - tables.at[table]) // tables.row[table]
+        string = tables.numbers(table, row, "<I" if table == "type" else "<HHI")[-1]
+        hint = character_hint(tables.text(string), others)
+        self.hints += [hint] if hint else []
+
+    def in_row(self, tables: Tables, row: int, left: list[int]) -> None:
+        """The class of a row, the member that it has twice, and the number that is spelled too far."""
+        self.class_ = escaped(tables.class_name(row))
+        if self.number == 47:
+            member = tables.twice(row, left)
+            self.member = member and escaped(member)
+            merged = "as dx writes it where ProGuard merged interfaces"
+            self.hints += [f"the class has {shortened(self.member)} twice in a list, {merged}"] if self.member else []
+        elif self.number == 44:
+            far = tables.too_far(row, left)
+            self.hints += [f"the number at 0x{far[0]:x}, {far[1].hex(' ')}, is none of 32 bits"] if far else []
+
+    def inspect(self, data: bytes) -> None:
+        """Looks at what was refused."""
+        if self.number in OF_LINES:
+            self.at_line(data)
+        elif self.number in (*OF_COUNTS, *OF_CLASSES):
+            self.at_class(data)
+        elif self.number < 80:
+            self.found += bytes_at(data, self.place)
+            self.hints += file_hints(self.number, data)
+            if data.startswith(DEX) and self.number in (*OF_NAMES, *OF_ROWS, *OF_CODES):
+                self.in_file(data)
+
+    def lines(self) -> Iterator[str]:
+        yield f"  {self.number}: {self.sentence}."
+        yield f"  The place is {self.place_is}: {self.place}{f' (0x{self.place:x})' if self.number < 80 else ''}."
+        yield from (f"    {line}" for line in self.found)
+        if self.class_ and self.number not in (*OF_COUNTS, *OF_CLASSES) or self.member:
+            yield f"  In {self.class_}{f'->{self.member}' if self.member else ''}."
+        yield from (f"  Hint: {hint}." for hint in self.hints)
+
+    def json(self) -> dict[str, Any]:
+        return {
+            "number": self.number,
+            "name": self.name,
+            "place": self.place,
+            "sentence": self.sentence,
+            "place_is": self.place_is,
+            "found": self.found,
+            "hints": self.hints,
+            "line": self.line,
+            "column": self.column,
+            "class": self.class_,
+            "member": self.member,
+            "instruction": self.insn,
+            "word": self.word,
+        }
+
+
+def class_of_line(line: bytes) -> str:
+    return escaped((words_of(line)[1:2] or [b"?"])[0].decode("latin1"))
+
+
+def locate(number: int, place: int, listing: bytes) -> Place | None:
+    """The place in a listing, which was assembled with --align or without, as the module for Python finds it."""
+    from dexasm.listing.diagnostics import of
+
+    return of(listing, number, place) or of(listing, number, place, True)
+
+
+def cut(line: bytes) -> str:
+    return shortened(escaped(line))
+
+
+def explain_line(line: str, inputs: list[Input]) -> Explanation | None:
+    found = REFUSAL.match(line)
+    if found is None or int(found[1]) not in SENTENCES:
+        return None
+    return explain_refusal(int(found[1]), found[2], int(found[3]), data_of(inputs, line[: found.start(1)]))
+
+
+def explain_refusal(number: int, name: str, place: int, data: bytes | None) -> Explanation:
+    """What is known of a refusal, maybe of these bytes."""
+    one = Explanation(number, name, place, SENTENCES[number])
+    if data is not None:
+        one.inspect(data)
+    if one.number in REMEDIES and not one.hints:
+        one.hints.append(REMEDIES[one.number])
+    return one
+
+
+def data_of(inputs: list[Input], before: str) -> bytes | None:
+    """The file that was refused: of several the one whose entry of the archive stands before the refusal."""
+    named = [one.data for one in inputs[1:] if re.search(rf"(?:^|!|\s){re.escape(one.entry)}:", before)]
+    return named[0] if len(named) == 1 else inputs[0].data if inputs else None
+
+
+def inputs_with_archive(path: str | None) -> list[Input]:
+    """The file, and the .dex files that it has as an archive, where these can be read."""
+    if path is None:
+        return []
+    archive, entry = split_entry(path)
+    if archive is None or entry is not None:
+        return [*read_inputs(path)]
+    whole = Input(display_name(path), "", read_file(path))
+    try:
+        return [whole, *read_inputs(path)]
+    except CliError:
+        return [whole]
+
+
+@command()
+def main(parser: Parser) -> int:
+    parser.add_argument("--json", action="store_true")
+    parser.add_argument("file", nargs="?")
+    args = parser.parse_args()
+    inputs = inputs_with_archive(args.file)
+    if sys.stdin is None:
+        raise CliError("standard input: it is closed")
+    for row in sys.stdin.buffer.read().decode("utf8", "surrogateescape").removesuffix("\n").split("\n"):
+        one = explain_line(row, inputs)
+        if args.json:
+            if one:
+                print(json.dumps(one.json()))
+            continue
+        print(escaped(row))
+        for line in one.lines() if one else ():
+            print(line)
+    return 0
+
+
+if __name__ == "__main__":
+    main()

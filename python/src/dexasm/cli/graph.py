@@ -1,0 +1,69 @@
+"""Draws the flow of a method of a .dex file, or who calls whom.
+
+usage: dexasm-graph [--format dot|svg|json] FILE METHOD
+       dexasm-graph --calls [--from METHOD|--to METHOD] [--depth N] [--format dot|svg|json] FILE
+
+The flow is the method's blocks of instructions and where each leads: `next` to the block behind, `taken` where a branch
+leads, `switch` where a payload does, by its keys, `handler` where an exception does, by its type. METHOD is a name as
+'LHello;->get(Z)I'; 'LHello;->get' does where the class has one method of that name.
+
+--calls has each method and those that it calls, with how often; --from METHOD only those that this one leads to, --to
+METHOD only those that lead to this one, --depth N at most so many calls away. With --to METHOD may be one that the file
+doesn't have, by its whole name. A call leads to the method that the named class has or inherits in this file;
+what the file doesn't have is dashed, in JSON `outside`.
+
+The answer is on standard output: the language of graphviz unless --format says otherwise. svg needs graphviz, which is
+given a minute. FILE may be a listing too, an archive, of which all classes*.dex are one program, or app.apk!classes2.dex.
+
+Exit status: 0 done, 1 the file is refused, 2 wrong words, 3 something can't be read or written, 4 out of memory.
+"""
+from __future__ import annotations
+
+import json
+
+from dexasm.cli.core import program_of
+from dexasm.cli.errors import USAGE
+from dexasm.cli.main import UsageError, command
+
+TYPE_CHECKING = False  # (as in typing)
+if TYPE_CHECKING:
+    from dexasm.cli.main import Parser
+
+
+@command()
+def main(parser: Parser) -> int:
+    parser.add_argument("--calls", action="store_true")
+    parser.add_argument("--from", dest="start")
+    parser.add_argument("--to", dest="goal")
+    parser.add_argument("--depth", type=int)
+    parser.add_argument("--format", choices=("dot", "svg", "json"), default="dot")
+    parser.add_argument("file")
+    parser.add_argument("method", nargs="?")
+    args = parser.parse_args()
+    ends = [end for end in (args.start, args.goal) if end is not None]
+    if args.calls == (args.method is not None) or not args.calls and ends:
+        raise UsageError(f"{parser.usage_text}\n{parser.prog}: either METHOD or --calls", USAGE)
+    if len(ends) > 1:
+        raise UsageError(f"{parser.usage_text}\n{parser.prog}: either --from or --to", USAGE)
+    if args.depth is not None and (not ends or args.depth < 0):
+        raise UsageError(f"{parser.usage_text}\n{parser.prog}: --depth is a number from 0 on, with --from or --to", USAGE)
+    from dexasm.analysis.cfg import as_dot, as_json, callers, calls, flow, render_svg
+    from dexasm.analysis.xref import Xref, method_of
+
+    xref = Xref(program_of(args.file))
+    if args.goal is not None:
+        graph = callers(xref, args.goal, args.depth)
+    elif args.calls:
+        graph = calls(xref, None if args.start is None else method_of(xref, args.start), args.depth)
+    else:
+        graph = flow(xref, method_of(xref, args.method, has_code=True))
+    if args.format == "json":
+        print(json.dumps(as_json(graph), indent=1))
+    else:
+        dot = "\n".join(as_dot(graph)) + "\n"
+        print(dot if args.format == "dot" else render_svg(dot), end="")
+    return 0
+
+
+if __name__ == "__main__":
+    main()

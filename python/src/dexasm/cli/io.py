@@ -1,0 +1,39 @@
+"""The files of a helper: how they are read, named in a line, and written."""
+from __future__ import annotations
+
+import sys
+
+from dexasm.cli.errors import CliError, reason
+from dexasm.cli.sanitize import escaped
+
+
+def read_file(path: str | bytes | None) -> bytes:
+    """The bytes of a file, or of standard input where there is no path."""
+    try:
+        if path is None:
+            if sys.stdin is None:
+                raise CliError("standard input: it is closed")
+            return sys.stdin.buffer.read()
+        with open(path, "rb") as file:
+            return file.read()
+    except (OSError, ValueError) as error:
+        raise CliError(f"{display_name(path)}: {reason(error) if isinstance(error, OSError) else error}") from None
+
+
+def display_name(path: str | bytes | None) -> str:
+    return "standard input" if path is None else escaped(path)
+
+
+def write_file(path: str | bytes, data: bytes, through: bool = True, name: str | None = None) -> None:
+    """Brings an answer to a file by the command's rules (dexasm/deliver.py has them); with through=False only where
+    nothing is or a file of one name, so that nothing else is written through it. `name` is the file's in messages.
+    """
+    from dexasm import deliver as rules
+
+    name = name or escaped(path)
+    try:
+        rules.deliver(path, data, through=through)
+    except rules.Kept as kept:
+        raise CliError(f"{name}: {reason(kept)}; the whole answer is in {escaped(kept.part)}") from None
+    except OSError as error:
+        raise CliError(f"{name}: {reason(error)}") from None

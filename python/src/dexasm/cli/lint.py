@@ -1,0 +1,217 @@
+"""Says where a program breaks a rule that Android's verifier has and dexasm doesn't ask.
+
+usage: dexasm-lint [--code [--skip-boot] [--jobs N] [--seconds N]] [--allow-empty] [--json|--sarif] [FILE..]
+
+`dexasm check` says `ok` of a file that keeps docs/FORMAT.md; Android's verifier of .dex files asks a few things more of
+a program, of flags, lists of members, names, values and outs. For each member that breaks one there is a line: FILE,
+the class or member, the rule's word, what is wrong and by what, and the page and its part that the rule belongs to. A
+file in which none is broken is `FILE: ok`. The rules:
+
+  class-flags  a class has flags above 0xffff
+  field-flags  a field has flags above 0xffff
+  one-of-public-protected-private  more than one of public, protected and private
+  volatile-and-final  a field of a class is volatile and final
+  method-flags  a method has flags above 0xffff that aren't constructor or declared-synchronized
+  constructor-flag  a method is flagged constructor, and isn't <init> or <clinit>
+  init-flags  <init> has flags other than public, protected, private, varargs, strict and synthetic
+  abstract-flags  an abstract method is private, static, final, synchronized, native or strict too
+  code-missing  a method has no code, and isn't native or abstract
+  code-unwanted  a method has code, and is native or abstract
+  field-list  a field is in the list of static fields, and isn't static, or the other way round
+  method-list  a method is in the list of direct methods, and isn't static, private, <init> or <clinit>, or the other
+               way round
+  in-both-lists  a method is direct and virtual
+  method-name  a method's name begins with <, and isn't <init> or <clinit>
+  constructor-signature  <init> returns something, or <clinit> isn't ()V
+  value-type  a static field's value is of another type
+  value-kind  a static field's value is an enum, a field, a method or an array
+  outs-size  outs are more than 5 and more than registers
+
+They are those of ART 14 for version 035, which docs/VERIFIERS.md lists with all else that it asks.
+
+With --code the code of each method is checked too, as a device does later: what kind of value each register holds on
+each way, and what each instruction takes. For each place that breaks a rule of the page "Dalvik bytecode constraints"
+there is a line, at most five of a method. Of a listing it has line and column, otherwise the member, the instruction's
+number and its address in units:
+
+  a.txt:9:12: error: v3 holds a reference (java.lang.String, from line 7), and add-int takes an int (register-kind, B1)
+  a.dex: LA;->m(I)V: 7 (0x0a): error: v3 holds ..
+
+A class that isn't in the file is assumed correct; one that is, is taken as the file has it,
+also where a device has its own of that name (--skip-boot). Code behind a handler of a class that a device may not find
+isn't checked, as then on the device. The rules:
+
+  register-kind  a register holds another kind of value than the instruction takes
+  ways-differ  a register is read that holds one kind of value on one way and another one on another
+  register-unset  a register is read that isn't set on each way
+  pair-broken  a half of a pair of registers is read alone, or is no half of that pair any more
+  pair-outside  a pair begins at the last register of the code
+  uninitialized-use  an object is used before its constructor is called
+  constructor-call  a constructor is called on what is no new object
+  constructor-return  a constructor returns without having called another one
+  field-static  iget or iput names a static field, or sget or sput an instance field
+  field-type  a field's type isn't the instruction's
+  call-kind  a method is called by another kind of invoke than its own
+  call-init  <clinit> is called, or <init> by another invoke than invoke-direct
+  argument-count  a call is given more or fewer registers than its method takes
+  argument-type  an argument can't be of the parameter's type
+  receiver-type  an object can't be of the class whose method is called or whose field is named
+  stored-type  what is stored can't be of the type of the field or of the array's elements
+  result-place  a move-result isn't right behind a call, or something else leads to it
+  result-kind  a move-result takes another kind of value than its call answers
+  exception-place  a move-exception isn't the first instruction of a handler, or something else leads to it
+  catch-type  a handler is of a class of the file, an array or a primitive type that is no Throwable
+  falls-off  the flow runs past the last instruction
+  payload-reached  the flow runs into the data of a switch or of an array
+  switch-keys  the keys of a packed-switch run past the greatest int
+  return-kind  a return is of another kind than the method's type
+  return-type  what is returned can't be of the method's type
+  return-range  what is returned lies in a range that the method's type doesn't have
+  throw-type  what is thrown is no Throwable
+  array-kind  an instruction for arrays is given something else, or an array of other elements
+  array-data  data of an array is of another width than its elements, or these are references
+  array-type  new-array or filled-new-array names a type that is no array, or the latter one of long or double
+  new-type  new-instance names an array, a primitive type, an interface, an abstract class or java.lang.Class
+  cast-type  check-cast or instance-of names a primitive type
+  ins-count  the ins of a code aren't as many as the method's parameters take
+  outs-short  the outs of a code aren't enough for a call
+
+  --json    a line of JSON for each: file, uri, kind (dex, listing), status, rule, page, line, column, class, member,
+            instruction, address, register, sentence, why; what isn't known is null. The status is broken, ok (of a
+            file), refused or failed (it can't be checked)
+  --sarif   one document of SARIF 2.1.0, which has what is broken
+  --skip-boot  takes a class of a package that the boot class path has (java, javax.net, android, dalvik, sun, org.json
+            ..) for one that isn't in the file, as a device does, and doesn't check its code
+  --jobs N  has --code look by N workers, each at some of a file's classes
+  --seconds N  so long --code may take for a file, each worker of its processor (600, or a fraction such as 0.5; ten
+            times as much by the clock); what isn't checked by then has a line that says so
+
+FILE is a .dex file or a listing, `-` or none at all standard input; or an archive, of which each classes*.dex is
+checked, or app.apk!classes2.dex. One without a classes*.dex is a line and status 3, unless --allow-empty is given. One
+that dexasm refuses has dexasm's own line on standard error, and the others go on. A method with so many registers and
+ways that it isn't checked to its end has a line that says so.
+
+Exit status: 0 no rule is broken, 1 one is, or a file is refused; 2 wrong words; 3 something can't be read, written or
+checked to its end; 4 out of memory. Of several files it is the highest.
+"""
+from __future__ import annotations
+
+import os
+import sys
+
+from dexasm.analysis.verifier.report import code_findings, format_line, kind_by, member_of, structure_findings
+from dexasm.analysis.verifier.structure_rules import RULES
+from dexasm.cli.core import as_dex, is_listing, read_program
+from dexasm.cli.errors import FAILED, MEMORY, REFUSED, CliError
+from dexasm.cli.inputs import read_inputs, split_entry
+from dexasm.cli.io import display_name
+from dexasm.cli.main import command, positive_number, print_error, seconds as in_seconds
+from dexasm.cli.reporters import Json, Sarif, Text, exit_status, sentence_of
+from dexasm.cli.sanitize import escaped
+from dexasm.cli.scheduler import Verdict
+
+TYPE_CHECKING = False  # (as in typing)
+if TYPE_CHECKING:
+    from argparse import Namespace
+    from collections.abc import Iterator
+    from typing import Any
+
+    from dexasm.cli.inputs import Input
+    from dexasm.cli.main import Parser
+
+ENDS = {REFUSED: "refused", MEMORY: "memory"}
+
+
+class Lines(Text):
+    """Lines for people: of a rule of files the class or member, of one of code the place."""
+
+    def lines(self, verdict: Verdict) -> list[str]:
+        name = display_name(None if verdict.path == b"-" else verdict.path)
+        name += f"!{escaped(verdict.entry)}" if verdict.entry else ""
+        if verdict.status == "ok":
+            return [f"{name}: ok"]
+        if verdict.class_ is None:
+            return []  # (which standard error has)
+        if verdict.rule in RULES:
+            return [f"{name}: {'->'.join(member_of(verdict))}: {verdict.rule}: {verdict.why} ({verdict.page})"]
+        return [format_line(name, verdict)]
+
+
+class LintJson(Json):
+    fields = ("rule", "page", "line", "column", "class_", "member", "instruction", "address", "register")
+
+    def extra_fields(self, verdict: Verdict) -> dict[str, Any]:
+        return {"sentence": sentence_of(verdict) if verdict.rule else None, "why": verdict.why}
+
+
+class LintSarif(Sarif):
+    tool = "dexasm-lint"
+
+
+FORMS: dict[str, type[Text]] = {"json": LintJson, "sarif": LintSarif}
+
+
+def check_file(path: str | None, args: Namespace) -> Iterator[Verdict]:
+    """What is known of one file."""
+    file = os.fsencode(split_entry(path)[0] or path or "-")
+    for source in read_inputs(path, is_empty_allowed=args.allow_empty):
+        is_ok = True
+        for verdict in check_input(file, source, args):
+            is_ok = False
+            yield verdict._replace(entry=source.entry)
+        if is_ok:
+            yield Verdict(file, source.entry, kind_by(is_listing(source.data)), "ok")
+
+
+def check_input(file: bytes, source: Input, args: Namespace) -> Iterator[Verdict]:
+    """The rules that a file breaks, or an entry of an archive."""
+    data, name = source.data, source.name
+    is_text = is_listing(data)
+    program = read_program(as_dex(data, name), name)
+    yield from structure_findings(file, is_text, program)
+    if not args.code:
+        return
+    from dexasm.analysis.verifier.pool import check_by_workers
+
+    try:
+        found = check_by_workers(program, args.jobs, args.skip_boot, args.seconds)
+        yield from code_findings(file, data, is_text, program, found)
+    except CliError as failed:
+        raise CliError(f"{name}: {failed.line}", failed.status) from None
+
+
+def parse_args(parser: Parser) -> Namespace:
+    form = parser.add_mutually_exclusive_group()
+    for name in FORMS:
+        form.add_argument(f"--{name}", dest="form", action="store_const", const=name)
+    parser.add_argument("--code", action="store_true")
+    parser.add_argument("--skip-boot", action="store_true")
+    parser.add_argument("--allow-empty", action="store_true")
+    parser.add_argument("--jobs", type=positive_number, default=1)
+    parser.add_argument("--seconds", type=in_seconds, default=600)
+    parser.add_argument("files", nargs="*", metavar="FILE")
+    return parser.parse_args()
+
+
+@command(unread=FAILED)
+def main(parser: Parser) -> int:
+    args = parse_args(parser)
+    form = FORMS[args.form]() if args.form else Lines()
+    status = 0
+    for path in [None if file == "-" else file for file in args.files or "-"]:
+        try:
+            for verdict in check_file(path, args):
+                status = max(status, exit_status(verdict))
+                form.print(form.lines(verdict))
+        except CliError as failed:
+            sys.stdout.flush()
+            print_error(f"{parser.prog}: {failed.line}")
+            status = max(status, failed.status)
+            end = ENDS.get(failed.status, "failed")
+            form.print(form.lines(Verdict(os.fsencode(path or "-"), "", None, end, why=failed.line)))
+    form.print(form.end(status))
+    return status
+
+
+if __name__ == "__main__":
+    main()

@@ -1,0 +1,199 @@
+"""What makes a program of a helper: its words, by its manual, its lines on standard error, and its status.
+
+A helper is given files and names by strangers. So no name becomes a part of a program's text or of a path that leads
+elsewhere, and what is printed of a name or of a line goes through `escaped`."""
+from __future__ import annotations
+
+import argparse
+import functools
+import gc
+import os
+import re
+import sys
+from collections.abc import Callable
+
+from dexasm.canonical import NoListing
+from dexasm.cli.errors import FAILED, MEMORY, USAGE, CliError, reason
+from dexasm.cli.io import read_file
+from dexasm.cli.sanitize import escaped, without_commands
+
+TYPE_CHECKING = False  # (as in typing, which takes a while to read)
+if TYPE_CHECKING:
+    from types import ModuleType
+    from typing import Any, NoReturn
+
+# (what only some helpers call is imported where it is: that takes longer than most of what they do)
+UNITS = {"K": 1 << 10, "M": 1 << 20, "G": 1 << 30}
+
+
+class UsageError(CliError):
+    """The words are wrong."""
+
+
+class Version(argparse.Action):
+    """Prints the version of the command, which is the helper's too: they come together."""
+
+    def __init__(self, **options: Any) -> None:
+        super().__init__(nargs=0, **options)
+
+    def __call__(self, parser: argparse.ArgumentParser, *_: object) -> None:
+        print(self.text(parser.prog))
+        parser.exit()
+
+    def text(self, prog: str) -> str:
+        import dexasm
+
+        try:
+            return f"{prog} {dexasm.version()}"
+        except (ImportError, OSError, dexasm.Refused) as error:
+            raise CliError(f"dexasm: {escaped(str(error))}") from None
+
+
+class Parser(argparse.ArgumentParser):
+    """A helper's words, by its manual: --help prints it, and its usage is told where the words are wrong."""
+
+    def __init__(self, program: ModuleType) -> None:
+        self.program, self.doc = program, docstring(program).strip() + "\n"
+        self.usage_text = "\n".join(re.findall(r"^usage: .*(?:\n +.*)*", self.doc, re.M)[0].splitlines())
+        # (whose width is looked for otherwise, which takes a while, for a help that isn't printed)
+        formatter = functools.partial(argparse.HelpFormatter, width=80)
+        named: dict[str, Any] = {"prog": self.usage_text.split()[1], "usage": "%(prog)s"}
+        # (of a word that is added twice the second one counts)
+        settings: dict[str, Any] = {"allow_abbrev": False, "conflict_handler": "resolve"}
+        super().__init__(**named, **settings, formatter_class=formatter)
+        self.add_argument("--version", action=Version)
+
+    def format_help(self) -> str:
+        return self.doc
+
+    def print_help(self, file: object = None) -> None:
+        print(self.doc, end="")  # (argparse passes over what can't be written)
+
+    def error(self, message: str) -> NoReturn:
+        raise UsageError(f"{self.usage_text}\n{self.prog}: {escaped(message)}", USAGE)
+
+
+def byte_count(word: str) -> int:
+    """A word that is a number of bytes."""
+    unit = UNITS.get(word[-1:].upper(), 1)
+    number = int(word[:-1] if unit > 1 else word) * unit
+    if number < 1 << 20 or number > 1 << 50:
+        raise ValueError
+    return number
+
+
+def positive_number(word: str, kind: Callable[[str], float] = int) -> float:
+    number = kind(word)
+    if not 0 < number < 1 << 20:
+        raise ValueError
+    return number
+
+
+def seconds(word: str) -> float:
+    return positive_number(word, float)
+
+
+def docstring(program: ModuleType) -> str:
+    """The docstring of a helper; out of its file where Python was told to keep none (-OO)."""
+    if program.__doc__:
+        return program.__doc__
+    import ast
+
+    return ast.get_docstring(ast.parse(read_file(program.__file__)), clean=False) or ""
+
+
+def print_error(line: str) -> None:
+    """A line on standard error, where there is one."""
+    if sys.stderr is not None:
+        try:
+            print(*map(without_commands, line.split("\n")), sep="\n", file=sys.stderr, flush=True)
+        except OSError:
+            pass
+
+
+def command(trouble: int | None = None, unread: int = 0) -> Callable[[Callable[[Parser], int]], Callable[[], NoReturn]]:
+    """Makes the `main` of a helper of a function that takes a parser of its words and answers the status. It ends with
+    a status whatever happens, and with one line on standard error where something went wrong. `trouble` is the status
+    of that, where it isn't told apart; `unread` is that of a run whose output nobody read to the end.
+    """
+
+    def decorate(does: Callable[[Parser], int]) -> Callable[[], NoReturn]:
+        def main() -> NoReturn:
+            run(does, trouble, unread)
+
+        return main
+
+    return decorate
+
+
+def run(does: Callable[[Parser], int], trouble: int | None, unread: int) -> NoReturn:
+    """Runs a helper. (For its developer, `python3 -X dev` shows where a failure was that nobody thought of.)"""
+    parser = Parser(sys.modules[does.__module__])
+    gc.set_threshold(100_000)  # (a program's objects stay until the end, so that most collections find nothing)
+    try:
+        if sys.stdout is None:
+            raise CliError("cannot write: standard output is closed")
+        sys.stdout.reconfigure(errors="backslashreplace")  # type: ignore[attr-defined]
+        status = run_main(does, parser, unread)
+    except CliError as failed:
+        print_error(failed.line if isinstance(failed, UsageError) else f"{parser.prog}: {failed.line}")
+        status = trouble or failed.status
+    except OSError as error:
+        print_error(f"{parser.prog}: {reason(error)}")
+        status = trouble or FAILED
+    except ImportError as error:  # (of a module of Python's own, if there is hardly any memory)
+        print_error(f"{parser.prog}: cannot import: {escaped(str(error))}")
+        status = trouble or FAILED
+    except MemoryError:
+        print_error(f"{parser.prog}: out of memory")
+        status = trouble or MEMORY
+    except KeyboardInterrupt:
+        status = 130
+    except Exception as error:
+        if sys.flags.dev_mode:
+            raise
+        print_error(f"{parser.prog}: {unexpected_message(error)}")
+        status = trouble or FAILED
+    drop_unwritten()
+    sys.exit(status)
+
+
+def unexpected_message(error: Exception) -> str:
+    """The line of an error that isn't foreseen, and of output of dexasm that can't be parsed."""
+    if isinstance(error, NoListing):
+        return "dexasm: unexpected output of `list`"
+    return f"unexpected {type(error).__name__}: {escaped(str(error))}"
+
+
+def run_main(does: Callable[[Parser], int], parser: Parser, unread: int) -> int:
+    """The status of a helper, when all that it printed is written, or nobody reads it any more."""
+    status = unread
+    try:
+        try:
+            status = does(parser)
+        except SystemExit:  # (of --help)
+            status = 0
+        sys.stdout.flush()
+    except BrokenPipeError:
+        if not is_output_closed():
+            raise
+    return status
+
+
+def is_output_closed() -> bool:
+    """Whether standard output is a pipe, or a socket, that its reader closed."""
+    import select
+
+    poll = select.poll()
+    poll.register(sys.stdout.fileno(), 0)
+    return any(event & (select.POLLERR | select.POLLHUP) for _, event in poll.poll(0))
+
+
+def drop_unwritten() -> None:
+    """What couldn't be written is let go, so that nothing is told of it once more when Python ends."""
+    for stream in (sys.stdout, sys.stderr):
+        try:
+            if stream is not None:
+                stream.flush()
+        except OSError:
+            os.dup2(os.open(os.devnull, os.O_WRONLY), stream.fileno())

@@ -1,1 +1,0 @@
-"""dexasm-check: whether many files are accepted."""

@@ -1,1 +1,0 @@
-"""dexasm-info: what is in a file."""

@@ -1,1 +1,0 @@
-"""dexasm-merge: one file of the classes of several."""

@@ -1,1 +1,0 @@
-"""dexasm-query: what stands in a program, as JSON or as a listing."""

@@ -1,1 +1,0 @@
-"""dexasm-rename: classes, packages and members under other names."""
