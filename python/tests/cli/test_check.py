@@ -151,21 +151,21 @@ def linted(at: str) -> tuple[tuple[str, ...], list[str]]:
     return ("a.txt", "b.txt", "c.txt", "d.dex", "e.dex", "f.apk", "none"), told
 
 
-# Of a worker that is killed at its second file when it told of one rule, at the next try of two, and then of none.
+# A worker that is killed at its second file once, and three times at the third: no rule is reported twice.
 TOLD_ONCE = """
 import sys
 sys.path.insert(0, sys.argv[1])
 from dexasm.cli.scheduler import CheckClient
 class asked: jobs, seconds, memory, program, lint = 1, 60, 1 << 30, False, True
-wrong, ok = ("broken", "", {"kind": "dex", "status": "broken"}), ("verdict", "", {"kind": "dex", "status": "ok"})
-says = [wrong, ok, wrong, None, wrong, wrong, None, None, wrong, ok, ok, ("end",)]
-class Told(CheckClient):
-    def start(self): self.worker = 1
-    def send(self, given): pass
-    def receive(self): return says.pop(0)
-    def wait_status(self): self.worker = None
-    def stop(self): pass
-print(*[one.status for one in Told(asked).check([b"a", b"b", b"c", b"d"])])
+wrong, ok = {"kind": "dex", "status": "broken"}, {"kind": "dex", "status": "ok"}
+says = [[wrong], None, [wrong, wrong], None, None, None, []]
+says = [one if one is None else {"findings": one, "verdict": ok} for one in says]
+client = CheckClient(asked)
+client.worker.start = lambda: setattr(client.worker, "process", 1)
+client.worker.send = lambda job: None
+client.worker.receive = lambda: says.pop(0)
+client.worker.wait_status = lambda: setattr(client.worker, "process", None)
+print(*[one.status for one in client.check([b"a", b"b", b"c", b"d"])])
 """
 
 
@@ -548,7 +548,7 @@ class Check(HelperTest):
         want = "d.dex: error: its worker was killed\nb.txt: error: its worker was killed\n"
         self.check_equal("dexasm-check --lint, killed", seen, (3, want, ""))
         seen = run([sys.executable, "-B", "-c", TOLD_ONCE, os.path.join(TOP, "python", "src")], at=at)
-        self.check_equal("dexasm-check --lint, told once", seen, (0, "broken broken broken killed broken ok\n", ""))
+        self.check_equal("dexasm-check --lint, told once", seen, (0, "broken broken broken killed ok\n", ""))
         head = LINTED.replace(b"add-int v1 v0 v0", b"nop").replace(b"long 5", b"int 5")
         many = head.replace(
             b"end class",

@@ -23,7 +23,7 @@ from dexasm.analysis.verifier.operands import RegisterLine
 from dexasm.analysis.verifier.report import Finding
 from dexasm.analysis.verifier.transfer import step_of
 from dexasm.cli.errors import CliError
-from dexasm.cli.workers.worker import REASONS as SAYS
+from dexasm.cli.worker import REASONS as SAYS
 from dexasm.code import Insn, Label, PackedSwitch
 from tests import config
 from ..cases import cases

@@ -93,7 +93,7 @@ class ExplainedText(Text):
 def bytes_of(verdict: Verdict) -> bytes | None:
     """The bytes that were refused; None of what can't be read any more, or is in an archive in an archive."""
     from dexasm.cli.inputs import read_input
-    from dexasm.cli.workers.worker import opened_file
+    from dexasm.cli.worker import opened_file
 
     try:
         if verdict.entry:

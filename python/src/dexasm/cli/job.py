@@ -1,169 +1,109 @@
-"""Looks at files for dexasm-check: the job of a worker.
+"""What a worker of dexasm-check does: checks a file, lists the entries of an archive, or checks one of these.
 
-It is given many paths at once and tells of each as soon as it knows, so that the file at which a limit ended it is the
-next one. It is begun anew at each run, and mostly has .dex files to look at alone: what these don't need is imported
-where it is needed.
+It is started at each run, and mostly checks .dex files alone: what these don't need is imported where it is needed.
 """
 from __future__ import annotations
 
-import resource
-
 from dexasm.cli.errors import CliError, reason
 from dexasm.cli.filetypes import ZIP, is_archive_name, is_dex_name
-from dexasm.cli.workers.worker import REASONS, opened_file
+from dexasm.cli.worker import opened_file
 
 TYPE_CHECKING = False  # (as in typing, which takes as long to read as all else here)
 if TYPE_CHECKING:
     import io
     import zipfile
     from collections.abc import Iterator
-    from typing import Any
+    from typing import IO, Any
 
-    from dexasm.cli.workers.worker import Channel
+    Result = dict[str, Any]
+    Entries = dict[str, list[zipfile.ZipInfo]]
 
-NOTE_SUFFIX = "!"  # ends what stands for a note of an archive among what was told
 
+class Job:
+    """Runs jobs: a path, and the names of an entry of the archive that it is, two in an archive in an archive. An archive
+    stays open for the jobs that follow, so that its directory is read once.
+    """
 
-class Batch:
-    """Paths; of the first one, where it is an archive, what was told of it already and the time that is left of it."""
-
-    needs = ()
-    # What archives and listings need, and the rules of dexasm-lint, read before the first of these so that it takes no
-    # file's time.
+    # What archives and listings need, and the rules of dexasm-lint, read before the time of a job begins.
     more = "dexasm.cli.zip_read", "dexasm.cli.faults", "dexasm.listing.diagnostics"
     rules = "dexasm.program", "dexasm.analysis.verifier.report"
 
-    def __init__(
-        self, paths: list[bytes], reported: list[str], left: tuple[float, float] | None, is_linted: bool
-    ) -> None:
-        self.paths, self.reported, self.left, self.is_linted = paths, set(reported), left, is_linted
-        self.room = 0  # how many more bytes are taken out of the archive that is looked at
-        are_files = all(path.lower().endswith(b".dex") for path in paths)
-        for name in (() if are_files else self.more) + (self.rules if is_linted else ()):
+    def __init__(self, known: dict[str, bool]) -> None:
+        self.is_hashed, self.is_linted = known["program"], known["lint"]
+        self.file: io.BufferedReader | None = None
+        self.archives: dict[tuple[str, ...], tuple[zipfile.ZipFile, Entries]] = {}  # by the path and a name in it
+
+    def prepare(self, job: Result) -> None:
+        is_dex = job["path"].lower().endswith(".dex")
+        for name in (() if is_dex else self.more) + (self.rules if self.is_linted else ()):
             __import__(name)
 
-    def run(self, channel: Channel, is_hashed: bool) -> None:
-        """Tells a verdict of each path that is a file. Of an archive it tells which entry it begins, a verdict of each,
-        and `next` after the last one.
-        """
-        for path in self.paths:
-            kind: str | None = None
-            try:
-                with opened_file(path) as file:
-                    kind = kind_of(path, file)
-                    if kind == "archive":
-                        self.check_archive(path, file, channel, is_hashed)
-                    else:
-                        self.report("", file.read(), kind, channel, is_hashed)
-            except CliError as failed:
-                channel.end_sum()
-                channel("verdict", "", unreadable(failed.line.removeprefix(": "), kind))
-            except OSError as error:
-                channel.end_sum()
-                channel("verdict", "", unreadable(reason(error), kind))
-            self.reported, self.left = set(), None
-
-    def check_archive(self, path: bytes, file: io.BufferedReader, channel: Channel, is_hashed: bool) -> None:
-        """All that is in it takes no more time and memory than one file may."""
-        from dexasm.cli.zip_read import open_archive
-
-        channel.begin_sum(self.left)
-        self.room = resource.getrlimit(resource.RLIMIT_AS)[0]
-        with open_archive("", file) as archive:
-            count = self.check_entries("", archive, channel, is_hashed)
-        channel.end_sum()
-        if count or self.reported:
-            channel("next", None)
-            return
-        # (a .jar needn't have any, and each project of Gradle has one that hasn't)
-        why = "no .dex file in it"
-        is_apk = path.lower().endswith(b".apk")
-        channel("verdict", "", unreadable(why, "archive") if is_apk else verdict_fields("archive", "empty", why=why))
-
-    def check_entries(self, within: str, archive: zipfile.ZipFile, channel: Channel, is_hashed: bool) -> int:
-        """Looks at what an archive has; `within` is its name where it is one in another. Answers how many .dex files
-        there are.
-        """
-        from dexasm.cli.zip_read import checkable_entries
-
-        count = 0
-        for name, entries in checkable_entries(archive):
-            place = f"{within}!{name}" if within else name
-            if is_dex_name(name):
-                self.check_entry(place, archive, entries, channel, is_hashed)
-                count += 1
-            elif within:
-                self.note(place, verdict_fields("archive", "skipped", why="an archive two archives deep"), channel)
-            else:
-                count += self.check_nested(place, archive, entries, channel, is_hashed)
-        return count
-
-    def check_entry(
-        self, place: str, archive: zipfile.ZipFile, entries: list[zipfile.ZipInfo], channel: Channel, is_hashed: bool
-    ) -> None:
-        """Tells of a .dex file of an archive, unless that was told."""
-        from dexasm.cli.zip_read import read_entry
-
-        has_room = self.has_room(entries)
-        if place in self.reported:
-            return
-        if not has_room:
-            channel("verdict", place, verdict_fields("dex", "memory", why=REASONS["memory"]))
-            return
-        channel("begun", place, channel.left())
+    def run(self, job: Result) -> Result:
+        """Return the entries of an archive; otherwise a verdict, and the rules of dexasm-lint that are broken."""
+        path, names = job["path"], job.get("names", [])
+        kind: str | None = "archive" if names else None
         try:
-            data = read_entry(archive, entries)
+            if names and is_dex_name(names[-1]):
+                kind = None
+                return self.check(self.read(path, names), "dex")
+            if names:
+                return self.open_inner(path, names)
+            self.close()
+            self.file = opened_file(path.encode("latin1"))
+            kind = kind_of(path.encode("latin1"), self.file)
+            if kind == "archive":
+                return self.open(self.file, path)
+            with self.file:
+                return self.check(self.file.read(), kind)
         except CliError as failed:
-            channel("verdict", place, unreadable(failed.line))
-        else:
-            self.report(place, data, "dex", channel, is_hashed)
+            return {"verdict": unreadable(failed.line.removeprefix(": "), kind)}
+        except OSError as error:
+            return {"verdict": unreadable(reason(error), kind)}
 
-    def check_nested(
-        self, place: str, archive: zipfile.ZipFile, entries: list[zipfile.ZipInfo], channel: Channel, is_hashed: bool
-    ) -> int:
-        """Looks into an archive in an archive. What is wrong with it as a whole is a verdict of it."""
+    def close(self) -> None:
+        self.archives.clear()
+        if self.file is not None:
+            self.file.close()
+
+    def open(self, file: IO[bytes], *key: str) -> Result:
+        """Open an archive, and return the names of its entries with their sizes, as its directory has them."""
+        from dexasm.cli.zip_read import checkable_entries, open_archive
+
+        archive = open_archive("", file)
+        entries = dict(checkable_entries(archive))
+        self.archives[key] = archive, entries
+        return {"entries": [[name, found[0].file_size] for name, found in entries.items()]}
+
+    def open_inner(self, path: str, names: list[str]) -> Result:
+        """Open an archive in the archive, in place of the one before."""
         import io
 
-        from dexasm.cli.zip_read import open_archive, read_entry
+        self.archives = {key: opened for key, opened in self.archives.items() if len(key) == 1}
+        return self.open(io.BytesIO(self.read(path, names)), path, *names)
 
-        has_room = self.has_room(entries)
-        if place in self.reported:
-            return 0
-        if not has_room:
-            self.note(place, verdict_fields("archive", "memory", why=REASONS["memory"]), channel)
-            return 0
-        channel("begun", place, channel.left())
-        try:
-            data = read_entry(archive, entries)
-            with open_archive("", io.BytesIO(data)) as inner:
-                return self.check_entries(place, inner, channel, is_hashed)
-        except CliError as failed:
-            self.note(place, unreadable(failed.line.removeprefix(": "), "archive"), channel)
-            return 0
+    def read(self, path: str, names: list[str]) -> bytes:
+        """The bytes of an entry. The archive is opened if this worker took the place of another one."""
+        from dexasm.cli.zip_read import read_entry
 
-    def has_room(self, entries: list[zipfile.ZipInfo]) -> bool:
-        """Whether an entry fits into what is left of the archive's memory, as it says itself, and takes that."""
-        size = entries[0].file_size
-        if size > self.room:
-            return False
-        self.room -= size
-        return True
+        key = path, *names[:-1]
+        if (path,) not in self.archives:
+            self.close()
+            self.file = opened_file(path.encode("latin1"))
+            self.open(self.file, path)
+        if key not in self.archives:
+            self.open_inner(path, names[:-1])
+        archive, entries = self.archives[key]
+        if names[-1] not in entries:
+            raise CliError("it is not there any more")
+        return read_entry(archive, entries[names[-1]])
 
-    def note(self, place: str, verdict: dict[str, object], channel: Channel) -> None:
-        """Tells of an archive, which may have more to be told of, what wasn't told yet."""
-        if place + NOTE_SUFFIX not in self.reported:
-            self.reported.add(place + NOTE_SUFFIX)
-            channel("note", place, verdict)
-
-    def report(
-        self, entry: str, data: bytes, kind: str | None, channel: Channel, is_hashed: bool
-    ) -> None:
-        """Tells what is known of these bytes, and before it each rule of dexasm-lint that their program breaks."""
-        dex, verdict = check_bytes(data, kind, is_hashed)
+    def check(self, data: bytes, kind: str | None) -> Result:
+        dex, verdict = check_bytes(data, kind, self.is_hashed)
+        result: Result = {"verdict": verdict, "findings": []}
         if dex is not None and self.is_linted:
-            for found in lint_findings(data, dex, verdict["kind"] == "listing"):
-                channel("broken", entry, found | {"program": verdict["program"]})
-        channel("verdict", entry, verdict)
+            more = {"program": verdict["program"]}
+            result["findings"] = [found | more for found in lint_findings(data, dex, verdict["kind"] == "listing")]
+        return result
 
 
 def kind_of(path: bytes, file: io.BufferedReader) -> str | None:

@@ -10,10 +10,9 @@ from typing import Any, NamedTuple
 
 from dexasm.cli.discovery import describe_skipped, expand_paths, has_known_name, sniff, walk
 from dexasm.cli.errors import reason
-from dexasm.cli.job import NOTE_SUFFIX
-from dexasm.cli.workers import client
-from dexasm.cli.workers.client import ENDS, TRIES, WorkerClient
-from dexasm.cli.workers.worker import REASONS
+from dexasm.cli.filetypes import is_dex_name
+from dexasm.cli.pool import Lost, Worker, close_all, end_all
+from dexasm.cli.worker import REASONS
 
 WORKERS = 8  # that may end at one archive
 MANY, MUCH = 1024, 4 << 20  # files and bytes that a worker is given at once
@@ -52,84 +51,106 @@ class Verdict(NamedTuple):
     address: int | None = None
 
 
-# ---- who has workers
+# ---- one file
 
 
-class CheckClient(WorkerClient):
-    """Has a worker for many files, and another one when that has ended."""
+class Archive:
+    """What is left of the time and memory that an archive may need, with all that is in it, and of its workers."""
 
-    kind = "dexasm.cli.job:Batch"
+    def __init__(self, memory: int, left: list[float]) -> None:
+        self.memory, self.left, self.workers = memory, left, 0
+        self.job: dict[str, Any] = {}
+        self.started = 0.0
+
+    def has_room(self, size: int) -> bool:
+        """Whether an entry of this size, as its directory has it, fits into what is left, which it is taken from."""
+        if size > self.memory:
+            return False
+        self.memory -= size
+        return True
+
+    def is_spent(self, status: str | None) -> bool:
+        """Whether nothing is left after a worker ended at an entry."""
+        self.workers += 1
+        taken = time.monotonic() - self.started
+        self.job["left"] = self.left = [left - taken for left in self.left]
+        return status == "time" or self.workers >= WORKERS or min(self.left) <= 0
+
+
+class CheckClient:
+    """Checks files, one after the other, by a worker."""
 
     def __init__(self, options: Any) -> None:
-        super().__init__(options.seconds, options.memory, options.program)
-        self.is_linted = options.lint
-        self.broken = 0  # how many rules that the file breaks at which the worker is were told
-        self.begin_file()
-
-    def begin_file(self) -> None:
-        self.reported: list[str] = []  # of an archive
-        self.left: tuple[float, float] | None = None  # of its time, when what is looked at now was begun
-        self.begun = 0.0
-        self.workers = 0  # that have ended at it
+        known = {"program": options.program, "lint": options.lint}
+        self.memory, self.worker = options.memory, Worker("dexasm.cli.job:Job", options.seconds, options.memory, known)
 
     def check(self, paths: list[bytes]) -> Iterator[Verdict]:
         """Verdicts of the paths, in their order."""
-        killed = 0
-        while paths:
-            if self.worker is None:
-                self.start()
-            self.send((paths, self.reported, self.left, self.is_linted))
-            done, entry = yield from self.receive_results(paths)
-            if done:
-                paths, killed = paths[done:], 0
-            if not paths:
-                return
-            status, killed = ENDS.get(self.wait_status()), killed + 1
-            is_last = entry != "" and self.is_spent(status)
-            # (what a worker held of files before counts as its memory, so that is tried in a new one)
-            if not is_last and (status is None and killed < TRIES or status == "memory" and self.jobs):
-                continue
-            killed, status, self.broken = 0, status or "killed", 0
-            why = REASONS[status] + (": nothing behind it in the archive is looked at" if is_last else "")
-            yield Verdict(paths[0], entry, None, status, why=why)
-            self.reported.append(entry)
-            if is_last or not entry:
-                paths = paths[1:]
-                self.begin_file()
+        for path in paths:
+            yield from self.check_file(path)
 
-    def is_spent(self, status: str | None) -> bool:
-        """Whether the archive at which a worker ended has had all that it may have."""
-        self.workers += 1
-        if self.left is not None:
-            taken = time.monotonic() - self.begun
-            self.left = self.left[0] - taken, self.left[1] - taken
-        return status == "time" or self.workers >= WORKERS or self.left is not None and min(self.left) <= 0
+    def check_file(self, path: bytes) -> Iterator[Verdict]:
+        try:
+            result = self.worker.run({"path": path.decode("latin1")})
+        except Lost as lost:
+            yield Verdict(path, "", None, lost.status, why=REASONS[lost.status])
+            return
+        if "entries" not in result:
+            yield from verdicts_of(path, "", result)
+            return
+        archive, is_empty = Archive(self.memory, result["left"]), True
+        for verdict in self.check_entries(path, archive, [], result["entries"]):
+            is_empty = False
+            yield verdict
+        if is_empty:
+            # (a .jar needn't have any, and each project of Gradle has one that hasn't)
+            status = "failed" if path.lower().endswith(b".apk") else "empty"
+            yield Verdict(path, "", "archive", status, why="no .dex file in it")
 
-    def receive_results(self, paths: list[bytes]) -> Generator[Verdict, None, tuple[int, str]]:
-        """What the worker tells, and then how many paths are done, and in which entry of the next one it ended."""
-        done, entry, broken = 0, "", 0
-        while (message := self.receive()) is not None and message[0] != "end":
-            what, entry = message[:2]
-            if what == "broken":
-                broken += 1
-                if broken > self.broken:  # (what a worker told that was killed isn't told again)
-                    self.broken = broken
-                    yield Verdict(paths[done], entry, **message[2])
+    def check_entries(
+        self, path: bytes, archive: Archive, within: list[str], entries: list[tuple[str, int]]
+    ) -> Generator[Verdict, None, bool]:
+        """Verdicts of an archive's entries; `within` is its name if it is in another one. Returns whether the archive is
+        spent.
+        """
+        for name, size in entries:
+            names, entry = [*within, name], "!".join([*within, name])
+            kind = "dex" if is_dex_name(name) else "archive"
+            if kind == "archive" and within:
+                yield Verdict(path, entry, kind, "skipped", why="an archive two archives deep")
                 continue
-            if what == "begun":
-                self.left, self.begun = message[2], time.monotonic()
+            if not archive.has_room(size):
+                yield Verdict(path, entry, kind, "memory", why=REASONS["memory"])
                 continue
-            if what == "note" or not broken and what == "verdict":
-                yield Verdict(paths[done], entry, **message[2])
-            self.reported.append(f"{entry}{NOTE_SUFFIX}" if what == "note" else entry)
-            if what == "verdict":
-                self.jobs += 1
-                broken = self.broken = 0
-            if what == "next" or what == "verdict" and not entry:
-                done += 1
-                self.begin_file()
-            entry = ""
-        return done, entry
+            try:
+                result = self.run(path, archive, names)
+            except Lost as lost:
+                end = ": nothing behind it in the archive is looked at" if lost.is_last else ""
+                yield Verdict(path, entry, None, lost.status, why=REASONS[lost.status] + end)
+                if lost.is_last:
+                    return True
+                continue
+            if "entries" not in result:
+                yield from verdicts_of(path, entry, result)
+            elif (yield from self.check_entries(path, archive, names, result["entries"])):
+                return True
+        return False
+
+    def run(self, path: bytes, archive: Archive, names: list[str]) -> dict[str, Any]:
+        archive.job = {"path": path.decode("latin1"), "names": names, "left": archive.left}
+        archive.started = time.monotonic()
+        result = self.worker.run(archive.job, archive.is_spent)
+        archive.left = result["left"]
+        return result
+
+    def stop(self) -> None:
+        self.worker.stop()
+
+
+def verdicts_of(path: bytes, entry: str, result: dict[str, Any]) -> Iterator[Verdict]:
+    """The rules that are broken, or what is said of the file."""
+    for fields in result.get("findings") or [result["verdict"]]:
+        yield Verdict(path, entry, **fields)
 
 
 # ---- all of them
@@ -260,6 +281,6 @@ def check_in_parallel(
                 wait()
             yield from first.result()
     finally:
-        client.end_all()
+        end_all()
         pool.shutdown(wait=True, cancel_futures=True)
-        client.close_all()
+        close_all()

@@ -8,7 +8,7 @@ from __future__ import annotations
 import contextlib
 import functools
 import hashlib
-import marshal
+import json
 import os
 import sqlite3
 import stat
@@ -403,7 +403,7 @@ class Corpus:
         self.db.executemany("insert into has values (?, ?)", rows)
         return number
 
-    def one_class(self, sha: bytes, name: str, superclass: str | None, flags: int, rows: bytes) -> int | None:
+    def one_class(self, sha: bytes, name: str, superclass: str | None, flags: int, rows: str) -> int | None:
         """The number of a class."""
         there = self.db.execute(f"select id from class where {SAME_AS}", (sha,)).fetchone()
         if there:
@@ -412,7 +412,7 @@ class Corpus:
         of = self.name
         row = sha, self.text("word", name), superclass and self.text("word", superclass), flags
         at = self.db.execute("insert into class(sha256, name, superclass, flags) values (?, ?, ?, ?)", row).lastrowid
-        members, calls, strings = marshal.loads(rows)
+        members, calls, strings = json.loads(rows)
         for table, found in (
             ("member", [(at, of(ref), kind, bits) for kind, ref, bits in members]),
             ("call", [(at, of(caller), of(callee), count) for caller, callee, count in calls]),

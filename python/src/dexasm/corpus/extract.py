@@ -1,19 +1,18 @@
-"""Looks at .dex files, for dexasm-corpus: each in a worker, a process of its own with limits of memory and of time.
-dexasm-check has other workers of the kind.
-
-What a worker says of a file before it looks at it tells which file it was that a limit ended it at.
-"""
+"""Reads what a corpus keeps of .dex files: the jobs of a worker (cli/pool.py), and who sends them."""
 from __future__ import annotations
 
+import base64
+import contextlib
 import io
-import marshal
+import json
+import os
 import re
-from collections.abc import Callable, Generator, Iterator
+from collections.abc import Iterator
 
-from dexasm.cli.errors import CliError
+from dexasm.cli.errors import CliError, reason
 from dexasm.cli.filetypes import DEX, ZIP
-from dexasm.cli.workers.client import ENDS, TRIES, WorkerClient
-from dexasm.cli.workers.worker import REASONS, opened_file
+from dexasm.cli.pool import Lost, Worker
+from dexasm.cli.worker import REASONS, opened_file
 
 TYPE_CHECKING = False  # (as in typing)
 if TYPE_CHECKING:
@@ -29,91 +28,91 @@ TEXT = re.compile(r'^const-string\S* v\d+ "(.*)"$', re.M)
 
 
 class Job:
-    """A path, which is a .dex file or an archive: whether it was named itself, its bytes if they were sent, the entries
-    that aren't looked at again.
+    """Runs jobs: a path, whether it was named itself, and the name of an entry of the archive that it is. The archive
+    stays open for the jobs that follow.
     """
 
-    needs = "hashlib", "collections", "dexasm.cli.zip_read", "dexasm.program"
+    def __init__(self, known: str) -> None:
+        self.known = base64.b64decode(known)
+        self.path = ""
+        self.archive: zipfile.ZipFile | None = None
+        self.entries: dict[str, list[zipfile.ZipInfo]] = {}
+        for name in ("hashlib", "collections", "dexasm.cli.zip_read", "dexasm.program"):
+            __import__(name)
 
-    def __init__(self, path: bytes, is_named: bool, data: bytes | None, skipped: list[str]) -> None:
-        self.path, self.is_named, self.given, self.skipped = path, is_named, data, set(skipped)
+    def prepare(self, job: dict[str, Any]) -> None:
+        pass
 
-    def open(self) -> io.BufferedReader | io.BytesIO:
-        return opened_file(self.path) if self.given is None else io.BytesIO(self.given)
+    def run(self, job: dict[str, Any]) -> dict[str, Any]:
+        """Return the entries of an archive, or what is known of a file: `seen` if it is in; with `digest` no more than
+        its SHA-256 and size.
+        """
+        try:
+            data = self.read_entry(job) if "entry" in job else self.read_file(job)
+        except CliError as failed:
+            return {"unread": ["failed", failed.line.removeprefix(": ")]}
+        except OSError as error:
+            return {"unread": ["failed", reason(error)]}
+        if not isinstance(data, bytes):
+            return data
+        import hashlib
 
-    def run(self, channel: Callable[..., None], known: bytes) -> None:
-        def is_known(sha: bytes) -> bool:
-            return has_key(known, sha)
+        sha = hashlib.sha256(data).digest()
+        if has_key(self.known, sha):
+            return {"seen": [sha.hex(), len(data)]}
+        return {"file": [sha.hex(), len(data), *([] if job.get("digest") else check_bytes(data))]}
 
-        with self.open() as file:
-            first = file.read(len(DEX))
-            file.seek(0)
-            if first.startswith(ZIP):
-                from dexasm.cli.zip_read import open_archive
+    def read_file(self, job: dict[str, Any]) -> bytes | dict[str, Any]:
+        """The bytes of a .dex file, or a result: the entries of an archive, or nothing."""
+        if self.archive is not None:
+            self.archive.close()
+            self.archive = None
+        file = opened_file(job["path"].encode("latin1"))
+        first = file.peek(len(DEX))[: len(DEX)]
+        if not first.startswith(ZIP):
+            with file:
+                return file.read() if first == DEX or job["is_named"] else {}
+        from dexasm.cli.zip_read import dex_entries, open_archive
 
-                with open_archive("", file) as archive:
-                    self.read_entries(archive, channel, is_known)
-            elif first == DEX or self.is_named or self.path.endswith(b".dex"):
-                examine("", file.read, channel, is_known)
+        self.path, self.archive = job["path"], open_archive("", file)
+        self.entries = dict(dex_entries(self.archive))
+        return {"entries": [[name, entries[0].file_size] for name, entries in self.entries.items()]}
 
-    def read_entries(self, archive: zipfile.ZipFile, channel: Callable[..., None], is_known: Callable[[bytes], bool]) -> None:
-        import resource
+    def read_entry(self, job: dict[str, Any]) -> bytes:
+        """The bytes of an entry. The archive is opened if this worker took the place of another one."""
+        from dexasm.cli.zip_read import read_entry
 
-        from dexasm.cli.zip_read import dex_entries, read_entry
-
-        most = resource.getrlimit(resource.RLIMIT_AS)[0]
-        for name, entries in dex_entries(archive):
-            if name in self.skipped:
-                continue
-            if entries[0].file_size > most:
-                channel("unread", name, "memory", REASONS["memory"])  # (as it says itself)
-                continue
-            try:
-                examine(name, lambda: read_entry(archive, entries), channel, is_known)
-            except CliError as failed:
-                channel("unread", name, "failed", failed.line)
-
-
-def examine(
-    entry: str, read: Callable[[], bytes], channel: Callable[..., None], is_known: Callable[[bytes], bool]
-) -> None:
-    """Tells of one .dex file: that it is in, or first which it is, then what was found."""
-    import hashlib
-
-    channel("begun", entry)
-    data = read()
-    sha = hashlib.sha256(data).digest()
-    if is_known(sha):
-        channel("seen", entry, sha, len(data))
-        return
-    channel("file", entry, sha, len(data))
-    channel("done", *check_bytes(data))
+        if self.archive is None or self.path != job["path"]:
+            self.read_file(job)
+        if self.archive is None or job["entry"] not in self.entries:
+            raise CliError("it is not there any more")
+        return read_entry(self.archive, self.entries[job["entry"]])
 
 
-def check_bytes(data: bytes) -> tuple[object, ...]:
+def check_bytes(data: bytes) -> list[object]:
     """Status, fault, its name and place, and the program of a file."""
     import dexasm
 
     try:
-        return "ok", None, None, None, program_facts(data)
+        return ["ok", None, None, None, program_facts(data)]
     except dexasm.Refused as refused:
-        return "refused", refused.number, refused.name, refused.place, None
+        return ["refused", refused.number, refused.name, refused.place, None]
 
 
-def program_facts(data: bytes) -> tuple[bytes, int, list[tuple[object, ...]]]:
+def program_facts(data: bytes) -> tuple[str, int, list[tuple[object, ...]]]:
     """SHA-256 and size of the stripped bytes, and the classes."""
     import hashlib
 
     import dexasm
 
     stripped = dexasm.strip(data)
-    sha, size = hashlib.sha256(stripped).digest(), len(stripped)
+    sha, size = hashlib.sha256(stripped).hexdigest(), len(stripped)
     del stripped
     return sha, size, [class_facts(text) for text in dexasm.Program.read(data).classes.texts()]
 
 
 def class_facts(text: str) -> tuple[object, ...]:
-    """A class: the SHA-256 of its text, name, superclass, flags, and by marshal its members, calls and strings. Names
+    """A class: the SHA-256 of its text, name, superclass, flags, and as JSON its members, calls and strings. Names
     and strings are as the listing spells them.
     """
     import hashlib
@@ -143,8 +142,8 @@ def class_facts(text: str) -> tuple[object, ...]:
                 calls.update((ref, called) for called in CALL.findall(code))
                 strings.update((ref, literal) for literal in TEXT.findall(code))
     rows = members, [(*key, count) for key, count in calls.items()], [(*key, count) for key, count in strings.items()]
-    sha = hashlib.sha256(text.encode("ascii")).digest()
-    return sha, name, one.superclass and spelled(one.superclass), one.flags, marshal.dumps(rows)
+    sha = hashlib.sha256(text.encode("ascii")).hexdigest()
+    return sha, name, one.superclass and spelled(one.superclass), one.flags, json.dumps(rows)
 
 
 def has_key(known: bytes, sha: bytes) -> bool:
@@ -159,60 +158,67 @@ def has_key(known: bytes, sha: bytes) -> bool:
     return False
 
 
-# ---- who has workers
+# ---- who sends them
 
 
-class CorpusClient(WorkerClient):
-    """Has a worker for files of a corpus."""
+class CorpusClient:
+    """Reads files by a worker."""
 
-    kind = "dexasm.corpus.extract:Job"
+    def __init__(self, seconds: float, memory: int, known: bytes) -> None:
+        keys = base64.b64encode(known).decode("ascii")
+        self.memory, self.worker = memory, Worker("dexasm.corpus.extract:Job", seconds, memory, keys)
 
     def run(self, path: bytes, is_named: bool, data: bytes | None = None) -> Iterator[tuple[Any, ...]]:
-        """What is found of a path: `seen`, `file` or `unread`, each with the path and the entry after it.
+        """What is found of a path: `seen`, `file` or `unread`, each with the path and the entry after it."""
+        with contextlib.ExitStack() as stack:
+            place = path
+            if data is not None:
+                place = b"/proc/%d/fd/%d" % (os.getpid(), stack.enter_context(in_memory(data)).fileno())
+            job = {"path": place.decode("latin1"), "is_named": is_named or path.endswith(b".dex")}
+            result = self.result(job)
+            yield from findings(path, "", result)
+            for entry, size in result.get("entries", ()):
+                if size > self.memory:
+                    yield "unread", path, entry, "memory", REASONS["memory"]  # (as it says itself)
+                else:
+                    yield from findings(path, entry, self.result(job | {"entry": entry}))
 
-        A file at which the worker ended by a limit is told as such, and what comes after it in an archive goes on.
-        """
-        skipped: list[str] = []
-        killed = 0
-        while True:
-            if self.worker is None:
-                self.start()
-            self.jobs += 1
-            self.send((path, is_named, data, skipped))
-            entry, started = yield from self.receive_results(path, skipped)
-            if started == "end":
-                return
-            status, killed = ENDS.get(self.wait_status()), killed + 1
-            # (what a worker held of files before counts as its memory, so that is tried in a new one)
-            if status is None and killed < TRIES or status == "memory" and self.jobs > 1:
-                continue
-            killed = 0
-            yield limit_result(path, entry or "", started, status or "killed")
-            if not entry:
-                return
-            skipped.append(entry)
+    def result(self, job: dict[str, Any]) -> dict[str, Any]:
+        """The result of a job. A file at which a worker ended by a limit is known by its SHA-256, if that can be read."""
+        try:
+            return self.worker.run(job)
+        except Lost as lost:
+            status = lost.status
+        try:
+            result = self.worker.run(job | {"digest": True})
+        except Lost:
+            return {"unread": [status, REASONS[status]]}
+        return result | {"file": [*result["file"], status, None, None, None, None]} if "file" in result else result
 
-    def receive_results(self, path: bytes, skipped: list[str]) -> Generator[tuple[Any, ...], None, tuple[str | None, Any]]:
-        """What the worker tells of a job, and then, where it ended, of which entry and which file; `end` otherwise."""
-        entry: str | None = None
-        started: Any = None
-        while (message := self.receive()) is not None:
-            if message[0] == "end":
-                return None, "end"
-            if message[0] in ("begun", "file"):
-                entry, started = message[1], message[1:] if message[0] == "file" else None
-                continue
-            yield ("file", path, *started, *message[1:]) if message[0] == "done" else (message[0], path, *message[1:])
-            skipped.append(started[0] if message[0] == "done" else message[1])
-            entry, started = None, None
-        return entry, started
+    def stop(self) -> None:
+        self.worker.stop()
 
 
-def limit_result(path: bytes, entry: str, started: tuple[object, ...] | None, status: str) -> tuple[object, ...]:
-    """What is told where a worker ended."""
-    if started is None:
-        return "unread", path, entry, status, REASONS[status]
-    return "file", path, *started, status, None, None, None, None
+def in_memory(data: bytes) -> io.BufferedRandom:
+    """A file that has no name, of bytes that were sent."""
+    file = os.fdopen(os.memfd_create("sent"), "w+b")
+    file.write(data)
+    file.flush()
+    return file
+
+
+def findings(path: bytes, entry: str, result: dict[str, Any]) -> Iterator[tuple[Any, ...]]:
+    """What a result says of a file, with the path and the entry."""
+    for what in ("seen", "file", "unread"):
+        if what not in result:
+            continue
+        first, *rest = result[what]
+        if what != "unread":
+            first = bytes.fromhex(first)
+        if what == "file" and rest[-1] is not None:
+            sha, size, classes = rest[-1]
+            rest[-1] = bytes.fromhex(sha), size, [(bytes.fromhex(text), *more) for text, *more in classes]
+        yield (what, path, entry, first, *rest)
 
 
 # ---- where a scheduler has the workers

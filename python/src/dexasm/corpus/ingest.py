@@ -17,7 +17,7 @@ from dexasm.cli.errors import FAILED, CliError, reason
 from dexasm.cli.main import print_error
 from dexasm.cli.sanitize import escaped
 from dexasm.cli.terminal import StatusLine
-from dexasm.cli.workers import client
+from dexasm.cli.pool import close_all, end_all
 from dexasm.corpus.database import Corpus
 from dexasm.corpus.extract import KEY, run_batch
 
@@ -114,9 +114,9 @@ class LocalPool:
             yield one, one.result()
 
     def close(self) -> None:
-        client.end_all()
+        end_all()
         self.pool.shutdown(wait=True, cancel_futures=True)
-        client.close_all()
+        close_all()
 
 
 class DaskPool:

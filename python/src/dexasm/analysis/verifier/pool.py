@@ -14,8 +14,8 @@ from multiprocessing.connection import Connection
 
 from dexasm.analysis.verifier.report import Checker, Finding
 from dexasm.cli.errors import MEMORY, CliError
-from dexasm.cli.workers.client import ENDS
-from dexasm.cli.workers.worker import CLOCK, REASONS
+from dexasm.cli.pool import ENDS
+from dexasm.cli.worker import CLOCK, REASONS
 from dexasm.program import Program
 
 PARTS = 4  # times as many parts as workers

@@ -1,1 +1,0 @@
-"""Workers: processes that look at files, with limits of memory and of time."""
