@@ -127,6 +127,7 @@ class OutTest(HelperTest):
     """Bringing an answer to OUT, by `ran`, which others have in another way."""
 
     by = "deliver"  # what is named before each sub-test
+    keeps_owner = True  # of a file whose owner can't be given to another: it is written in place
 
     def room(self, name: str) -> str:
         return room(f"{self.by} {name}")
@@ -361,7 +362,8 @@ class OutTest(HelperTest):
         for mode, want in ((0o666, 0o666), (0o662, 0o622), (0o6777, 0o777), (0o2776, 0o766), (0o606, 0o606)):
             out = made(at, mode=mode, user=0, group=SOMEBODY)
             seen, there = self.ran(out, user=NOBODY), os.stat(out)
-            is_so = (there.st_uid, there.st_gid, f"{mode_of(out):o}") == (NOBODY, NOBODY, f"{want:o}")
+            owner = (0, SOMEBODY, f"{mode & 0o777:o}") if self.keeps_owner else (NOBODY, NOBODY, f"{want:o}")
+            is_so = (there.st_uid, there.st_gid, f"{mode_of(out):o}") == owner and only(at, "out") is True
             self.says(f"another's file of mode {mode:o}", seen, "done", is_so or f"{mode_of(out):o}", holds(out, NEW))
             os.remove(out)
         out = made(at, mode=0o660, user=0, group=SOMEBODY)
@@ -375,9 +377,9 @@ class OutTest(HelperTest):
             os.setxattr(out, ACL, listed(6, 6, 6, 6, 0))
             seen, there = self.ran(out, user=NOBODY), os.stat(out)
             entries = dict((tag, may) for tag, may, _ in struct.iter_unpack("<HHI", (acl_of(out) or b"\0" * 4)[4:]))
-            self.says(
-                "another's file by an ACL", seen, "done", there.st_gid == NOBODY, entries.get(G) == 0, holds(out, NEW)
-            )
+            rights = (SOMEBODY, 6) if self.keeps_owner else (NOBODY, 0)
+            is_so = (there.st_gid, entries.get(G)) == rights
+            self.says("another's file by an ACL", seen, "done", is_so, holds(out, NEW))
         os.remove(out)
         folder = self.room("users/sticky")
         os.chmod(folder, 0o1777)

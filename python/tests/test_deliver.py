@@ -197,13 +197,13 @@ class Deliver(output_files.OutTest):
         self.says("a limit that kills", self.ran(out, most=1000), "EFBIG", holds(out, OLD), only(at, "out", "limited"))
 
     def test_umask(self) -> None:
-        """The umask is read, not set: another thread would make a file with the wrong mode meanwhile."""
+        """The umask isn't set to learn it: another thread would make a file with the wrong mode meanwhile."""
+        at = self.room("umask")
         before = os.umask(0o027)
         self.addCleanup(os.umask, before)
         with unittest.mock.patch("os.umask", side_effect=AssertionError("set")):
-            self.check_equal("the umask", deliver.umask(), 0o027)
-        with unittest.mock.patch("builtins.open", side_effect=FileNotFoundError):
-            self.check_equal("the umask without /proc", deliver.umask(), 0o027)
+            deliver.deliver(f"{at}/new", NEW)
+        self.check_equal("a new file by the umask", mode_of(f"{at}/new"), 0o640)
 
     def test_changing(self) -> None:
         """Somebody changes OUT all the time: nothing is written through it, and nothing waits."""

@@ -166,13 +166,13 @@ class Room:
 
 def order_wrong(name: str, log: list[str]) -> str | None:
     """What is wrong with the order of the calls of a run that was left alone: the part is nobody else's when it is
-    made, and it is whole and on the disk before it takes OUT's place.
+    made in place of another file, and it is whole and on the disk before it takes that one's place.
     """
     text = "\n".join(log[[at for at, line in enumerate(log) if BEGINS in line][0] :])
     made = re.search(r"openat\(.*O_EXCL.*, 0([0-7]+)\) = (\d+)", text)
     if made is None:
         return None if not SETTINGS[name].beside else "no part"
-    if made[1] != "600":
+    if made[1] != ("666" if SETTINGS[name].old is None else "600"):
         return f"the part is made with mode {made[1]}"
     wrote, synced, moved = (text.find(one) for one in (f"write({made[2]},", f"fsync({made[2]})", "rename"))
     if SETTINGS[name].old is not None and not made.start() < wrote < synced:

@@ -240,6 +240,7 @@ class JavaOut(output_files.OutTest):
     """The tests of the module for Python, of the binding for Java."""
 
     by = "Java: OUT"
+    keeps_owner = False  # (it replaces such a file, and gives no right that the old one did not)
 
     def setUp(self) -> None:
         super().setUp()

@@ -8,7 +8,6 @@ import os
 import re
 import shutil
 import signal
-import stat
 import sys
 import tempfile
 
@@ -122,22 +121,24 @@ class Folder:
         if self.part:
             shutil.rmtree(self.part, ignore_errors=True)
             shutil.rmtree(f"{self.part}.old", ignore_errors=True)
+            shutil.rmtree(f"{self.part}.new", ignore_errors=True)
         self.part = ""
 
     def copy_metadata(self) -> None:
         """The new folder looks as the old one, or as what is new there, and all in it has its owner."""
+        like = self.path
+        if not os.path.lexists(like):
+            like = f"{self.part}.new"
+            os.mkdir(like)
         new = os.open(self.part, os.O_RDONLY | os.O_DIRECTORY | os.O_NOFOLLOW)
         try:
-            if os.path.lexists(self.path):
-                old = os.open(self.path, os.O_RDONLY | os.O_DIRECTORY | os.O_NOFOLLOW)
-                try:
-                    self.copy_owner(os.fstat(new), os.fstat(old))
-                    rules.copy_metadata(new, old)
-                finally:
-                    os.close(old)
-            else:
-                mode = rules.new_mode(os.fsencode(os.path.dirname(self.path)), 0o777)
-                os.fchmod(new, mode | os.fstat(new).st_mode & stat.S_ISGID)
+            old = os.open(like, os.O_RDONLY | os.O_DIRECTORY | os.O_NOFOLLOW)
+            try:
+                self.copy_owner(os.fstat(new), os.fstat(old))
+                if not rules.copy_metadata(new, old):
+                    raise CliError(f"{self.name}: its owner, mode or access control list cannot be kept")
+            finally:
+                os.close(old)
         finally:
             os.close(new)
 

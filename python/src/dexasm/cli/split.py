@@ -177,17 +177,19 @@ class Folder:
         changed = {path: data for path, data in files.items() if self.get(path) != data}
         at = self.open_aside()
         try:
-            for number, (path, data) in enumerate(changed.items()):
-                self.put_aside(str(number), path, data, at)
+            places = [
+                (path, data, self.put_aside(str(number), path, data, at))
+                for number, (path, data) in enumerate(changed.items())
+            ]
             if changed or gone or exists(UNFINISHED, at):
-                self.take_places(changed, gone, files["order"], at)
+                self.take_places(places, gone, files["order"], at)
         finally:
             with contextlib.suppress(OSError):
                 empty(at)
                 os.close(at)
                 os.rmdir(ASIDE, dir_fd=self.top)
 
-    def take_places(self, changed: dict[str, bytes], gone: set[str], order: bytes, at: int) -> None:
+    def take_places(self, places: list[tuple[str, bytes, bool]], gone: set[str], order: bytes, at: int) -> None:
         """The files that were made aside come into their places. While they do, and where that goes wrong, the folder
         says that it isn't whole.
         """
@@ -196,8 +198,9 @@ class Folder:
         try:
             for path in gone:
                 self.remove(path)
-            for number, path in enumerate(changed):
-                self.put_in_place(str(number), path, at)
+            for number, (path, data, is_equal) in enumerate(places):
+                if is_equal or not self.overwrite(path, data):
+                    self.put_in_place(str(number), path, at)
             os.unlink(UNFINISHED, dir_fd=at)
         except OSError as error:
             why = f"{reason(error)}; it isn't whole now, so dexasm-split has to run again"
@@ -217,14 +220,29 @@ class Folder:
         empty(at)
         return at
 
-    def put_aside(self, name: str, path: str, data: bytes, at: int) -> None:
-        """A file that is to take this path, with the mode and the owner of the one there, if that may be written."""
+    def put_aside(self, name: str, path: str, data: bytes, at: int) -> bool:
+        """Make a file that is to take this path, if the one there may be written; return whether it has its owner, mode
+        and access control list.
+        """
         like = self.open(path, os.O_RDWR)
         try:
-            put_new(name, data, at, like)
+            return put_new(name, data, at, like)
         finally:
             if like is not None:
                 os.close(like)
+
+    def overwrite(self, path: str, data: bytes) -> bool:
+        """Write to the file itself; return False if it is gone."""
+        from dexasm import deliver as rules
+
+        file = self.open(path, os.O_RDWR)
+        if file is None:
+            return False
+        try:
+            rules.overwrite(file, data)
+        finally:
+            os.close(file)
+        return True
 
     def put_in_place(self, name: str, path: str, at: int) -> None:
         parent = self.open_parent(path, is_made=True)
@@ -236,11 +254,11 @@ class Folder:
             os.close(parent)
 
 
-def put_new(name: str, data: bytes, at: int, like: int | None = None) -> None:
-    """A file that isn't there yet, which looks as another one."""
+def put_new(name: str, data: bytes, at: int, like: int | None = None) -> bool:
+    """Make a file that isn't there yet; return whether it has the owner, mode and access control list of `like`."""
     from dexasm import deliver as rules
 
-    rules.fill(rules.new_file(name, at), at, like, data)
+    return rules.fill(rules.new_file(name, rules.PUBLIC if like is None else rules.PRIVATE, at), like, data)
 
 
 def empty(at: int) -> None:
