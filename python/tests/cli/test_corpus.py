@@ -22,22 +22,15 @@ from .support import (
     TOP,
     assembled,
     dexasm,
-    environment,
     get,
     is_one_line,
     put,
     room,
-    scratch,
     shell,
     tool,
 )
 
 
-# What sbatch does of an array, one job after the other.
-SBATCH = b"""#!/bin/bash
-last=${2#--array=0-}
-for ((id = 0; id <= last; id++)); do SLURM_ARRAY_TASK_ID=$id bash -c "$4" || exit; done
-"""
 ALL = ("word", "name", "string", "program", "file", "path", "unread", "class", "has", "member", "call", "use")
 
 
@@ -376,8 +369,7 @@ class Corpus(CorpusTest):
         self.check_equal("CORPUS: its tables are those of a database", told, plain(made))
 
     def test_recipes(self) -> None:
-        """The commands of RECIPES as they stand there, in a folder of evil names; those for Slurm by a sbatch of
-        ours."""
+        """The commands of RECIPES as they stand there, in a folder of evil names, but for those of a batch system."""
         at, recipes = os.path.join(room("corpus recipes"), "d"), blocks("docs/RECIPES.md")["A corpus"]
         put(at, "a.dex", assembled(TEXT))
         for name in NAMES:
@@ -388,17 +380,3 @@ class Corpus(CorpusTest):
             "RECIPES: a corpus", (status, said) == (0, "") and all(word in out for word in wants), (status, out, said)
         )
         self.check("RECIPES: a corpus, no name is obeyed", "PWNED" not in os.listdir(at) and ESC not in out)
-        want = sums(at, "corpus.db")
-        for name in os.listdir(at):
-            if name.startswith(("corpus.db", "known.db")):
-                os.remove(os.path.join(at, name))
-        put(room("corpus slurm"), "sbatch", SBATCH)
-        os.chmod(os.path.join(scratch(), "corpus slurm", "sbatch"), 0o755)
-        few = recipes[3].replace("0-63", "0-2").replace("~64p", "~3p")
-        ways = os.pathsep.join([os.path.join(scratch(), "corpus slurm"), environment()["PATH"]])
-        status, out, said = shell(few, at, PATH=ways)
-        self.check(
-            "RECIPES: a corpus under Slurm",
-            (status, said) == (0, "") and sums(at, "corpus.db") == want,
-            (status, out, said, few),
-        )

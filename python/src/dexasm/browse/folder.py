@@ -8,17 +8,13 @@ import os
 import re
 import shutil
 import signal
-import sys
 import tempfile
 
 from dexasm import deliver as rules
 from dexasm.cli.errors import CliError, reason
 from dexasm.cli.io import write_file
 from dexasm.cli.sanitize import escaped
-
-TYPE_CHECKING = False  # (as in typing)
-if TYPE_CHECKING:
-    from rich.progress import Progress as RichBar
+from dexasm.cli.terminal import StatusLine
 
 # All that dexasm-browse writes into a folder. What holds anything else isn't its own.
 FILES = re.compile(
@@ -199,34 +195,18 @@ def nothing(*_: object) -> None:
 
 
 class Progress:
-    """How far a job is, on standard error where that is a terminal: rich's bar where it is installed, or a line."""
+    """How far a job is, on standard error if that is a terminal."""
 
     def __init__(self, text: str, count: int) -> None:
-        self.text, self.count, self.done = text, count, 0
-        self.bar: RichBar | None = None
-        self.is_shown = sys.stderr is not None and sys.stderr.isatty()
+        self.text, self.count, self.done, self.line = text, count, 0, StatusLine()
 
     def __enter__(self) -> Progress:
-        if self.is_shown:
-            try:
-                from rich.console import Console
-                from rich.progress import Progress as Bar
-            except ImportError:
-                return self
-            self.bar = Bar(console=Console(stderr=True), transient=True)
-            self.bar.start()
-            self.task = self.bar.add_task(self.text, total=self.count)
         return self
 
     def step(self) -> None:
         self.done += 1
-        if self.bar is not None:
-            self.bar.advance(self.task)
-        elif self.is_shown and (self.done % 100 == 0 or self.done == self.count):
-            print(f"\r{self.text}: {self.done} of {self.count}", end="", file=sys.stderr, flush=True)
+        if self.line.is_due():
+            self.line.draw(f"{self.text}: {self.done} of {self.count}")
 
     def __exit__(self, *_: object) -> None:
-        if self.bar is not None:
-            self.bar.stop()
-        elif self.is_shown:
-            print("\r\x1b[K", end="", file=sys.stderr, flush=True)
+        self.line.draw()
