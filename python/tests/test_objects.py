@@ -48,6 +48,26 @@ from .bad_values import EVIL, MEMBERS, MNEMONICS, WRONG
 from .binding_case import ModuleTest
 
 Change = Callable[[Any, Any], Any]  # of a program and its class, also to what their types forbid
+REFERENCES = r"""dex 035 listing 2
+class LA; 0x1
+super LB;
+implements LI;
+static n I 0x8 = int 5
+static s [LB; 0x8 = array { string "a \u00e9" field LC;->f:I null }
+direct m (I)V 0x8
+code 2 1 0
+:L0
+const-string v0 "x \"y\""
+invoke-static { } LB;->go()V
+check-cast v0 [LB;
+:L3
+return-void
+try :L0 :L3
+catch LE; :L3
+end code
+virtual none (J)V 0x400
+end class
+"""
 HELLO = r"""dex 035 listing 2
 class LHello; 0x1
 super Ljava/lang/Object;
@@ -737,6 +757,43 @@ class Changes(ObjectsTest):
             and program.classes[1] is hello
             and [*program.classes.names()] == ["LHello;", "LB;"],
         )
+
+    def test_references(self) -> None:
+        """Each name and text that a program has, in the order of its listing, and by what."""
+        program = Program.of_listing(REFERENCES)
+        seen = [tuple(one) for one in program.references()]
+        main, array = "LA;->m(I)V", "[LB;"
+        want = [
+            ("LB;", False, "LA;", "superclass"),
+            ("LI;", False, "LA;", "interface"),
+            ("I", False, "LA;->n:I", "type"),
+            (array, False, "LA;->s:[LB;", "type"),
+            ("a \u00e9", True, "LA;->s:[LB;", "value"),
+            ("LC;->f:I", False, "LA;->s:[LB;", "value"),
+            ("(I)V", False, main, "prototype"),
+            ("x \"y\"", True, main, "const-string"),
+            ("LB;->go()V", False, main, "invoke-static"),
+            (array, False, main, "check-cast"),
+            ("LE;", False, main, "catch"),
+            ("(J)V", False, "LA;->none(J)V", "prototype"),
+        ]
+        self.check_equal("references of a program", seen, want)
+
+    def test_units(self) -> None:
+        """The sizes of instructions and payloads ("Dalvik Executable instruction formats", "Dalvik bytecode")."""
+        end = Label()
+        for insn, units in (
+            (Insn("nop"), 1),
+            (Insn("goto/16", target=end), 2),
+            (Insn("const-string/jumbo", 0, text=""), 3),
+            (Insn("invoke-static", name="LA;->m()V"), 3),
+            (Insn("const-wide", 0, literal=1), 5),
+            (PackedSwitch(0, [end] * 3), 10),
+            (SparseSwitch([1, 2, 3], [end] * 3), 14),
+            (ArrayData(1, b"abc"), 6),
+            (ArrayData(8, bytes(16)), 12),
+        ):
+            self.check_equal(f"units of {insn!r}", insn.units, units)
 
     def test_places(self) -> None:
         """A refusal says in which class, member and instruction it stands."""

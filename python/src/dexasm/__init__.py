@@ -22,7 +22,7 @@ if TYPE_CHECKING:
     from typing import Any
 
     from dexasm._native import Command, Library
-    from dexasm.classes import Class, Field, Method, Value
+    from dexasm.classes import Class, Field, Method, Reference, Value
     from dexasm.code import ArrayData, Catch, Code, Insn, Label, PackedSwitch, SparseSwitch, Try
     from dexasm.listing.diagnostics import Place
     from dexasm.names import FieldRef, MethodRef, Proto, Type
@@ -30,7 +30,7 @@ if TYPE_CHECKING:
 
 __all__ = ["Refused", "assemble", "check", "fault_name", "strip", "version"]
 __all__ += ["ArrayData", "Catch", "Class", "Code", "Field", "FieldRef", "Insn", "Label", "Method", "MethodRef"]
-__all__ += ["PackedSwitch", "Place", "Program", "Proto", "SparseSwitch", "Try", "Type", "Value"]
+__all__ += ["PackedSwitch", "Place", "Program", "Proto", "Reference", "SparseSwitch", "Try", "Type", "Value"]
 
 Data = bytes | bytearray | memoryview
 
@@ -38,7 +38,7 @@ Data = bytes | bytearray | memoryview
 # rest of this module, and whoever only checks or strips needs none.
 _PARTS = {
     "code": ("ArrayData", "Catch", "Code", "Insn", "Label", "PackedSwitch", "SparseSwitch", "Try"),
-    "classes": ("Class", "Field", "Method", "Value"),
+    "classes": ("Class", "Field", "Method", "Reference", "Value"),
     "faultline": ("Place",),
     "formats": (),
     "names": ("FieldRef", "MethodRef", "Proto", "Type"),

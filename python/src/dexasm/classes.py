@@ -6,7 +6,7 @@ import re
 import struct
 from collections.abc import Callable, Iterator, Sequence
 from dataclasses import dataclass
-from typing import Any, ClassVar, TypeVar
+from typing import Any, ClassVar, NamedTuple, TypeVar
 
 from dexasm.canonical import canonical_reader
 from dexasm.code import Code, Insn
@@ -161,6 +161,21 @@ class Class:
             return FieldRef.of(self.name, one.name, one.type)
         return MethodRef.of(self.name, one.name, one.proto)
 
+    def references(self) -> Iterator[Reference]:
+        """Each name and text that the class has besides its own name and its members', in the order of its listing."""
+        owner = str(self.name)
+        if self.superclass is not None:
+            yield Reference(str(self.superclass), False, owner, "superclass")
+        yield from (Reference(str(name), False, owner, "interface") for name in self.interfaces)
+        for field in self.fields:
+            by = str(self.ref(field))
+            yield Reference(str(field.type), False, by, "type")
+            yield from _value_references(field, by)
+        for method in self.methods:
+            by = str(self.ref(method))
+            yield Reference(str(method.proto), False, by, "prototype")
+            yield from _code_references(method, by)
+
     def parts(self) -> Iterator[tuple[Field | Method | None, str]]:
         """The lines of the class before its members, with None, and those of each member."""
         yield None, "".join(f"{line}\n" for line in _heads(self))
@@ -173,6 +188,33 @@ class Class:
 
     def __str__(self) -> str:
         return "".join([*(text for _, text in self.parts()), "end class\n"])
+
+
+class Reference(NamedTuple):
+    """A name, or a text, which class or member has it, and how: as `superclass`, `interface`, `type`, `prototype`, `value`
+    or `catch`, or in an instruction, by its mnemonic.
+    """
+
+    name: str
+    is_text: bool
+    by: str
+    how: str
+
+
+def _value_references(field: Field, by: str) -> Iterator[Reference]:
+    for one in field.value.all() if field.value else ():
+        if one.kind == "string" or one.kind in _NAMED:
+            yield Reference(str(one.value), one.kind == "string", by, "value")
+
+
+def _code_references(method: Method, by: str) -> Iterator[Reference]:
+    for insn in method.insns:
+        if insn.name is not None:
+            yield Reference(str(insn.name), False, by, insn.mnemonic)
+        elif insn.text is not None:
+            yield Reference(insn.text, True, by, insn.mnemonic)
+    for each in method.code.tries if method.code else ():
+        yield from (Reference(str(catch.type), False, by, "catch") for catch in each.catches)
 
 
 Member = TypeVar("Member", Field, Method)

@@ -94,6 +94,11 @@ class Insn:
         """All labels that it leads to."""
         return (self.target,) if self.target is not None else ()
 
+    @property
+    def units(self) -> int:
+        """Its size in 16-bit code units."""
+        return _form(self.mnemonic).units
+
 
 def _fill(
     insn: Insn,
@@ -153,6 +158,10 @@ class PackedSwitch(_Payload):
     def labels(self) -> Iterable[Label]:
         return self.targets
 
+    @property
+    def units(self) -> int:
+        return 4 + 2 * len(self.targets)
+
 
 @dataclass(slots=True, init=False)
 class SparseSwitch(_Payload):
@@ -169,6 +178,10 @@ class SparseSwitch(_Payload):
     def labels(self) -> Iterable[Label]:
         return self.targets
 
+    @property
+    def units(self) -> int:
+        return 2 + 4 * len(self.targets)
+
 
 @dataclass(slots=True, init=False)
 class ArrayData(_Payload):
@@ -181,6 +194,10 @@ class ArrayData(_Payload):
     def __init__(self, width: int, data: bytes) -> None:
         _Payload.__init__(self)
         self.width, self.data = width, data
+
+    @property
+    def units(self) -> int:
+        return 4 + (len(self.data) + 1) // 2
 
 
 @dataclass(slots=True)

@@ -11,7 +11,7 @@ from typing import Any, overload
 
 import dexasm
 from dexasm.canonical import NoListing, canonical_reader
-from dexasm.classes import Class
+from dexasm.classes import Class, Reference
 from dexasm.names import Type, preview, unspelled
 
 HEAD = "dex 035 listing 2\n"
@@ -196,6 +196,10 @@ class Program:
         program = cls()
         program._classes = Classes(text)
         return program
+
+    def references(self) -> Iterator[Reference]:
+        """Each name and text that its classes have, in the order of its listing."""
+        return (found for one in self.classes for found in one.references())
 
     def write(self, align: bool = False) -> bytes:
         """The file of the program. Where it breaks a rule this raises Refused, which says where in the program."""

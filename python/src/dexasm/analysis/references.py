@@ -15,54 +15,10 @@ from dexasm.cli.show import PATTERN, pattern
 if TYPE_CHECKING:
     from typing import Any
 
-    from dexasm.classes import Class, Method, Value
+    from dexasm.classes import Reference
     from dexasm.program import Program
 
     Rows = list[dict[str, Any]]
-
-VALUES = ("type", "field", "enum", "method")  # kinds of values that name something
-
-
-class Reference(NamedTuple):
-    """What is named, or a text, by which class or member, and how: by an instruction, its mnemonic."""
-
-    name: str
-    is_text: bool
-    by: str
-    how: str
-
-
-def references(program: Program) -> Iterator[Reference]:
-    """Each, in the order of the listing."""
-    for one in program.classes:
-        owner = str(one.name)
-        yield from (Reference(str(name), False, owner, "superclass") for name in (one.superclass,) if name is not None)
-        yield from (Reference(str(name), False, owner, "interface") for name in one.interfaces)
-        for field in one.fields:
-            by = str(one.ref(field))
-            yield Reference(str(field.type), False, by, "type")
-            yield from of_value(by, field.value)
-        for method in one.methods:
-            yield from of_method(one, method)
-
-
-def of_value(by: str, value: Value | None) -> Iterator[Reference]:
-    for one in value.all() if value else ():
-        if one.kind == "string" or one.kind in VALUES:
-            yield Reference(str(one.value), one.kind == "string", by, "value")
-
-
-def of_method(one: Class, method: Method) -> Iterator[Reference]:
-    by = str(one.ref(method))
-    yield Reference(str(method.proto), False, by, "prototype")
-    for insn in method.insns:
-        if insn.name is not None:
-            yield Reference(str(insn.name), False, by, insn.mnemonic)
-        elif insn.text is not None:
-            yield Reference(insn.text, True, by, insn.mnemonic)
-    for each in method.code.tries if method.code else ():
-        yield from (Reference(str(catch.type), False, by, "catch") for catch in each.catches)
-
 
 # ---- uses
 
@@ -71,7 +27,7 @@ def find_uses(program: Program, names: list[str], is_text: bool) -> dict[str, Ro
     """Of each name or text that was asked for, who has it and how, in the order of the listing, with how often."""
     wanted = {one: matcher(program, one, is_text) for one in names}
     found: dict[str, Counter[Reference]] = {one: Counter() for one in names}
-    for mention in references(program):
+    for mention in program.references():
         for one, is_meant in wanted.items():
             if mention.is_text == is_text and is_meant(mention.name):
                 found[one][mention] += 1
@@ -118,7 +74,7 @@ def outside(program: Program) -> dict[str, dict[str, Any]]:
     members that neither it nor what it inherits from here has."""
     known = Xref(program)
     found: dict[str, dict[str, Any]] = {}
-    for mention in references(program):
+    for mention in program.references():
         if mention.is_text:
             continue
         owner, is_member, signature = mention.name.partition("->")
@@ -158,7 +114,7 @@ def find(program: Program, patterns: list[str]) -> dict[str, list[str]]:
             look("fields", str(one.ref(field)))
         for method in one.methods:
             look("methods", str(one.ref(method)))
-    for mention in dict.fromkeys(mention[:2] for mention in references(program)):
+    for mention in dict.fromkeys(mention[:2] for mention in program.references()):
         name, is_text = mention
         if is_text:
             look("strings", name)

@@ -91,39 +91,29 @@ def classes(program: Program) -> dict[str, Any]:
 
 def strings(program: Program) -> dict[str, list[str]]:
     found: dict[str, list[str]] = {}
-    for one in program.classes:
-        for field in one.statics:
-            for value in field.value.all() if field.value else ():
-                if value.kind == "string":
-                    found.setdefault(value.value, []).append(one.name)
-        for method in one.methods:
-            for insn in method.insns:
-                if insn.text is not None:
-                    found.setdefault(insn.text, []).append(one.ref(method))
+    for one in program.references():
+        if one.is_text:
+            found.setdefault(one.name, []).append(one.by.partition("->")[0] if one.how == "value" else one.by)
     return found
 
 
-def calls(program: Program) -> dict[str, list[str | None]]:
-    return {
-        one.ref(method): [insn.name for insn in method.insns if insn.mnemonic.startswith("invoke-")]
-        for one in program.classes
-        for method in one.methods
-    }
+def calls(program: Program) -> dict[str, list[str]]:
+    found: dict[str, list[str]] = {str(one.ref(method)): [] for one in program.classes for method in one.methods}
+    for one in program.references():
+        if one.how.startswith("invoke-"):
+            found[one.by].append(one.name)
+    return found
 
 
 def fields(program: Program) -> dict[str, dict[str, list[str]]]:
     found: dict[str, dict[str, dict[str, None]]] = {
-        one.ref(field): {"reads": {}, "writes": {}} for one in program.classes for field in one.fields
+        str(one.ref(field)): {"reads": {}, "writes": {}} for one in program.classes for field in one.fields
     }
     kinds = {"iget": "reads", "sget": "reads", "iput": "writes", "sput": "writes"}
-    for one in program.classes:
-        for method in one.methods:
-            for insn in method.insns:
-                kind = kinds.get(insn.mnemonic[:4])
-                if kind:
-                    assert insn.name is not None  # (that of the field)
-                    users = found.setdefault(insn.name, {"reads": {}, "writes": {}})
-                    users[kind][one.ref(method)] = None
+    for one in program.references():
+        kind = kinds.get(one.how[:4])
+        if kind:
+            found.setdefault(one.name, {"reads": {}, "writes": {}})[kind][one.by] = None
     return {name: {kind: [*methods] for kind, methods in users.items()} for name, users in found.items()}
 
 

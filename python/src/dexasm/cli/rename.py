@@ -34,7 +34,6 @@ import sys
 from collections import Counter
 
 from dexasm.analysis.extras import drop_line
-from dexasm.analysis.references import references
 from dexasm.analysis.xref import classes_in
 from dexasm.cli.core import as_dex, read_program, run_or_fail
 from dexasm.cli.errors import FAILED
@@ -63,7 +62,7 @@ def requested_names(program: Program, args: Namespace, pairs: list[tuple[str, st
         by_mapping(names, args)
     for old, new in pairs:
         names.request(old, new)
-    names.check({one for mention in references(program) if not mention.is_text for one in classes_in(mention.name)})
+    names.check({one for mention in program.references() if not mention.is_text for one in classes_in(mention.name)})
     return names
 
 
@@ -93,7 +92,7 @@ def print_warnings(program: Program, names: Names) -> None:
     for name in sorted(names.unsure):
         print_error(f"dexasm-rename: a renamed method's class inherits from {escaped(name)}, which isn't there")
     old = {form for name in names.classes for form in (name, name[1:-1], name[1:-1].replace("/", "."))}
-    texts = Counter(mention.name for mention in references(program) if mention.is_text)
+    texts = Counter(mention.name for mention in program.references() if mention.is_text)
     found = [text for text in texts if not old.isdisjoint(WORD.findall(text))]
     for text in found[:MOST_REPORTED]:
         print_error(f"dexasm-rename: a text has an old name, and stays: {escaped(text[:100])}")

@@ -11,8 +11,6 @@ from dexasm.formats import format_of
 
 TYPE_CHECKING = False  # (as in typing)
 if TYPE_CHECKING:
-    from typing import Any
-
     from dexasm.program import Program
 
 NEAR = 1 << 16  # strings that const-string reaches
@@ -57,7 +55,7 @@ def reach(code: Code, done: Counter[str]) -> None:
         for insn in code.insns:
             at += is_payload(insn) and at % 2  # (assemble --align puts a nop there)
             places[id(insn)] = at
-            at += units_of(insn)
+            at += insn.units
         short = [insn for insn in code.insns if not reaches(insn, places)]
         if not short:
             return
@@ -67,18 +65,6 @@ def reach(code: Code, done: Counter[str]) -> None:
 
 def is_payload(insn: Insn) -> bool:
     return insn.mnemonic.endswith("-payload")
-
-
-def units_of(insn: Any) -> int:
-    """How many units of 16 bits it takes."""
-    if insn.mnemonic == "packed-switch-payload":
-        return 4 + 2 * len(insn.targets)
-    if insn.mnemonic == "sparse-switch-payload":
-        return 2 + 4 * len(insn.targets)
-    if insn.mnemonic == "array-payload":
-        return 4 + (len(insn.data) + 1) // 2
-    form = format_of(insn.mnemonic)
-    return form.units if form else 1
 
 
 def reaches(insn: Insn, places: dict[int, int]) -> bool:

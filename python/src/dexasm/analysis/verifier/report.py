@@ -21,7 +21,7 @@ from dexasm.cli.scheduler import Verdict
 
 if TYPE_CHECKING:
     from dexasm import classes as members
-    from dexasm.code import Code, Insn
+    from dexasm.code import Code
     from dexasm.listing import source as listed
     from dexasm.program import Program
 
@@ -283,7 +283,7 @@ class Places:
         """Those of a code's instructions. The last code's are kept: methods that share one are told of alike."""
         text = str(code)
         if text != self.text:
-            self.text, self.units = text, [*accumulate(map(units, reread(code).insns), initial=0)]
+            self.text, self.units = text, [*accumulate((insn.units for insn in reread(code).insns), initial=0)]
         return self.units
 
     def named(self, found: re.Match[str], lines: listed.Code | None) -> str:
@@ -303,20 +303,6 @@ class Places:
 
         words: dict[int, listed.Word] = {listed.register_of(word): word for word in listed.registers(line)}
         return (words.get(register) or words.get(register - 1) or line.words[0]).column
-
-
-def units(insn: Insn) -> int:
-    """How many units of 16 bits an instruction takes."""
-    from dexasm.formats import format_of
-
-    form = format_of(insn.mnemonic)
-    if form is not None:
-        return form.units
-    if hasattr(insn, "keys"):
-        return 2 + 4 * len(insn.keys)
-    if hasattr(insn, "targets"):
-        return 4 + 2 * len(insn.targets)
-    return 4 + (len(insn.data) + 1) // 2  # type: ignore[attr-defined]  # (of an array)
 
 
 def member_of(verdict: Verdict) -> list[str]:
