@@ -9,8 +9,7 @@ from typing import TYPE_CHECKING, NamedTuple
 import dexasm
 from dexasm.cli.errors import FAILED, MEMORY, REFUSED, CliError
 from dexasm.cli.filetypes import DEX, ZIP
-from dexasm.cli.inputs import read_input, read_inputs
-from dexasm.cli.io import display_name
+from dexasm.cli.inputs import read_inputs
 from dexasm.cli.sanitize import escaped
 
 if TYPE_CHECKING:
@@ -96,24 +95,13 @@ def is_listing(data: bytes) -> bool:
     return not data.startswith(DEX) and LISTING.match(data) is not None
 
 
-def dex_of(path: str | bytes | None) -> bytes:
-    """The bytes of a .dex file, or of the one that is in an archive; of a listing those that dexasm makes of it."""
-    data = read_input(path)
-    return as_dex(data.data, data.name)
-
-
 def as_dex(data: bytes, name: str) -> bytes:
-    """The same of the bytes of a file of that name."""
+    """The .dex file of the bytes of a file of that name; of a listing the one that dexasm makes of it."""
     if is_listing(data):
         data = run_or_fail("assemble", data=data, name=name)
     if data.startswith(ZIP):
         raise CliError(f"{name}: a zip archive: name it as a file, since a stream of one can't be read")
     return data
-
-
-def listing_of(path: str | bytes | None) -> str:
-    """The listing of a file as dexasm prints it; a listing is assembled first, so that it is printed alike."""
-    return run_or_fail("list", data=dex_of(path), name=display_name(path)).decode("ascii")
 
 
 def unescape(word: str) -> str:
@@ -126,7 +114,7 @@ def unescape(word: str) -> str:
 
 def program_of(path: str | bytes | None) -> Program:
     """The program of a file, of a listing, or of all .dex files of an archive, as an object of the module for Python."""
-    return concatenate([read_program(as_dex(data.data, data.name), data.name) for data in read_inputs(path)])
+    return concatenate([read_program(as_dex(file.data, file.name), file.name) for file in read_inputs(path)])
 
 
 def concatenate(programs: list[Program]) -> Program:
