@@ -165,7 +165,9 @@ class Command:
         if done.returncode < 0:
             raise OSError(f"{self.path} was killed by signal {-done.returncode}")
         if done.returncode:
-            raise OSError(f"{self.path} ended with status {done.returncode}" + (f": {ascii(line)[1:-1]}" if line else ""))
+            raise OSError(
+                f"{self.path} ended with status {done.returncode}" + (f": {ascii(line)[1:-1]}" if line else "")
+            )
         if not is_output(job, done.stdout):
             raise OSError(f"{self.path}: unexpected output of `{job}`")
         return done.stdout

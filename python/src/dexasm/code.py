@@ -318,8 +318,7 @@ Read = tuple[str, tuple[int, ...], int | None, Type | FieldRef | MethodRef | Non
 
 
 class _Cache(dict[str, Any]):
-    """The meaning of words, each read once. It drops all when it is full and keeps no long ones: no file makes it large.
-    """
+    """The meaning of words, each read once. It drops all when it is full and keeps no long ones: no file makes it large."""
 
     def __init__(self, read: Callable[[str], Any]) -> None:
         self.read = read

@@ -144,8 +144,7 @@ def units_of(data: bytes, code: int) -> tuple[int, ...]:
 
 
 def addresses(data: bytes, code: int) -> Iterator[tuple[int, int]]:
-    """Of each instruction and each payload of the code that is there: its offset in the file, and its address in units.
-    """
+    """Of each instruction and each payload of the code that is there: its offset in the file, and its address in units."""
     return ((code + 16 + 2 * at, at) for at, _ in steps(units_of(data, code)))
 
 

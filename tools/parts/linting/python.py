@@ -1,5 +1,5 @@
-"""What is written in Python: names that nothing uses or has, by pyflakes; and types, by mypy with the settings of
-both pyproject.toml. Where neither is installed, nothing is looked at."""
+"""What is written in Python: names that nothing uses or has, by pyflakes; types, by mypy with the settings of both
+pyproject.toml; and the format of the package, by black. What isn't installed isn't run."""
 import glob
 import os
 import shutil
@@ -10,6 +10,7 @@ from . import Seen
 FOLDERS = ("tools", "tests", "python", "bindings", "bench")
 # The settings of mypy, each with the folder in which it runs: of the package, of the tests, of the tools.
 PROJECTS = (("python", "pyproject.toml"), (".", "tests/mypy.ini"), (".", "pyproject.toml"))
+PACKAGE = "python/src"
 FLAKES = ("pyflakes3", "pyflakes")
 KNOWN = "tools/parts/out/mypy"  # what mypy has found before, which takes it a minute
 
@@ -55,6 +56,12 @@ def by_mypy(folder: str, settings: str) -> list[str]:
     return [os.path.normpath(os.path.join(folder, line)) for line in lines] if said.returncode else []
 
 
+def by_black() -> list[str]:
+    """The files of the package that aren't in black's format, by the settings of its pyproject.toml."""
+    said = subprocess.run(["black", "--check", PACKAGE], capture_output=True, text=True)
+    return [line for line in said.stderr.splitlines() if line.startswith(("would reformat", "error"))]
+
+
 def look() -> Seen:
     paths, wrong, by = sources(), [], []
     if command := next(filter(shutil.which, FLAKES), None):
@@ -63,8 +70,11 @@ def look() -> Seen:
     if shutil.which("mypy"):
         by.append("mypy")
         wrong += [line for project in PROJECTS for line in by_mypy(*project)]
+    if shutil.which("black"):
+        by.append("black")
+        wrong += by_black()
     if not by:
         return Seen([], missing="neither pyflakes nor mypy is installed (Debian: pyflakes3, mypy)", is_needed=False)
-    lacking = [name for name in ("pyflakes", "mypy") if name not in by]
+    lacking = [name for name in ("pyflakes", "mypy", "black") if name not in by]
     said = f"{len(paths)} files of Python, by {' and '.join(by)}"
     return Seen(wrong, said + (f"; {lacking[0]} isn't installed here" if lacking else ""))

@@ -93,8 +93,7 @@ def bytes_by_string(dex: Dex) -> Rows:
 
 
 def named(dex: Dex, parts: dict[Claim, str] | None = None) -> Rows:
-    """The bytes of each kind by the name of the class, in the order of the file, of what is no class's, and of parts.
-    """
+    """The bytes of each kind by the name of the class, in the order of the file, of what is no class's, and of parts."""
     names, taken = sizes(dex, parts)
     return {name_of(names, owner): found for owner, found in taken.items()}
 

@@ -27,7 +27,9 @@ TOO_LARGE = "it is too large"
 MOST_OF_PICTURE = 500_000  # bytes of a picture on a page
 
 
-def lines_of(xref: Xref, coder: CodeRenderer, row: int, places: Iterator[Iterator[tuple[int, int]]]) -> Iterator[Markup]:
+def lines_of(
+    xref: Xref, coder: CodeRenderer, row: int, places: Iterator[Iterator[tuple[int, int]]]
+) -> Iterator[Markup]:
     """The HTML of each member's lines; of each code that the class has there are the places of its instructions."""
     one, first = xref.classes[row], xref.first[row]
     words = ["static"] * len(one.statics) + ["instance"] * len(one.instances)

@@ -232,7 +232,9 @@ def strings(parts: list[Part], count: int, lead: Markup) -> Markup:
 
 
 def reading(are_several: bool) -> Markup:
-    instructions, types = ([(part("code")(word), Markup(meaning)) for word, meaning in rows] for rows in (READING, TYPES))
+    instructions, types = (
+        [(part("code")(word), Markup(meaning)) for word, meaning in rows] for rows in (READING, TYPES)
+    )
     return page("help", instructions=facts(instructions), types=facts(types), longest=LONGEST, are_several=are_several)
 
 

@@ -75,8 +75,7 @@ def file_of(number: int, at: int) -> str:
 
 
 def others(label: str, names: list[str], here: int) -> Markup:
-    """Links to the pages of something that has several: to those around the one that is so far, the first and the last.
-    """
+    """Links to the pages of something that has several: to those around the one that is so far, the first and the last."""
     if len(names) < 2:
         return Markup()
     near = range(max(here - NEAR, 0), min(here + NEAR + 1, len(names)))

@@ -81,7 +81,9 @@ def fix_checksums(data: bytes, name: str) -> bytes:
     return with_checksums(data) if wrong else data
 
 
-def run_entry_job(job: str, archive: ZipFile, folder: str | None, name: str, entries: list[ZipInfo], closes: bool) -> int:
+def run_entry_job(
+    job: str, archive: ZipFile, folder: str | None, name: str, entries: list[ZipInfo], closes: bool
+) -> int:
     """The job on one .dex file; answers the status."""
     try:
         place, data = output_path(job, folder, name), read_entry(archive, entries)

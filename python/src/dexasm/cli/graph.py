@@ -46,7 +46,9 @@ def main(parser: Parser) -> int:
     if len(ends) > 1:
         raise UsageError(f"{parser.usage_text}\n{parser.prog}: either --from or --to", USAGE)
     if args.depth is not None and (not ends or args.depth < 0):
-        raise UsageError(f"{parser.usage_text}\n{parser.prog}: --depth is a number from 0 on, with --from or --to", USAGE)
+        raise UsageError(
+            f"{parser.usage_text}\n{parser.prog}: --depth is a number from 0 on, with --from or --to", USAGE
+        )
     from dexasm.analysis.cfg import as_dot, as_json, callers, calls, flow, render_svg
     from dexasm.analysis.xref import Xref, method_of
 

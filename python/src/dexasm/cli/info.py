@@ -180,7 +180,9 @@ def report(args: Namespace, source: Input, prog: str, low: int, high: int | None
     else:
         details = facts(data, refusal, prog, name)
         details |= {"entry": source.entry} if source.entry else {}
-        found = [json.dumps(details)] if args.json else refused_lines(details, data) if refusal else lines(details, data)
+        found = (
+            [json.dumps(details)] if args.json else refused_lines(details, data) if refusal else lines(details, data)
+        )
     for line in found:
         print(line)
     if refusal:

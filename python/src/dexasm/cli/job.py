@@ -130,7 +130,9 @@ def check_bytes(data: bytes, kind: str | None, is_hashed: bool) -> tuple[bytes |
             dex = data
     except dexasm.Refused as refused:
         fault = {"number": refused.number, "name": refused.name, "place": refused.place}
-        return None, verdict_fields(kind, "refused", **fault, **(listing_location(data, refused) if kind == "listing" else {}))
+        return None, verdict_fields(
+            kind, "refused", **fault, **(listing_location(data, refused) if kind == "listing" else {})
+        )
     return dex, verdict_fields(kind, "ok", program=program_hash(dex) if is_hashed else None)
 
 

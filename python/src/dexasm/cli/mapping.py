@@ -72,4 +72,6 @@ def inverted(classes: list[ClassMapping]) -> Iterator[ClassMapping]:
         return re.sub(r"L[^;]*;", lambda found: new.get(found[0], found[0]), type_)
 
     for one in classes:
-        yield ClassMapping(one.new, one.old, [MemberMapping(each.new, each.old, after(each.type)) for each in one.members])
+        yield ClassMapping(
+            one.new, one.old, [MemberMapping(each.new, each.old, after(each.type)) for each in one.members]
+        )

@@ -222,9 +222,7 @@ def count_workers(found: list[tuple[bytes, int] | Verdict], options: Any) -> int
     return count
 
 
-def check_all(
-    found: list[tuple[bytes, int] | Verdict], options: Any, wait: Callable[[], None]
-) -> Iterator[Verdict]:
+def check_all(found: list[tuple[bytes, int] | Verdict], options: Any, wait: Callable[[], None]) -> Iterator[Verdict]:
     """Verdicts in the order of what was found. `wait` is called now and then while none is there."""
     workers = count_workers(found, options)
     yield from check_in_turn(found, options, wait) if workers == 1 else check_in_parallel(found, options, wait, workers)

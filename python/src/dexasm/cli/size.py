@@ -207,7 +207,9 @@ def check_args(parser: Parser, args: Namespace) -> None:
     if args.count and (args.html is not None or args.by not in ("package", "class")):
         parser.error("--count is by package or class, and takes no --html")
     if args.sort not in ((*COUNTED, COLUMNS[0], "name") if args.count else (*COLUMNS, "name")):
-        parser.error(f"--sort {args.sort} is for {'another table than' if args.count else ''} --count".replace("  ", " "))
+        parser.error(
+            f"--sort {args.sort} is for {'another table than' if args.count else ''} --count".replace("  ", " ")
+        )
     if args.sort == "strip" and len(args.files) == 2:
         parser.error("--sort strip is for one FILE: of two it isn't asked")
 

@@ -67,9 +67,7 @@ class Readable(Tables):
         super().__init__(data if has_tables(data) else bytes(HEADER))
         self.data, self.left = data, BUDGET * len(data) + LEAST
         # (a table that runs past the end has the rows that lie in the file)
-        self.rows = {
-            name: min(self.count[name], max(0, len(data) - self.at[name]) // size) for name, _, size in TABLES
-        }
+        self.rows = {name: min(self.count[name], max(0, len(data) - self.at[name]) // size) for name, _, size in TABLES}
 
     def charge(self, count: int) -> None:
         self.left -= count

@@ -166,7 +166,12 @@ def header_fields(entry: Entry) -> tuple[int, ...]:
 def append_entry(out: bytearray, entry: Entry) -> None:
     extra = padded_extra(entry, len(out) + LOCAL.size + len(entry.name))
     needs = entry.info.extract_version | entry.info.reserved << 8
-    out += LOCAL.pack(LOCAL_BEGINS, needs, *header_fields(entry), len(entry.name), len(extra)) + entry.name + extra + entry.data
+    out += (
+        LOCAL.pack(LOCAL_BEGINS, needs, *header_fields(entry), len(entry.name), len(extra))
+        + entry.name
+        + extra
+        + entry.data
+    )
 
 
 def append_row(out: bytearray, offset: int, entry: Entry) -> None:
@@ -174,5 +179,7 @@ def append_row(out: bytearray, offset: int, entry: Entry) -> None:
     info = entry.info
     by, needs = info.create_version | info.create_system << 8, info.extract_version | info.reserved << 8
     lengths = len(entry.name), len(info.extra), len(info.comment)
-    out += ROW.pack(ROW_BEGINS, by, needs, *header_fields(entry), *lengths, 0, info.internal_attr, info.external_attr, offset)
+    out += ROW.pack(
+        ROW_BEGINS, by, needs, *header_fields(entry), *lengths, 0, info.internal_attr, info.external_attr, offset
+    )
     out += entry.name + info.extra + info.comment

@@ -139,7 +139,9 @@ def main(parser: Parser) -> int:
         if args.job == "add":
             counts = add(Corpus(args.database), args)
             if not (counts.paths or counts.unread or counts.status or args.allow_empty):
-                raise CliError("nothing was looked at: no .dex file or archive with one is there (--allow-empty takes that)")
+                raise CliError(
+                    "nothing was looked at: no .dex file or archive with one is there (--allow-empty takes that)"
+                )
             return counts.status or (REFUSED if args.strict and counts.is_bad else 0)
         return {"merge": merge, "sum": print_sums}.get(args.job, run_query)(args)
     except WRONG as error:

@@ -224,8 +224,7 @@ def attached(db: sqlite3.Connection, path: str, name: str) -> Iterator[None]:
 
 
 def look(db: sqlite3.Connection, which: str, name: str) -> None:
-    """Looks whether it is a database of this version that has nothing else: what triggers and views do, its maker says.
-    """
+    """Looks whether it is a database of this version that has nothing else: what triggers and views do, its maker says."""
     application, version = whose(db, which)
     if application != APPLICATION:
         raise CliError(f"{name}: no database of dexasm-corpus")

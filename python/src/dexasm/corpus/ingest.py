@@ -189,7 +189,9 @@ class DaskPool:
                     self.lose()
                 yield one, None
             except ModuleNotFoundError as error:
-                raise CliError(f"a worker of Dask hasn't this version of the package dexasm: {escaped(str(error))}") from None
+                raise CliError(
+                    f"a worker of Dask hasn't this version of the package dexasm: {escaped(str(error))}"
+                ) from None
 
     def lose(self) -> None:
         """After workers were killed: where all that had the keys are gone, what needs these was cancelled."""

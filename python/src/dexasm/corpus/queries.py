@@ -119,12 +119,16 @@ def same(db: sqlite3.Connection, options: Any) -> Answer:
 def classes(db: sqlite3.Connection, options: Any) -> Answer:
     if options.name is None:
         return ["class", "sha256", "programs"], db.execute(SEVERAL)
-    return ["class", "sha256", "superclass", "flags", "path", "entry"], db.execute(CLASS, (word_of(db, spelled(options.name, True)),))
+    return ["class", "sha256", "superclass", "flags", "path", "entry"], db.execute(
+        CLASS, (word_of(db, spelled(options.name, True)),)
+    )
 
 
 def callers(db: sqlite3.Connection, options: Any) -> Answer:
     if options.pattern:
-        rows = db.execute(CALLERS.format("in (select id from spelled where text glob ?)"), (spelled(options.word, True),))
+        rows = db.execute(
+            CALLERS.format("in (select id from spelled where text glob ?)"), (spelled(options.word, True),)
+        )
     else:
         rows = db.execute(CALLERS.format("= ?"), (name_of(db, options.word),))
     return ["method", "caller", "places", "path", "entry"], rows
@@ -147,7 +151,9 @@ def libraries(db: sqlite3.Connection, options: Any) -> Answer:
                 db.execute(statement)
             rows = db.execute(BY_CLASS if options.classes else LIBRARIES).fetchall()
     except WRONG as error:
-        raise CliError(f"{escaped(options.known if is_damaged(options.known) else options.database)}: {why(error)}") from None
+        raise CliError(
+            f"{escaped(options.known if is_damaged(options.known) else options.database)}: {why(error)}"
+        ) from None
     heads = ["path", "entry", "library", "library_entry"]
     return [*heads, *(("class", "state") if options.classes else ("same", "changed", "missing", "percent"))], rows
 

@@ -54,8 +54,7 @@ def present_files(claims: Claims) -> Iterator[tuple[bytes, bool, int]]:
 
 
 def verify(corpus: Corpus, paths: list[str], options: Any) -> int:
-    """Takes in what of the other databases' files is at hand; answers the status, which is another one if not all are.
-    """
+    """Takes in what of the other databases' files is at hand; answers the status, which is another one if not all are."""
     claims = [claims_of(path) for path in paths]
     verified, counts = VerifiedCorpus(corpus, set().union(*claims)), Counts()
     where = LocalPool(options, corpus.known(KEY, False))

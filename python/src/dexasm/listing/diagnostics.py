@@ -70,7 +70,9 @@ def of(listing: bytes, number: int, place: int, align: bool = False) -> Place | 
             return _of_line(read, number, place)
         if number in OF_COUNTS:
             diagnostic = Names(read).one_too_many("type" if number == 80 else "proto")
-            return diagnostic and _placed(read, sum(head <= diagnostic.line.number for head in read.heads) - 1, diagnostic)
+            return diagnostic and _placed(
+                read, sum(head <= diagnostic.line.number for head in read.heads) - 1, diagnostic
+            )
         one = read.class_at(place)
         if one is None:
             return None
@@ -213,7 +215,9 @@ def _values(one: Class) -> Iterator[Diagnostic]:
         for word in member.line.words[5:]:
             depth += (word.text == "{") - (word.text == "}")
             if depth > _DEEPEST:
-                yield Diagnostic(member.line, word, f"an array is in {_DEEPEST} others: a value is more than {_DEEPEST} deep")
+                yield Diagnostic(
+                    member.line, word, f"an array is in {_DEEPEST} others: a value is more than {_DEEPEST} deep"
+                )
                 break
 
 

@@ -57,7 +57,9 @@ class Names:
                 distinct.add(name)
                 if len(distinct) > _MOST:
                     what = f"{_MOST} {'types' if wanted == 'type' else 'prototypes'}"
-                    return Diagnostic(line, word, f"{short_name(name)} is one more than {what}: the program has to be split")
+                    return Diagnostic(
+                        line, word, f"{short_name(name)} is one more than {what}: the program has to be split"
+                    )
         return None
 
     def rank(self, wanted: str, name: Any) -> int:

@@ -171,7 +171,9 @@ def flag_words(bare: str) -> Iterator[tuple[int, str]]:
     if found:
         flags_value = sum({bits[word.text] for word in found})
         names = " ".join(word.text for word in found)
-        yield found[0].column - 1, f"flags are a number: {names} is 0x{flags_value:x} (docs/LISTING.md has a table of them)"
+        yield found[
+            0
+        ].column - 1, f"flags are a number: {names} is 0x{flags_value:x} (docs/LISTING.md has a table of them)"
 
 
 # Of each line with flags which of its words they are, and what those are in Java.
@@ -245,7 +247,9 @@ def _keyword(line: Line, first: Word, words: list[Word]) -> Diagnostic:
         return _with_value(line, key, words)
     if key == "static" and len(words) > 3 and _fits("FLAGS", words[2]):
         is_value = words[3].text in (*VALUES, "array", "null", "true", "false")
-        return Diagnostic(line, words[3], "`=` is missing before a value" if is_value else "behind flags stands `= VALUE` alone")
+        return Diagnostic(
+            line, words[3], "`=` is missing before a value" if is_value else "behind flags stands `= VALUE` alone"
+        )
     return _compared(line, first, words, [*KEYWORDS[key]])
 
 
@@ -286,7 +290,9 @@ def _value(line: Line, before: Word, words: list[Word]) -> Diagnostic:
         elif text == "array":
             opened = next(rest, None)
             if opened is None or opened.text != "{":
-                return Diagnostic(line, opened or word, "an array is `array { VALUE .. }`: braces are words of their own")
+                return Diagnostic(
+                    line, opened or word, "an array is `array { VALUE .. }`: braces are words of their own"
+                )
             before, depth = opened, depth + 1
         elif text in VALUES:
             operand = next(rest, None)
@@ -384,13 +390,17 @@ def _call(line: Line, first: Word, words: list[Word], wanted: list[str]) -> Diag
     usage = takes(first.text, wanted)
     if not words or words[0].text != "{":
         registers = " ".join(word.text for word in words if _fits("register", word))
-        return Diagnostic(line, (words or [first])[0], f"braces are missing: {first.text} {{ {registers or 'v0'} }} {wanted[1]}")
+        return Diagnostic(
+            line, (words or [first])[0], f"braces are missing: {first.text} {{ {registers or 'v0'} }} {wanted[1]}"
+        )
     end = next((at for at, word in enumerate(words) if word.text == "}"), None)
     if end is None:
         wrong = next((word for word in words[1:] if not _fits("register", word)), words[-1])
         return Diagnostic(line, wrong, f"a }} is missing before it: {usage}")
     if end - 1 > MOST_LISTED:
-        return Diagnostic(line, words[1 + MOST_LISTED], f"{end - 1} registers: {first.text}/range takes more than {MOST_LISTED}")
+        return Diagnostic(
+            line, words[1 + MOST_LISTED], f"{end - 1} registers: {first.text}/range takes more than {MOST_LISTED}"
+        )
     text = next((word for word in words[1:end] if word.text[:1] == '"'), None)
     if text is not None:
         return Diagnostic(line, text, "a register stands here, and no text")
@@ -404,7 +414,9 @@ def _payload(line: Line, first: Word, words: list[Word]) -> Diagnostic:
     if key == "array-payload":
         return _compared(line, first, words, ["WIDTH", "BYTES"])
     text = next((word for word in words if word.text[:1] == '"'), None)
-    usage = "packed-switch-payload takes FIRST :T .." if key == "packed-switch-payload" else f"{key} takes KEY :T KEY :T .."
+    usage = (
+        "packed-switch-payload takes FIRST :T .." if key == "packed-switch-payload" else f"{key} takes KEY :T KEY :T .."
+    )
     if text is not None:
         return Diagnostic(line, text, f"{usage}, and no text")
     return Diagnostic(line, (words or [first])[-1], f"{usage}: {counted(len(words))} here")
@@ -424,7 +436,9 @@ def _compared(line: Line, first: Word, words: list[Word], wanted: list[str]) -> 
     here = f"{usage}: {counted(len(words))} here"
     if len(words) < len(wanted):
         missing = wanted[min(at, len(wanted) - 1)]
-        return Diagnostic(line, words[at] if at < len(words) else (words or [first])[-1], f"{here}, and {missing} is missing")
+        return Diagnostic(
+            line, words[at] if at < len(words) else (words or [first])[-1], f"{here}, and {missing} is missing"
+        )
     if len(words) > len(wanted):
         return Diagnostic(line, words[min(at, len(wanted))], f"{here}, and this one is too many")
     return Diagnostic(line, words[at] if at < len(words) else first, f"{usage}, and these words aren't that")

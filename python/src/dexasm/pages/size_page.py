@@ -197,9 +197,7 @@ def page_of(template: str, title: str, **values: object) -> str:
     return str(page(template, title=title, style=read("pages.css"), script=read("pages.js"), **values))
 
 
-def html_page(
-    name: str, columns: Iterable[str], rows: dict[str, list[Any]], packages: dict[str, list[Any]]
-) -> str:
+def html_page(name: str, columns: Iterable[str], rows: dict[str, list[Any]], packages: dict[str, list[Any]]) -> str:
     total = sum(numbers[0] for numbers in rows.values())
     tables = ("Packages", sums(columns, packages)), ("Classes", sums(columns, rows))
     return page_of("size_one", name, total=total, picture=picture(tree_of(rows)), tables=tables)
