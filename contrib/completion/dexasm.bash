@@ -20,19 +20,19 @@ _dexasm_helper() {
   case $name in
     dexasm-apk) first='check list strip extract replace' options='--help --version --close --allow-empty --quiet --output' ;;
     dexasm-browse) first='' options='--help --version --output --graphs' ;;
-    dexasm-check) first='' options='--help --version --lint --explain --quiet --allow-empty --color --jobs --seconds --memory --json --program --sarif --github --junit' ;;
-    dexasm-close) first='' options='--help --version --output --in-place --check' ;;
-    dexasm-corpus) first='add refused same classes callers strings libraries merge sum' options='--help --version --processes --seconds --memory --again --strict --allow-empty --scheduler --trust --send --json --csv --csv-raw --pattern --classes --known --verify' ;;
-    dexasm-diff) first='' options='--help --version --names --json --color --textconv' ;;
+    dexasm-check) first='' options='--help --version --json --sarif --github --junit --program --lint --explain --quiet --allow-empty --color --jobs --seconds --memory' ;;
+    dexasm-close) first='' options='--help --version --output --in-place --quiet --check' ;;
+    dexasm-corpus) first='add merge sum refused same classes callers strings libraries' options='--help --version --processes --seconds --memory --scheduler --again --strict --allow-empty --send --trust --verify --json --csv --csv-raw --pattern --known --classes' ;;
+    dexasm-diff) first='' options='--help --version --names --color --textconv --json' ;;
     dexasm-explain) first='' options='--help --version --json' ;;
-    dexasm-graph) first='' options='--help --version --format --calls --from --to --depth' ;;
+    dexasm-graph) first='' options='--help --version --calls --from --to --depth --format' ;;
     dexasm-info) first='' options='--help --version --json --hex' ;;
-    dexasm-lint) first='' options='--help --version --code --skip-boot --jobs --seconds --allow-empty --json --sarif' ;;
-    dexasm-merge) first='' options='--help --version --same --fit --quiet --output --replace' ;;
-    dexasm-query) first='classes strings calls fields tables show uses outside find' options='--help --version --lines --addresses --kinds --strings --insns' ;;
-    dexasm-rename) first='' options='--help --version --quiet --output --mapping --forward' ;;
-    dexasm-size) first='' options='--help --version --by --sort --json --csv --csv-raw --html --count' ;;
-    dexasm-split) first='' options='--help --version --quiet --join' ;;
+    dexasm-lint) first='' options='--help --version --json --sarif --code --skip-boot --allow-empty --jobs --seconds' ;;
+    dexasm-merge) first='' options='--help --version --same --replace --fit --quiet --output' ;;
+    dexasm-query) first='classes strings calls fields outside tables show uses find' options='--help --version --addresses --kinds --lines --strings --insns' ;;
+    dexasm-rename) first='' options='--help --version --mapping --forward --quiet --output' ;;
+    dexasm-size) first='' options='--help --version --by --sort --html --count --json --csv --csv-raw' ;;
+    dexasm-split) first='' options='--help --version --join --quiet' ;;
   esac
   case $name/${COMP_WORDS[COMP_CWORD - 1]} in
     dexasm-browse/--graphs) words='all' ;;
@@ -40,7 +40,7 @@ _dexasm_helper() {
     dexasm-diff/--color) words='auto always never' ;;
     dexasm-graph/--format) words='dot svg json' ;;
     dexasm-size/--by) words='package class method string' ;;
-    dexasm-size/--sort) words='total code strings tables values debug unused strip name' ;;
+    dexasm-size/--sort) words='total code strings tables values debug unused strip methods defined fields types name' ;;
     *) if [[ $word == -* ]]; then words=$options; elif ((COMP_CWORD == 1)); then words=$first; fi ;;
   esac
   if [ -n "$words" ]; then

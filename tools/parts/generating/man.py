@@ -1,13 +1,19 @@
 """The manual pages and the completions of shells: docs/man/dexasm.1 from the words of the help,
 crates/dexasm_plan/src/texts.rt, and the tables of faults of docs/FORMAT.md and docs/LISTING.md; docs/man/dexasm-listing.5
 from docs/LISTING.md; a page of each helper of python/ from its docstring, which is its help; contrib/completion/
-from the help too; the files of python/bin. And whether the tables name each fault as the code does.
+from the help of the command and the parsers of the helpers; the files of python/bin. And whether the tables name each fault as the code does.
 """
+import argparse
 import ast
+import contextlib
+import functools
+import importlib
 import json
 import re
+import sys
 import textwrap
 from collections.abc import Container
+from typing import NoReturn
 
 from .. import helpers as programs, sought
 from .making import Made, Missing, Program
@@ -280,19 +286,47 @@ def helper_rows(part: str) -> list[str]:
     return out + [".PP"]
 
 
-def helper_words(doc: str) -> tuple[list[str], dict[str, list[str]]]:
+@functools.cache
+def helper_words(name: str) -> tuple[list[str], dict[str, list[str]]]:
     """What a helper's first word can be, and its options: each with the words that may follow, FILE for any file, or nothing."""
-    uses = " ".join(uses_of(doc))
-    second = [word for use in uses_of(doc) for word in re.sub(r"\[[^]]*\]", "", use).split()[1:2]]
-    first = dict.fromkeys(word for words in second for word in words.split("|") if re.fullmatch("[a-z]+", word))
-    columns = re.findall(r"^  ([a-z]+) ", doc, re.M) + ["name"]
+    first: list[str] = []
     options: dict[str, list[str]] = {"--help": [], "--version": []}
-    for option, follows in re.findall(r"(--[a-z]+(?:-[a-z]+)*)(?: ([A-Za-z|]+))?", uses):
-        words = columns if follows == "COLUMN" else ["FILE"] if follows in ("OUT", "FOLDER") else []
-        if "|" in follows:
-            words = [word for word in follows.split("|") if word.islower()]  # (METHOD is any word)
-        options.setdefault(option, words)
-    return [*first], options
+    for action in declared(name):
+        words = [*map(str, action.choices or ())] or ["FILE"] * (action.metavar in ("OUT", "FOLDER"))
+        words = words or [word for word in str(action.metavar).split("|") if word.islower()]  # (METHOD is any word)
+        if not action.option_strings and action.choices and not first:
+            first = words
+        options |= {option: words for option in action.option_strings if option.startswith("--")}
+    return first, options
+
+
+def declared(name: str) -> list[argparse.Action]:
+    """The words that a helper declares, those of its jobs too."""
+    if "python/src" not in sys.path:
+        sys.path.insert(0, "python/src")
+    from dexasm.cli import main
+
+    class Declared(Exception):
+        pass
+
+    class Recorder(main.Parser):
+        def parse_args(self, *_: object) -> NoReturn:  # type: ignore[override]
+            raise Declared
+
+        parse_intermixed_args = parse_args  # type: ignore[assignment]
+
+    module = importlib.import_module(programs()[name].removeprefix("python/src/").removesuffix(".py").replace("/", "."))
+    parser = Recorder(module)
+    with contextlib.suppress(Declared):
+        main.declarations[module.__name__](parser)
+    jobs = [job for action in parser._actions if isinstance(action.choices, dict) for job in action.choices.values()]
+    found = [action for one in (parser, *jobs) for action in one._actions]
+    doc = helpers()[name]
+    words = {option for action in found for option in action.option_strings if option.startswith("--")}
+    told = set(re.findall(r"(?<![\w-])--[a-z]+(?:-[a-z]+)*", " ".join(uses_of(doc))))
+    if lost := sorted(told - words) + sorted(word for word in words - told - {"--help", "--version"} if word not in doc):
+        raise Missing(f"{name}: its manual and its parser differ in {', '.join(lost)}")
+    return found
 
 
 def options_of(job: str, said: dict[str, str]) -> list[tuple[str, str, bool]]:
@@ -305,8 +339,8 @@ def bash(said: dict[str, str]) -> str:
     """Words for bash."""
     cases = [f"    {job}) words='{' '.join(option for option, _, _ in options_of(job, said))}' ;;" for job in JOBS]
     own, follow = [], []
-    for name, doc in helpers().items():
-        first, options = helper_words(doc)
+    for name in helpers():
+        first, options = helper_words(name)
         own.append(f"    {name}) first='{' '.join(first)}' options='{' '.join(options)}' ;;")
         follow += [f"    {name}/{option}) words='{' '.join(words)}' ;;" for option, words in options.items() if words and words != ["FILE"]]
     return "\n".join([
@@ -353,8 +387,8 @@ def zsh(said: dict[str, str]) -> str:
     out = [f"#compdef dexasm {' '.join(helpers())}"]
     out += ["# Completion of dexasm and its helpers for zsh, written by tools/generate: put it into a folder of $fpath.", "_dexasm() {"]
     out += ["  case ${words[1]:t} in"]
-    for name, doc in helpers().items():
-        first, options = helper_words(doc)
+    for name in helpers():
+        first, options = helper_words(name)
         rules = ["'" + option + rule(words) + "'" for option, words in options.items()]
         rules += [f"'1:what:({' '.join(first)})'"] if first else []
         out.append(f"    {name}) _arguments {' '.join(rules)} '*:file:_files'; return ;;")
@@ -389,8 +423,8 @@ def fish(said: dict[str, str]) -> str:
         for option, text, is_file in options_of(job, said)[:-1]:
             takes = "-r -F -s o" if is_file else "-f"
             out += [f"complete -c dexasm -n '__fish_seen_subcommand_from {job}' {takes} -l {option[2:]} -d '{quoted(text)}'"]
-    for name, doc in helpers().items():
-        first, options = helper_words(doc)
+    for name in helpers():
+        first, options = helper_words(name)
         out += [f"complete -c {name} -n __fish_use_subcommand -a '{' '.join(first)}'"] if first else []
         for option, words in options.items():
             takes = " -r -F" if words == ["FILE"] else f" -x -a '{' '.join(words)}'" if words else ""

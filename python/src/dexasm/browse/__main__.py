@@ -34,8 +34,8 @@ if TYPE_CHECKING:
 @command()
 def main(parser: Parser) -> int:
     parser.add_argument("file")
-    parser.add_argument("--output", required=True)
-    parser.add_argument("--graphs")
+    parser.add_argument("--output", metavar="FOLDER", required=True)
+    parser.add_argument("--graphs", metavar="METHOD|all")
     args = parser.parse_args()
     from dexasm.browse.build import Browse
     from dexasm.browse.folder import Folder

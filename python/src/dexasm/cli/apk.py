@@ -110,7 +110,7 @@ def main(parser: Parser) -> int:
     parser.add_argument("--close", action="store_true")
     parser.add_argument("--allow-empty", action="store_true")
     parser.add_argument("--quiet", "-q", action="store_true")
-    parser.add_argument("--output", "-o")
+    parser.add_argument("--output", "-o", metavar="OUT")
     parser.add_argument("job", choices=("check", "list", "strip", "extract", "replace"))
     parser.add_argument("archive")
     parser.add_argument("rest", nargs="*")

@@ -24,6 +24,8 @@ if TYPE_CHECKING:
 
 # (what only some helpers call is imported where it is: that takes longer than most of what they do)
 UNITS = {"K": 1 << 10, "M": 1 << 20, "G": 1 << 30}
+# By module what declares the words of a helper and runs it: tools/generate makes completions of the former.
+declarations: dict[str, Callable[[Parser], int]] = {}
 
 
 class UsageError(CliError):
@@ -118,6 +120,8 @@ def command(trouble: int | None = None, unread: int = 0) -> Callable[[Callable[[
     """
 
     def decorate(does: Callable[[Parser], int]) -> Callable[[], NoReturn]:
+        declarations[does.__module__] = does
+
         def main() -> NoReturn:
             run(does, trouble, unread)
 

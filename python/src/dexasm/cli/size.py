@@ -218,7 +218,7 @@ def check_args(parser: Parser, args: Namespace) -> None:
 def main(parser: Parser) -> int:
     parser.add_argument("--by", choices=BY, default=BY[0])
     parser.add_argument("--sort", choices=[*dict.fromkeys((*COLUMNS, *COUNTED, "name"))], default=COLUMNS[0])
-    parser.add_argument("--html")
+    parser.add_argument("--html", metavar="OUT")
     parser.add_argument("--count", action="store_true")
     add_forms(parser)
     parser.add_argument("files", nargs="+")
