@@ -8,7 +8,6 @@ import argparse
 import functools
 import gc
 import os
-import re
 import sys
 from collections.abc import Callable
 
@@ -56,7 +55,7 @@ class Parser(argparse.ArgumentParser):
 
     def __init__(self, program: ModuleType) -> None:
         self.program, self.doc = program, docstring(program).strip() + "\n"
-        self.usage_text = "\n".join(re.findall(r"^usage: .*(?:\n +.*)*", self.doc, re.M)[0].splitlines())
+        self.usage_text = self.doc.split("\n\n")[1]
         # (whose width is looked for otherwise, which takes a while, for a help that isn't printed)
         formatter = functools.partial(argparse.HelpFormatter, width=80)
         named: dict[str, Any] = {"prog": self.usage_text.split()[1], "usage": "%(prog)s"}
