@@ -41,7 +41,7 @@ from dexasm import (
     code,
     formats,
 )
-from tests import TOP, sought, config
+from tests import TOP, config
 from . import edits
 from .edits import is_accepted, made_files
 from .bad_values import EVIL, MEMBERS, MNEMONICS, WRONG
