@@ -2,7 +2,7 @@
 
 use crate::calls::output_of;
 use dex_base::Fault;
-use dexasm_job::Job;
+use dexasm_world::Job;
 use std::alloc::Global;
 use std::io;
 

@@ -6,7 +6,7 @@ use Rattle.program_types.specs.Formed.{IsFormed}
 use Rattle.code_align.proofs.PadLaws.{aligned-one}
 use Rattle.code_align.specs.Programs.{Pairwise, AlignedBody, AlignedMethod, AlignedClass, AlignedProgram, IsShort, IsTooLong}
 use Rattle.code_align.proofs.WellLaws.{codes_turned, program_formed}
-use Rattle.program_code_rules.proofs.OperandLaws.{formed_operands}
+use Rattle.code_rules.proofs.OperandLaws.{formed_operands}
 use Rattle.program_rules.specs.Rules.{CodesHold}
 use Rattle.program_rules.specs.WellFormed.{WellFormed}
 use Rattle.dex_base.proofs.ListFacts.{all_weaker}

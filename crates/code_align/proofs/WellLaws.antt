@@ -6,8 +6,8 @@ use Rattle.code_align.specs.Programs.{Pairwise, AlignedMethod, AlignedClass, Ali
 use Rattle.code_align.proofs.NameLaws.{class_names}
 use Rattle.code_align.proofs.PairLaws.{paired_maps, paired_all, partner_of}
 use Rattle.dex_base.specs.Descriptor.{IsClass}
-use Rattle.program_code_rules.proofs.OperandLaws.{formed_operands}
-use Rattle.program_code_rules.specs.CodeRules.{OperandsHold, TargetsHold, PayloadsHold, TriesHold}
+use Rattle.code_rules.proofs.OperandLaws.{formed_operands}
+use Rattle.code_rules.specs.CodeRules.{OperandsHold, TargetsHold, PayloadsHold, TriesHold}
 use Rattle.program_types.specs.Content.{Descriptor, Code, Method, Class, Program}
 use Rattle.program_types.specs.Depth.{depth, most_depth}
 use Rattle.program_types.specs.Formed.{IsFormed, RegistersHold}

@@ -10,7 +10,7 @@ ghost use Rattle.code_align.specs.Aligned.{moved};
 ghost use Rattle.code_align.specs.Aligning.{too_many};
 ghost use Rattle.code_align.specs.inner.Aligning.{is_odd, pads_from, AreMovedNumbers};
 
-use code_put::units_of;
+use code_write::units_of;
 use dex_base::{Fault, fault};
 use program_types::Insn;
 use std::alloc::{AllocError, Global};

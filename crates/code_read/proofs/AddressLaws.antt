@@ -8,7 +8,7 @@ use Rattle.dex_insn.specs.Raw.{Raw}
 use Rattle.program_types.specs.Content.{Name, Insn}
 use Rattle.program_types.specs.Content as made
 use Rattle.program_types.specs.Formed.{IsSwitch, insn_at, insn_payload, insn_leads, RefersToPayload, PayloadHolds}
-use Rattle.program_code_rules.specs.Branches.{IsOrigin}
+use Rattle.code_rules.specs.Branches.{IsOrigin}
 use Rattle.code_read.specs.Places.{Rises, target_at}
 use Rattle.code_read.specs.Walk.{Walks, starts, raw_at, address}
 use Rattle.code_read.specs.Symbols.{linked, name_in, ints}

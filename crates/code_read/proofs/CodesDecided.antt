@@ -25,7 +25,7 @@ use Rattle.code_read.specs.Item.{insns_size, tries_of, registers_of, ins_of, out
 use Rattle.code_read.specs.Code.{SpellsBody, BodyStands, CodeStands}
 use Rattle.code_read.specs.Faults.{ItemBreaks, CodeBreaks, RegistersBreak, CodeOverruns}
 use Rattle.program_types.specs.Formed.{RegistersHold, insn_at, insn_registers}
-use Rattle.program_code_rules.specs.First.{AllHold}
+use Rattle.code_rules.specs.First.{AllHold}
 use Rattle.code_read.specs.Registers.{AmongAt, IsPast}
 use Rattle.code_read.proofs.StandLaws.{body_code, NameIsAt-functional}
 use Rattle.code_read.proofs.FaultLaws.{units-even}

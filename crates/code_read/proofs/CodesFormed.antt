@@ -35,7 +35,7 @@ use Rattle.code_read.proofs.ItemLaws.{begins_late}
 use Rattle.code_read.proofs.NamesHaveRows.{at-offset}
 use Rattle.code_read.proofs.SaidLaws.{raw-bytes, operand-said}
 use Rattle.dex_base.proofs.ListFacts.{take_bytes, all_weaker}
-use Rattle.program_code_rules.proofs.OperandLaws.{alike_itself}
+use Rattle.code_rules.proofs.OperandLaws.{alike_itself}
 
 -- ---- instructions
 

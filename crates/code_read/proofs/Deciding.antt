@@ -10,8 +10,8 @@ use Rattle.dex_base.proofs.FirstFaultLaws.{broken_clear, broken_decided}
 use Rattle.dex_base.proofs.Deciding.{decide_like, decide_both, decide_le, decide_by, DecidedEach, decide_each, decide_sequence}
 use Rattle.dex_base.proofs.TakesLaws.{Takes-then, Then-takes, Takes-unique, Takes-none, NoneBegins-from_takes}
 use Rattle.dex_base.proofs.ViaLaws.{via-takes, via-none, via-nothing}
-use Rattle.program_code_rules.specs.First.{AllHold}
-use Rattle.program_code_rules.specs.inner.First.{IsFirstBroken}
+use Rattle.code_rules.specs.First.{AllHold}
+use Rattle.code_rules.specs.inner.First.{IsFirstBroken}
 
 -- ---- numbers below a bound
 

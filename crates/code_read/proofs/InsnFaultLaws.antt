@@ -5,9 +5,9 @@ use Rattle.dex_base.proofs.FirstFaultLaws.{else_clear, later_clear, first_clear,
 use Rattle.dex_insn.specs.Raw.{Raw}
 use Rattle.program_types.specs.Content.{Name, Insn}
 use Rattle.program_types.specs.Formed.{PayloadHolds}
-use Rattle.program_code_rules.specs.First.{AllHold}
-use Rattle.program_code_rules.specs.inner.First.{IsFirstBroken}
-use Rattle.program_code_rules.specs.Branches.{BranchLands, BranchHolds, SwitchLands}
+use Rattle.code_rules.specs.First.{AllHold}
+use Rattle.code_rules.specs.inner.First.{IsFirstBroken}
+use Rattle.code_rules.specs.Branches.{BranchLands, BranchHolds, SwitchLands}
 use Rattle.code_read.specs.Walk.{raw_at, starts}
 use Rattle.code_read.specs.inner.Symbols.{IsFunctional}
 use Rattle.code_read.specs.Linked.{NameHolds, AreLinked, KeepRules, SpellsInsns}

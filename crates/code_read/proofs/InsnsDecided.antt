@@ -11,8 +11,8 @@ use Rattle.dex_insn.specs.Raw.{Raw}
 use Rattle.program_types.specs.Content.{Name, OfText, Insn}
 use Rattle.program_types.specs.Content as made
 use Rattle.program_types.specs.Formed.{insn_at, insn_payload, RefersToPayload, PayloadHolds}
-use Rattle.program_code_rules.specs.First.{AllHold}
-use Rattle.program_code_rules.specs.Branches.{BranchHolds, SwitchLands, IsOrigin}
+use Rattle.code_rules.specs.First.{AllHold}
+use Rattle.code_rules.specs.Branches.{BranchHolds, SwitchLands, IsOrigin}
 use Rattle.code_read.specs.Walk.{Walks, starts, raw_at, address}
 use Rattle.code_read.specs.Symbols.{linked, Says, InsnHasName}
 use Rattle.code_read.specs.Linked.{lead, NameHolds, AreLinked, KeepRules, SpellsInsns}

@@ -9,7 +9,7 @@ use Rattle.program_types.specs.Content as made
 use Rattle.program_types.specs.Formed.{insn_at, insn_payload, insn_wants, insn_reach}
 use Rattle.dex_insn.specs.declared.opcode.IndexKind.{IndexKind}
 use Rattle.program_types.specs.Operands.{IsOfIndexKind}
-use Rattle.program_code_rules.specs.Branches.{IsOrigin}
+use Rattle.code_rules.specs.Branches.{IsOrigin}
 use Rattle.tables_rows.specs.Names.{Names, NameIsAt}
 use Rattle.code_read.specs.Walk.{Walks, starts, raw_at, address}
 use Rattle.code_read.specs.Symbols.{linked, Says, IndexStandsFor, name_in}

@@ -11,8 +11,8 @@ use Rattle.program_types.specs.Content as made
 use Rattle.program_types.specs.Formed.{AreAlike, IsSwitch, insn_at, insn_payload, insn_wants, insn_reach, insn_registers, RefersToPayload}
 use Rattle.program_types.specs.Sizes.{insn_units, addresses_of, starts_from}
 use Rattle.program_types.specs.declared.payload.Payload.{Payload}
-use Rattle.program_code_rules.specs.Branches.{IsOrigin}
-use Rattle.program_code_rules.specs.inner.Branches.{AreOrigins}
+use Rattle.code_rules.specs.Branches.{IsOrigin}
+use Rattle.code_rules.specs.inner.Branches.{AreOrigins}
 use Rattle.code_read.specs.Walk.{starts, raw_at, address}
 use Rattle.code_read.specs.Symbols.{linked, ints, ints_from, name_in, Says, InsnNames, InsnHasName}
 use Rattle.code_read.specs.Linked.{lead, payload_of, AreLinked}

@@ -12,8 +12,8 @@ use Rattle.dex_insn.specs.Raw as raw
 use Rattle.dex_insn.specs.Raw.{Raw, units}
 use Rattle.program_types.specs.Content.{Name, Insn}
 use Rattle.program_types.specs.Formed.{AreAmong, insn_at, insn_branch, insn_short_branch}
-use Rattle.program_code_rules.specs.inner.Branches.{BranchStays}
-use Rattle.program_code_rules.specs.First.{AllHold}
+use Rattle.code_rules.specs.inner.Branches.{BranchStays}
+use Rattle.code_rules.specs.First.{AllHold}
 use Rattle.code_read.specs.Walk.{Run, raw_at, address, starts}
 use Rattle.code_read.specs.inner.Walk.{IsTable}
 use Rattle.code_read.specs.Places.{target_at}

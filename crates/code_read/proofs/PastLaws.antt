@@ -4,7 +4,7 @@ use Rattle.std.specs.Prelude.{IfSome, IfNone, ◌⊎◌}
 use Rattle.dex_base.specs.declared.fault.Fault.{Fault}
 use Rattle.program_types.specs.Content.{Code}
 use Rattle.program_types.specs.Formed.{RegistersHold}
-use Rattle.program_code_rules.specs.First.{AllHold}
+use Rattle.code_rules.specs.First.{AllHold}
 use Rattle.code_read.specs.Registers.{AmongAt, IsPast}
 use Rattle.code_read.specs.Faults.{RegistersBreak}
 

@@ -11,8 +11,8 @@ use Rattle.program_types.specs.Content as content
 use Rattle.program_types.specs.Content.{Name, Insn}
 use Rattle.program_types.specs.Formed.{AreAlike, IsSwitch, insn_at, insn_payload, insn_wants, insn_branch, insn_targets, IsTarget}
 use Rattle.program_types.specs.declared.payload.Payload.{Payload}
-use Rattle.program_code_rules.specs.inner.Branches.{BranchStays}
-use Rattle.program_code_rules.specs.First.{AllHold}
+use Rattle.code_rules.specs.inner.Branches.{BranchStays}
+use Rattle.code_rules.specs.First.{AllHold}
 use Rattle.code_read.specs.Walk.{Run, raw_at, address, starts}
 use Rattle.code_read.specs.Symbols.{linked, Says}
 use Rattle.code_read.specs.Linked.{lead, AreLinked, KeepRules}

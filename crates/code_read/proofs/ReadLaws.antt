@@ -8,7 +8,7 @@ use Rattle.dex_insn.specs.declared.raw.RawInsn.{RawInsn}
 use Rattle.dex_insn.specs.declared.raw.RawInsn.TheVariants as held
 use Rattle.program_types.specs.Content.{Name, Insn}
 use Rattle.program_types.specs.Formed.{insn_at, insn_payload}
-use Rattle.program_code_rules.specs.inner.Branches.{AreOrigins}
+use Rattle.code_rules.specs.inner.Branches.{AreOrigins}
 use Rattle.code_read.specs.Walk.{starts, raw_at}
 use Rattle.code_read.specs.inner.Walk.{IsTable}
 use Rattle.code_read.specs.Symbols.{Says}

@@ -8,12 +8,12 @@ use Rattle.dex_insn.specs.Opcodes.{index_kind_of}
 use Rattle.dex_insn.specs.declared.opcode.IndexKind.{IndexKind}
 use Rattle.program_types.specs.Content.{Name, Insn}
 use Rattle.program_types.specs.Formed.{AreAlike, IsSwitch, insn_at, insn_payload, insn_wants, insn_reach, insn_branch, insn_short_branch, insn_targets, IsTarget, RefersToPayload, PayloadHolds}
-use Rattle.program_code_rules.specs.Branches.{BranchLands, BranchMoves, SwitchLands}
+use Rattle.code_rules.specs.Branches.{BranchLands, BranchMoves, SwitchLands}
 use Rattle.program_types.specs.Kinds.{IsOfKind}
 use Rattle.program_types.specs.Operands.{IsOfIndexKind}
 use Rattle.program_types.specs.declared.payload.Payload.{Payload}
 use Rattle.program_types.specs.declared.payload.Payload.TheVariants as payload
-use Rattle.program_code_rules.specs.First.{AllHold}
+use Rattle.code_rules.specs.First.{AllHold}
 use Rattle.code_read.specs.Symbols.{SomeName, InsnHasName}
 use Rattle.code_read.proofs.Deciding.{decide-all-below, decide-implied, decide-if-some}
 

@@ -7,7 +7,7 @@ use Rattle.dex_base.specs.declared.fault.Fault.{Fault}
 use Rattle.dex_base.proofs.Deciding.{decide_like, decide_both, decide_lt, decide_le}
 use Rattle.program_types.specs.Content.{Name, Try}
 use Rattle.code_read.specs.Places.{position, count_below}
-use Rattle.program_code_rules.specs.First.{AllHold}
+use Rattle.code_rules.specs.First.{AllHold}
 use Rattle.code_read.specs.inner.Symbols.{IsFunctional}
 use Rattle.code_read.specs.Item.{try_start, try_count, try_handler}
 use Rattle.code_read.specs.Handlers.{Handler, handler_at}

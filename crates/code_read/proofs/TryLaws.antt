@@ -6,7 +6,7 @@ use Rattle.dex_base.specs.Grammar.{NoneBegins}
 use Rattle.program_types.specs.Content.{Name, Try}
 use Rattle.code_read.specs.inner.Symbols.{IsFunctional}
 use Rattle.code_read.specs.Places.{position}
-use Rattle.program_code_rules.specs.First.{AllHold}
+use Rattle.code_rules.specs.First.{AllHold}
 use Rattle.code_read.specs.Item.{try_handler}
 use Rattle.code_read.specs.Handlers.{Handler, SpellsList, handler_at}
 use Rattle.code_read.specs.Tries.{TryHolds, handler_of}

@@ -6,7 +6,7 @@ use Rattle.dex_base.specs.declared.fault.Fault.{Fault}
 use Rattle.dex_insn.specs.Raw.{Raw}
 use Rattle.program_types.specs.Content.{Name, Insn}
 use Rattle.program_types.specs.Formed.{PayloadHolds}
-use Rattle.program_code_rules.specs.Branches.{BranchLands, BranchMoves, BranchHolds, SwitchLands}
+use Rattle.code_rules.specs.Branches.{BranchLands, BranchMoves, BranchHolds, SwitchLands}
 use Rattle.code_read.specs.Walk.{Walks, IsWalkFault, starts}
 use Rattle.code_read.specs.Linked.{NameHolds, AreLinked}
 

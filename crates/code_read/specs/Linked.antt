@@ -9,8 +9,8 @@ use Rattle.program_types.specs.Content.{Name, Insn}
 use Rattle.program_types.specs.Formed.{insn_at, TargetHolds, PayloadHolds}
 use Rattle.program_types.specs.declared.payload.Payload.{Payload}
 use Rattle.program_types.specs.declared.payload.Payload.TheVariants as payload
-use Rattle.program_code_rules.specs.First.{AllHold}
-use Rattle.program_code_rules.specs.Branches.{IsOrigin}
+use Rattle.code_rules.specs.First.{AllHold}
+use Rattle.code_rules.specs.Branches.{IsOrigin}
 use Rattle.code_read.specs.Places.{target_at}
 use Rattle.code_read.specs.Walk.{Walks, starts, raw_at, address}
 use Rattle.code_read.specs.Symbols.{Says, InsnHasName}

@@ -4,7 +4,7 @@ use Rattle.std.specs.Prelude.{ℕ, ◌≡◌, ◌+◌, ◌<◌, ◌≤◌, List,
 use Rattle.program_types.specs.Content.{Name, Try}
 use Rattle.program_types.specs.Formed.{try_at}
 use Rattle.code_read.specs.Places.{position, count_below}
-use Rattle.program_code_rules.specs.First.{AllHold}
+use Rattle.code_rules.specs.First.{AllHold}
 use Rattle.code_read.specs.Item.{try_start, try_count, try_handler}
 use Rattle.code_read.specs.Handlers.{Handler, SpellsHandlers, handler_at}
 

@@ -4,8 +4,8 @@ ghost use Rattle.std.specs.Prelude.{◌≡◌, ◌≢◌, ◌^◌, ◌<◌, ◌�
 ghost use Rattle.dex_base.specs.Fault.{memory};
 ghost use Rattle.program_types.specs.Sizes.{addresses_of};
 ghost use Rattle.program_types.specs.View.{insn};
-ghost use Rattle.program_code_rules.specs.inner.Branches.{AreOrigins};
-ghost use Rattle.program_code_rules.specs.First.{AllHold};
+ghost use Rattle.code_rules.specs.inner.Branches.{AreOrigins};
+ghost use Rattle.code_rules.specs.First.{AllHold};
 ghost use Rattle.tables_rows.specs.Names.{NameIsAt};
 ghost use Rattle.dex_insn.specs.Raw.{raw};
 ghost use Rattle.code_read.specs.Walk.{raw_at};
@@ -23,11 +23,11 @@ use crate::targets::{empty_payload, is_payload, link_payload};
 use crate::walking::walk;
 use bumpalo::Bump;
 use bumpalo::collections::into_bump_slice;
-use dex_base::{Fault, fault};
-use dex_insn::RawInsn;
-use program_code_rules::{
+use code_rules::{
     branch_lands, first_bad_branch, first_bad_switch, first_bad_use, first_past, origins_of,
 };
+use dex_base::{Fault, fault};
+use dex_insn::RawInsn;
 use program_types::Insn;
 use std::alloc::{AllocError, Global};
 use tables_rows::Tables;

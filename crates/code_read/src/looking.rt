@@ -14,8 +14,8 @@ use crate::places::unit_at;
 use crate::plain::is_plain;
 use crate::symbols::link;
 use bumpalo::Bump;
+use code_rules::insn_is_among;
 use dex_insn::{RawInsn, Take, size_of, take_insn};
-use program_code_rules::insn_is_among;
 use std::alloc::AllocError;
 use tables_rows::Tables;
 

@@ -7,7 +7,7 @@ ghost use Rattle.program_types.specs.View.{try};
 ghost use Rattle.tables_rows.specs.Names.{NameIsAt};
 ghost use Rattle.code_read.specs.Places.{Rises, position};
 ghost use Rattle.dex_base.specs.FirstFault.{FirstBroken};
-ghost use Rattle.program_code_rules.specs.First.{AllHold};
+ghost use Rattle.code_rules.specs.First.{AllHold};
 ghost use Rattle.code_read.specs.Tries.{TryHolds};
 ghost use Rattle.code_read.specs.Item.{try_start, try_count, try_handler};
 ghost use Rattle.code_read.specs.Handlers.{SpellsList};

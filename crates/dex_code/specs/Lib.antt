@@ -21,8 +21,8 @@ pub use Rattle.program_types.specs.Mentions
 pub use Rattle.program_types.specs.Operands
 pub use Rattle.program_types.specs.Sizes
 pub use Rattle.program_types.specs.View
-pub use Rattle.program_code_rules.specs.Branches
-pub use Rattle.program_code_rules.specs.First
+pub use Rattle.code_rules.specs.Branches
+pub use Rattle.code_rules.specs.First
 pub use Rattle.tables_names.specs.Closure
 pub use Rattle.tables_names.specs.Rank
 pub use Rattle.tables_rows.specs.Names
@@ -37,7 +37,7 @@ pub use Rattle.code_read.specs.Registers
 pub use Rattle.code_read.specs.Symbols
 pub use Rattle.code_read.specs.Tries
 pub use Rattle.code_read.specs.Walk
-pub use Rattle.code_put.specs.Fits
-pub use Rattle.code_put.specs.Packs
+pub use Rattle.code_write.specs.Fits
+pub use Rattle.code_write.specs.Packs
 pub use Rattle.code_align.specs.Aligned
 pub use Rattle.code_align.specs.Aligning

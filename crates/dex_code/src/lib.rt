@@ -10,11 +10,11 @@
 //!
 //! The law `packed_is_spelled` says that what `put_code` appends is a code item of that code, which `read_code` reads back.
 //!
-//! Its parts: `code_read`, `code_put` (written, and whether a code fits), `code_align`.
+//! Its parts: `code_read`, `code_write` (written, and whether a code fits), `code_align`.
 //!
 //! docs/MAP.md says where this crate stands among the others.
 #![tactic(auto)]
 
 pub use code_align::align;
-pub use code_put::{addresses, fits, packed_is_spelled, put_code};
 pub use code_read::read_code;
+pub use code_write::{addresses, fits, packed_is_spelled, put_code};

@@ -29,9 +29,9 @@ pub use Rattle.program_types.specs.Operands
 pub use Rattle.program_types.specs.Shorty
 pub use Rattle.program_types.specs.Sizes
 pub use Rattle.program_types.specs.View
-pub use Rattle.program_code_rules.specs.Branches
-pub use Rattle.program_code_rules.specs.CodeRules
-pub use Rattle.program_code_rules.specs.First
+pub use Rattle.code_rules.specs.Branches
+pub use Rattle.code_rules.specs.CodeRules
+pub use Rattle.code_rules.specs.First
 pub use Rattle.program_rules.specs.Ranges
 pub use Rattle.program_rules.specs.Rules
 pub use Rattle.program_rules.specs.Valid
@@ -60,8 +60,8 @@ pub use Rattle.code_read.specs.Registers
 pub use Rattle.code_read.specs.Symbols
 pub use Rattle.code_read.specs.Tries
 pub use Rattle.code_read.specs.Walk
-pub use Rattle.code_put.specs.Fits
-pub use Rattle.code_put.specs.Packs
+pub use Rattle.code_write.specs.Fits
+pub use Rattle.code_write.specs.Packs
 pub use Rattle.code_align.specs.Aligned
 pub use Rattle.code_align.specs.Aligning
 pub use Rattle.code_align.specs.Programs
@@ -74,7 +74,7 @@ pub use Rattle.file_layout.specs.Sections
 pub use Rattle.file_layout.specs.Tiles
 pub use Rattle.file_limits.specs.Limits
 pub use Rattle.file_limits.specs.Wide as FileLimitsWide
-pub use Rattle.file_assemble.specs.Data
+pub use Rattle.file_put.specs.Data
 pub use Rattle.file_read.specs.Groups
 pub use Rattle.file_read.specs.Means
 pub use Rattle.file_read.specs.Refused

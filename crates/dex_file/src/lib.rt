@@ -8,7 +8,7 @@
 //! let packed = write(alloc, &program)?; // read gives the same program again
 //! ```
 //!
-//! Its rooms: `file_classes` and `file_read` (read), `file_needed`, `file_layout`, `file_limits` and `file_assemble` (written),
+//! Its rooms: `file_classes` and `file_read` (read), `file_needed`, `file_layout`, `file_limits` and `file_put` (written),
 //! `file_renumber` and `file_strip` (stripped), `file_write` (both, with their theorems), `code_align`.
 //!
 //! Its theorems are laws, functions without code that a proof calls: `written_is_read`, `one_file`, `one_program`. The definitions that

@@ -14,7 +14,7 @@ pub use Rattle.program_types.specs.Mentions
 pub use Rattle.program_types.specs.Operands as ProgramTypesOperands
 pub use Rattle.program_types.specs.View
 pub use Rattle.program_types.specs.Written as ProgramTypesWritten
-pub use Rattle.program_code_rules.specs.CodeRules
+pub use Rattle.code_rules.specs.CodeRules
 pub use Rattle.program_rules.specs.Ranges
 pub use Rattle.program_rules.specs.Rules
 pub use Rattle.program_rules.specs.Valid
@@ -31,11 +31,11 @@ pub use Rattle.listing_slots.specs.Shapes
 pub use Rattle.listing_slots.specs.Shown
 pub use Rattle.listing_slots.specs.Slots
 pub use Rattle.listing_lines.specs.Forms as ListingLinesForms
-pub use Rattle.listing_lines.specs.Lines as ListingLinesLines
+pub use Rattle.listing_lines.specs.Labels
+pub use Rattle.listing_lines.specs.Lines
 pub use Rattle.listing_lines.specs.Needs
 pub use Rattle.listing_lines.specs.Places
-pub use Rattle.listing_labels.specs.Labels
-pub use Rattle.listing_labels.specs.Lines as ListingLabelsLines
+pub use Rattle.listing_lines.specs.Splitting
 pub use Rattle.listing_parse.specs.Classes
 pub use Rattle.listing_parse.specs.Codes
 pub use Rattle.listing_parse.specs.Forms as ListingParseForms

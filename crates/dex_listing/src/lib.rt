@@ -8,7 +8,7 @@
 //! let text = print(alloc, &program)?; // parse gives the same program again
 //! ```
 //!
-//! Its rooms: `listing_words`, `listing_slots`, `listing_lines` and `listing_labels` (a line), `listing_parse` (read), `listing_print`
+//! Its rooms: `listing_words`, `listing_slots`, and `listing_lines` (a line), `listing_parse` (read), `listing_print`
 //! (printed), `listing_laws` (what is printed is read again).
 //!
 //! docs/MAP.md says where this crate stands among the others.

@@ -16,7 +16,7 @@ pub use Rattle.program_types.specs.Operands
 pub use Rattle.program_types.specs.Shorty
 pub use Rattle.program_types.specs.View
 pub use Rattle.program_types.specs.Written as ProgramTypesWritten
-pub use Rattle.program_code_rules.specs.CodeRules
+pub use Rattle.code_rules.specs.CodeRules
 pub use Rattle.program_rules.specs.Ranges
 pub use Rattle.program_rules.specs.Rules
 pub use Rattle.program_rules.specs.Valid

@@ -8,7 +8,7 @@
 //! well_formed(&Program { classes: &[class] })?;
 //! ```
 //!
-//! Its rooms: `program_types` (the types, their content, comparisons and shorties), `program_rules` over `program_code_rules` (what
+//! Its rooms: `program_types` (the types, their content, comparisons and shorties), `program_rules` over `code_rules` (what
 //! a program has to keep, and their faults).
 //!
 //! docs/MAP.md says where this crate stands among the others.

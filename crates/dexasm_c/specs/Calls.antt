@@ -2,8 +2,8 @@
 use Rattle.std.specs.Prelude.{◌≡◌, ℕ, ◌<◌, ◌≤◌, List, ◌++◌, length, drop}
 use Rattle.dex_base.specs.Fault.{memory}
 use Rattle.dex_base.specs.declared.fault.Fault.{Fault}
-use Rattle.dexasm_job.specs.declared.job.Job.{Job}
-use Rattle.dexasm_job.specs.declared.job.Job.TheVariants.{Check}
+use Rattle.dexasm_world.specs.declared.job.Job.{Job}
+use Rattle.dexasm_world.specs.declared.job.Job.TheVariants.{Check}
 use Rattle.dexasm_run.specs.Answers.{Answer, Refusal}
 use Rattle.dexasm_c.specs.declared.ending.CFault.{CFault}
 use Rattle.dexasm_c.specs.declared.ending.Ending.{Ending}

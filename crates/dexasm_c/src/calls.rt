@@ -4,8 +4,8 @@ ghost use Rattle.dexasm_c.specs.inner.Calls.{Tells};
 
 use crate::ending::{CFault, Ending};
 use dex_base::Fault;
-use dexasm_job::Job;
 use dexasm_run::answer;
+use dexasm_world::Job;
 use std::alloc::Global;
 
 /// No fault.

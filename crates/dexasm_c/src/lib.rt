@@ -22,7 +22,7 @@ mod ending;
 
 use calls::{answer_into, check_only, put};
 use dex_base::fault_name;
-use dexasm_job::Job;
+use dexasm_world::Job;
 use ending::{CFault, status};
 use std::alloc::Global;
 

@@ -1,7 +1,7 @@
 -- An answer goes where it is to go.
 use Rattle.std.specs.Prelude.{Result}
 use Rattle.std.proofs.Common.{inr, ℕ, Bool, List, [], append-nil, Option, Some, Ok, Err, refl, sym}
-use Rattle.dexasm_job.specs.declared.job.Job.{Job}
+use Rattle.dexasm_world.specs.declared.job.Job.{Job}
 use Rattle.dexasm_run.specs.Answers.{Answer}
 use Rattle.dexasm_run.specs.Runs.{IsAllGiven}
 use Rattle.dexasm_run.specs.declared.error.RunFault.{RunFault}

@@ -5,7 +5,7 @@ use Rattle.std.specs.Prelude.{Result}
 use Rattle.std.proofs.Common.{◌≡◌, ◌≢◌, ◌⊎◌, inl, inr, ℕ, Bool, true, false, List, [], append-nil, Option, Some, None, Ok, Err, refl, sym, ◌∙◌, subst}
 use Rattle.dex_base.specs.declared.fault.Fault.{Fault}
 use Rattle.clap.specs.Words.{subcommand_of}
-use Rattle.dexasm_job.specs.declared.job.Job.{Job}
+use Rattle.dexasm_world.specs.declared.job.Job.{Job}
 use Rattle.dexasm_run.specs.Answers.{Answer, Refusal}
 use Rattle.dexasm_plan.specs.Commands.{dexasm}
 use Rattle.dexasm_plan.specs.Plans.{Plans}

@@ -2,7 +2,7 @@
 use Rattle.std.specs.Prelude.{◌≡◌, ◌⊎◌, ℕ, Bool, true, false, List, [], Option, Some, Result, Err, MatchOption}
 use Rattle.std.specs.Io.KnownBytes.{Keeps}
 use Rattle.std.specs.Borrow.{Bor}
-use Rattle.dexasm_job.specs.declared.job.Job.{Job}
+use Rattle.dexasm_world.specs.declared.job.Job.{Job}
 use Rattle.dexasm_run.specs.Answers.{Answer}
 use Rattle.dexasm_run.specs.Runs.{MatchRun, IsAllGiven, Answers, BeginsAnswer, Refuses}
 use Rattle.dexasm_run.specs.declared.error.RunFault.{RunFault}

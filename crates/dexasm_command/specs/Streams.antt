@@ -4,8 +4,8 @@ use Rattle.std.specs.Prelude.{Bool, true, false, Option, Some, None, codes, is_s
 use Rattle.std.specs.Borrow.{Bor}
 use Rattle.std.specs.Str.{bytes_eq}
 use Rattle.clap.specs.Words.{Text}
-use Rattle.dexasm_job.specs.declared.job.Job.{Job}
-use Rattle.dexasm_job.specs.declared.job.Job.TheVariants.{Check, List as Listing, Assemble, Strip}
+use Rattle.dexasm_world.specs.declared.job.Job.{Job}
+use Rattle.dexasm_world.specs.declared.job.Job.TheVariants.{Check, List as Listing, Assemble, Strip}
 
 -- The path of FILE or of OUT. Where there is no word, or the word is `-`, it is a standard stream.
 abbrev pub path_of : Option (Bor Text) → Option (Bor Text)

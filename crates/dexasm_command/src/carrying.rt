@@ -8,9 +8,8 @@ ghost use Rattle.dexasm_command.specs.inner.Running.{BringsToOut, RunsOn, RunsOn
 
 use crate::file_source::FileSource;
 use dex_base::Seed;
-use dexasm_job::Job;
 use dexasm_run::{InMemory, RunFault, Sink, Source, run_seeded};
-use dexasm_world::{Refusal, World, deliver};
+use dexasm_world::{Job, Refusal, World, deliver};
 use std::alloc::Global;
 
 /// Carries out the job on what FILE holds, or on what the input gives, and delivers its answer to OUT or to the output. Hashes begin

@@ -4,8 +4,8 @@
 //! let status = serve(alloc, seed, &words, terminals, &mut world, &mut input, &mut output, &mut errors); // 0 where all is done
 //! ```
 //!
-//! It hands on what a program of your own may be made of, from its rooms: `dexasm_job` and `dexasm_plan` (what the words ask for),
-//! `dexasm_run` (a job over any reader and writer), `dexasm_world` (files).
+//! It hands on what a program of your own may be made of: from `dexasm_plan` the reading of a command line, from `dexasm_run` a job over
+//! any reader and writer, from `dexasm_world` the job and the files.
 //!
 //! docs/MAP.md says where this crate stands among the others.
 #![tactic(auto)]
@@ -26,12 +26,11 @@ mod serving;
 
 pub use carrying::carry_out;
 pub use dex_base::Seed;
-pub use dexasm_job::Job;
 pub use dexasm_plan::{Plan, plan, usage_status};
 pub use dexasm_run::{
     Line, RunFault, Sink, Source, Watched, answer, line_text, run, run_seeded, status, write_all,
 };
-pub use dexasm_world::deliver;
+pub use dexasm_world::{Job, deliver};
 pub use laws::{out_is_never_lost, statuses_tell};
 pub use serving::serve;
 pub use telling::tell;

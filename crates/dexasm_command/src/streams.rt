@@ -2,7 +2,7 @@
 ghost use Rattle.std.specs.Prelude.{◌≡◌};
 ghost use Rattle.dexasm_command.specs.Streams.{makes_file, path_of, puts_file};
 
-use dexasm_job::Job;
+use dexasm_world::Job;
 
 /// The path that the word is, where it is one: `-` is a standard stream.
 pub(crate) fn path_of<'w>(word: Option<&'w str>) -> Option<&'w str>

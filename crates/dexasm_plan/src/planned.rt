@@ -1,6 +1,6 @@
 //! What is to be done.
 
-use dexasm_job::Job;
+use dexasm_world::Job;
 
 /// A job, and the words that name the file that it reads and the file that it writes, where the command line has them.
 #[derive(Clone, Copy, Debug)]

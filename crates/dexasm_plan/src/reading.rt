@@ -10,7 +10,7 @@ use crate::command::command;
 use crate::planned::Plan;
 use clap::error::ErrorKind;
 use clap::{ArgMatches, Error};
-use dexasm_job::Job;
+use dexasm_world::Job;
 use std::alloc::Global;
 
 /// Reads the program's words, of which the first is its name.

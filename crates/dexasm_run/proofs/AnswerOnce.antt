@@ -1,7 +1,7 @@
 -- A job has one answer to the bytes that it is given.
 use Rattle.std.proofs.Common.{◌≡◌, ℕ, List, Bool, true, false, sym, ap, ◌∙◌, subst}
-use Rattle.dexasm_job.specs.declared.job.Job.{Job}
-use Rattle.dexasm_job.specs.declared.job.Job.TheVariants.{Check, List as Listing, Assemble, Strip}
+use Rattle.dexasm_world.specs.declared.job.Job.{Job}
+use Rattle.dexasm_world.specs.declared.job.Job.TheVariants.{Check, List as Listing, Assemble, Strip}
 use Rattle.dexasm_run.specs.Answers.{Answer, IsAssembled, Lists}
 use Rattle.code_align.specs.Programs.{AlignedProgram}
 use Rattle.file_read.proofs.RangeLaws.{well_formed}

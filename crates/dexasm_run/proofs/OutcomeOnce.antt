@@ -1,8 +1,8 @@
 -- A job has one outcome on the bytes that it is given.
 use Rattle.std.proofs.Common.{◌≡◌, ℕ, List, Bool, true, false, inl, inr, sym, ap, subst, ◌∙◌, Result, Ok, Err}
 use Rattle.dex_base.specs.declared.fault.Fault.{Fault}
-use Rattle.dexasm_job.specs.declared.job.Job.{Job}
-use Rattle.dexasm_job.specs.declared.job.Job.TheVariants.{Check, List as Listing, Assemble, Strip}
+use Rattle.dexasm_world.specs.declared.job.Job.{Job}
+use Rattle.dexasm_world.specs.declared.job.Job.TheVariants.{Check, List as Listing, Assemble, Strip}
 use Rattle.dexasm_run.specs.Answers.{Answer, IsAligned, IsAssembled, IsUnassembled, Outcome, Refusal}
 use Rattle.dexasm_run.proofs.AnswerOnce.{answer_once, listed_one}
 use Rattle.dexasm_run.proofs.ListedLaws.{is_read}

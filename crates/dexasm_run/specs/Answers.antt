@@ -12,8 +12,8 @@ use Rattle.listing_print.specs.Canon.{canon}
 use Rattle.program_rules.specs.WellFormed.{WellFormed}
 use Rattle.program_types.specs.Content.{Program}
 use Rattle.file_write.specs.Written.{IsFileOf, IsStripped, IsStripRefused}
-use Rattle.dexasm_job.specs.declared.job.Job.{Job}
-use Rattle.dexasm_job.specs.declared.job.Job.TheVariants.{Check, List as Listing, Assemble, Strip}
+use Rattle.dexasm_world.specs.declared.job.Job.{Job}
+use Rattle.dexasm_world.specs.declared.job.Job.TheVariants.{Check, List as Listing, Assemble, Strip}
 
 -- The text is the text of a program, line by line as LISTING has them, and the program is well formed.
 pub record Lists (given : List ℕ) (p : Program) : Type 0 where

@@ -2,7 +2,7 @@
 -- Page: docs/PROVED.md.
 use Rattle.std.specs.Prelude.{◌≡◌, ℕ, List, Result}
 use Rattle.dex_base.specs.declared.fault.Fault.{Fault}
-use Rattle.dexasm_job.specs.declared.job.Job.{Job}
+use Rattle.dexasm_world.specs.declared.job.Job.{Job}
 use Rattle.dexasm_run.specs.Answers.{Answer, Outcome}
 
 -- no job has two answers to the same bytes

@@ -1,7 +1,7 @@
 -- What a run leaves, by how it ended.
 use Rattle.std.specs.Prelude.{◌≡◌, ℕ, Bool, true, ◌≤◌, List, Option, Result, Ok, Err, take, length}
 use Rattle.std.specs.Io.KnownBytes.{Appends, Consumes, IsAtEnd}
-use Rattle.dexasm_job.specs.declared.job.Job.{Job}
+use Rattle.dexasm_world.specs.declared.job.Job.{Job}
 use Rattle.dex_base.specs.declared.fault.Fault.{Fault}
 use Rattle.dexasm_run.specs.Answers.{Answer, Refusal}
 use Rattle.dexasm_run.specs.declared.error.RunFault.{RunFault}

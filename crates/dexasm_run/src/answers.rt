@@ -10,7 +10,7 @@ ghost use Rattle.dexasm_run.specs.Answers.{Answer, Refusal, IsAssembled, IsUnass
 use bumpalo::Bump;
 use code_align::align_all;
 use dex_base::{Fault, Seed};
-use dexasm_job::Job;
+use dexasm_world::Job;
 use file_read::{ClassReader, check};
 use file_write::{strip_seeded, write_seeded};
 use listing_lines::Form;
@@ -28,7 +28,7 @@ use std::alloc::{AllocError, Global};
 /// ```
 /// use dex_file::write;
 /// use dex_program::Program;
-/// use dexasm_job::Job;
+/// use dexasm_world::Job;
 /// use dexasm_run::answer;
 ///
 /// let file = write(alloc, &Program { classes: &[] })?;
@@ -47,7 +47,7 @@ pub fn answer(alloc: Global, job: Job, given: &[u8]) -> Result<Vec<u8>, Fault>
 ///
 /// ```
 /// use dex_base::Seed;
-/// use dexasm_job::Job;
+/// use dexasm_world::Job;
 /// use dexasm_run::answer_seeded;
 ///
 /// let file = answer_seeded(alloc, Seed::new(0x5eed), Job::Assemble { align: false }, b"dex 035 listing 2\n")?;

@@ -9,7 +9,7 @@ use crate::error::RunFault;
 use crate::sink::Sink;
 use crate::source::Source;
 use dex_base::Seed;
-use dexasm_job::Job;
+use dexasm_world::Job;
 use std::alloc::{AllocError, Global};
 
 /// How many bytes one `take` may give.
@@ -23,7 +23,7 @@ const PIECE: usize = 64 * 1024;
 /// `Input`, since each `take` adds a byte, fails or ends the source, and a vector's length is bounded.
 ///
 /// ```
-/// use dexasm_job::Job;
+/// use dexasm_world::Job;
 /// use dexasm_run::{Watched, run};
 ///
 /// let listing: &[u8] = b"dex 035 listing 2\n";
@@ -62,7 +62,7 @@ pub fn run<R: Source, W: Sink>(
 ///
 /// ```
 /// use dex_base::Seed;
-/// use dexasm_job::Job;
+/// use dexasm_world::Job;
 /// use dexasm_run::{Watched, run_seeded};
 ///
 /// let listing: &[u8] = b"dex 035 listing 2\n";

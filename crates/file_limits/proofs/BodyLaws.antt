@@ -5,8 +5,8 @@ use Rattle.std.proofs.lemmas.Option.{slice_get_within}
 use Rattle.std.specs.Prelude.{nat_le, if◌then◌else◌}
 use Rattle.std.specs.List.{AllByRecursion, slice_get}
 use Rattle.dex_base.specs.declared.fault.Fault.{Fault}
-use Rattle.code_put.specs.Fits.{CodeBreaksLimit, FitsCode, IsUnfit}
-use Rattle.code_put.proofs.BreakLaws.{fits_clear}
+use Rattle.code_write.specs.Fits.{CodeBreaksLimit, FitsCode, IsUnfit}
+use Rattle.code_write.proofs.BreakLaws.{fits_clear}
 use Rattle.program_types.specs.Content.{Name, Code, Class, Program}
 use Rattle.file_limits.specs.Limits.{SomeBreaks, ClassBreaksLimit, IsFirstToBreak, codes_of}
 use Rattle.file_limits.specs.inner.Lowest.{IsLowestBroken, IsLowestOf, lower, earlier}

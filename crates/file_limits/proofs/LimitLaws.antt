@@ -4,8 +4,8 @@ use Rattle.std.proofs.lemmas.Bool.{cases_lt, eqb-true, eqb-false}
 use Rattle.std.specs.Prelude.{if◌then◌else◌, IsTrue}
 use Rattle.std.specs.List.{AllByRecursion, slice_get}
 use Rattle.dex_base.specs.declared.fault.Fault.{Fault}
-use Rattle.code_put.proofs.BreakLaws.{breaks_range, clear_fits, fits_clear}
-use Rattle.code_put.specs.Fits.{FitsCode}
+use Rattle.code_write.proofs.BreakLaws.{breaks_range, clear_fits, fits_clear}
+use Rattle.code_write.specs.Fits.{FitsCode}
 use Rattle.tables_names.specs.Closure.{NameRanks}
 use Rattle.tables_names.specs.Needed.{needed}
 use Rattle.program_types.specs.Content.{Name, Code, Program}

@@ -5,7 +5,7 @@ use Rattle.std.proofs.lemmas.Option.{slice_get_within}
 use Rattle.std.specs.Option.{option_to_list}
 use Rattle.std.specs.List.{AllByRecursion, flat_map}
 use Rattle.dex_base.specs.declared.fault.Fault.{Fault}
-use Rattle.code_put.specs.Fits.{HasIndexBelow}
+use Rattle.code_write.specs.Fits.{HasIndexBelow}
 use Rattle.tables_names.specs.Closure.{Five, NameRanks}
 use Rattle.program_types.specs.Content as content
 use Rattle.program_types.specs.Content.{Name, OfDesc, Code, Catch, Try}

@@ -4,7 +4,7 @@ use Rattle.std.specs.Prelude.{◌≡◌, ℕ, ◌<◌, ◌≤◌, List, ◌++◌
 use Rattle.std.specs.List.{AllByRecursion, flat_map, slice_get}
 use Rattle.std.specs.Option.{option_to_list}
 use Rattle.dex_base.specs.declared.fault.Fault.{Fault}
-use Rattle.code_put.specs.Fits.{CodeBreaksLimit, FitsCode}
+use Rattle.code_write.specs.Fits.{CodeBreaksLimit, FitsCode}
 use Rattle.tables_names.specs.Closure.{NameRanks}
 use Rattle.tables_names.specs.Needed.{needed}
 use Rattle.program_types.specs.Content.{Name, Code, Method, Class, Program}

@@ -3,7 +3,7 @@
 -- Page: "Dalvik Executable format", each item's own table; "LEB128".
 use Rattle.std.specs.Prelude.{ℕ, ◌+◌, ◌*◌, List, [], ◌∷◌, ◌++◌, length, map, Option, Some, None}
 use Rattle.dex_base.specs.Mutf8.{mutf8_length}
-use Rattle.code_put.specs.Fits.{wide_code}
+use Rattle.code_write.specs.Fits.{wide_code}
 use Rattle.file_layout.specs.Sections.{wide_all}
 use Rattle.tables_names.specs.Closure.{Five}
 use Rattle.tables_names.specs.Needed.{needed}

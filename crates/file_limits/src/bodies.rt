@@ -10,7 +10,7 @@ ghost use Rattle.file_limits.specs.inner.Lowest.{IsLowestBroken, IsLowestOf, ear
 ghost use Rattle.tables_names.specs.Closure.{NameRanks};
 ghost use Rattle.program_types.specs.View as view;
 
-use code_put::fits;
+use code_write::fits;
 use dex_base::Fault;
 use program_types::{Class, Code, Method};
 use std::alloc::Global;

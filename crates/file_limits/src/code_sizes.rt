@@ -1,7 +1,7 @@
 //! How many bytes bodies take at most.
 //! Page: "Dalvik Executable format", "code_item".
 ghost use Rattle.std.specs.Prelude.{◌*◌, map, option_map};
-ghost use Rattle.code_put.specs.Fits.{catches_in, wide_code};
+ghost use Rattle.code_write.specs.Fits.{catches_in, wide_code};
 ghost use Rattle.file_layout.specs.Sections.{wide_all};
 ghost use Rattle.program_types.specs.Sizes.{length_of};
 ghost use Rattle.program_types.specs.View as view;
@@ -9,7 +9,7 @@ ghost use Rattle.file_limits.specs.inner.Sum.{IsSum};
 ghost use Rattle.file_limits.specs.Wide.{bodies_in, wide_body};
 
 use crate::sums::{plus, times};
-use code_put::units_of;
+use code_write::units_of;
 use program_types::{Code, Insn, Method, Try};
 
 /// How many bytes instructions take, two a unit.

@@ -37,8 +37,8 @@ use Rattle.file_read.specs.Means.{Means}
 use Rattle.file_classes.proofs.EntryLaws.{entry_at}
 use Rattle.program_rules.specs.Valid.{IsValueType, IsValidProto, IsValidName}
 use Rattle.program_rules.specs.Rules.{KeysRise, member_key, method_key, IsOfType, NoneFrom, AreDistinct, OrderHolds, CodesHold, RulesHold}
-use Rattle.program_code_rules.proofs.OperandLaws.{formed_operands}
-use Rattle.program_code_rules.specs.CodeRules.{OperandsHold, TargetsHold, PayloadsHold, TriesHold}
+use Rattle.code_rules.proofs.OperandLaws.{formed_operands}
+use Rattle.code_rules.specs.CodeRules.{OperandsHold, TargetsHold, PayloadsHold, TriesHold}
 use Rattle.code_read.proofs.CodesFormed.{standing-formed}
 use Rattle.code_read.proofs.NamesHaveRows as codes
 use Rattle.dex_base.proofs.ListFacts.{all_append, all_there}

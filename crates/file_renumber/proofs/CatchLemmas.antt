@@ -14,8 +14,8 @@ use Rattle.file_renumber.specs.inner.Numbers.{Carries, column_of}
 use Rattle.code_read.specs.Places.{position}
 use Rattle.code_read.specs.Handlers.{Handler, catches_of, HasAll, AllBy}
 use Rattle.code_read.specs.inner.Handlers.{SpellsCatch}
-use Rattle.code_put.specs.inner.Packs.{PacksCatch, PacksHandler}
-use Rattle.code_put.proofs.HandlerPacks.{via-appends, catch-appends, all-none, all-some, handler-appends, alone}
+use Rattle.code_write.specs.inner.Packs.{PacksCatch, PacksHandler}
+use Rattle.code_write.proofs.HandlerPacks.{via-appends, catch-appends, all-none, all-some, handler-appends, alone}
 use Rattle.file_renumber.specs.inner.Fronts.{IsCatch, types_of}
 use Rattle.file_renumber.specs.inner.CarriedCodes.{CarriedCatches}
 use Rattle.file_renumber.proofs.FrontLemmas.{due_start, NextDue, due_end}

@@ -16,10 +16,10 @@ use Rattle.code_read.specs.Walk.{starts}
 use Rattle.code_read.proofs.LinkLaws.{addresses-same}
 use Rattle.code_read.specs.inner.ItemReading.{ReadTries}
 use Rattle.code_read.specs.declared.item.Item.{Item}
-use Rattle.code_put.specs.Fits.{catches_in}
-use Rattle.code_put.specs.Packs.{PacksHandlersOf, PacksCode, joined, padding, items_bytes}
-use Rattle.code_put.specs.inner.Packs.{PutInsns}
-use Rattle.code_put.proofs.PackLaws.{packed}
+use Rattle.code_write.specs.Fits.{catches_in}
+use Rattle.code_write.specs.Packs.{PacksHandlersOf, PacksCode, joined, padding, items_bytes}
+use Rattle.code_write.specs.inner.Packs.{PutInsns}
+use Rattle.code_write.proofs.PackLaws.{packed}
 use Rattle.file_renumber.specs.inner.Renumbered.{renumbered, CanBeRenumbered}
 use Rattle.file_renumber.specs.inner.CarriedCodes.{IsCarriedCode, CarriedTries, head_of}
 use Rattle.file_renumber.specs.inner.Fronts.{SpellsItem}

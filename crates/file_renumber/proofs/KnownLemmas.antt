@@ -13,14 +13,14 @@ use Rattle.tables_rows.specs.Stands.{NameStands}
 use Rattle.file_renumber.specs.inner.Marked.{Columns}
 use Rattle.file_renumber.specs.inner.Numbers.{Carries}
 use Rattle.dex_base.specs.Fields.{u16_bytes, u32_bytes}
-use Rattle.code_put.specs.Packs.{bound_of, covered, item_bytes}
+use Rattle.code_write.specs.Packs.{bound_of, covered, item_bytes}
 use Rattle.code_read.specs.Places.{position, count_below}
 use Rattle.code_read.proofs.PlaceLaws.{position-there}
 use Rattle.code_read.specs.Item.{try_start, try_count, try_handler}
 use Rattle.code_read.specs.Tries.{handler_of}
 use Rattle.code_read.specs.declared.item.Item.{Item}
-use Rattle.code_put.specs.inner.Writing.{IsHeldAs}
-use Rattle.code_put.proofs.ListLaws.{all-from}
+use Rattle.code_write.specs.inner.Writing.{IsHeldAs}
+use Rattle.code_write.proofs.ListLaws.{all-from}
 use Rattle.file_renumber.specs.inner.CarriedCodes.{CarriedHandler, CarriedTries}
 use Rattle.file_renumber.specs.inner.TryWalks.{CarriedList, IsWrittenOf, AreKnown, CoversTry}
 use Rattle.file_renumber.proofs.ListLemmas.{all-part}

@@ -20,9 +20,9 @@ use Rattle.code_read.specs.Walk.{starts, raw_at, address}
 use Rattle.code_read.specs.Linked.{lead, SpellsInsns}
 use Rattle.code_read.proofs.Runs.{stands-at}
 use Rattle.code_read.proofs.LinkLaws.{addresses-same, kind-linked}
-use Rattle.code_put.specs.Fits.{ShortFits}
-use Rattle.code_put.specs.Packs.{IsLowered, AreLowered}
-use Rattle.code_put.proofs.ListLaws.{all-at, all-from}
+use Rattle.code_write.specs.Fits.{ShortFits}
+use Rattle.code_write.specs.Packs.{IsLowered, AreLowered}
+use Rattle.code_write.proofs.ListLaws.{all-at, all-from}
 use Rattle.file_renumber.specs.inner.Renumbered.{renumbered, CanBeRenumbered}
 use Rattle.file_renumber.proofs.ListLemmas.{all-part}
 use Rattle.file_renumber.proofs.UnitLemmas.{units-at}

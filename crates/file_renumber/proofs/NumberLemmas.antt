@@ -16,7 +16,7 @@ use Rattle.file_renumber.specs.inner.Marked.{Columns}
 use Rattle.file_renumber.specs.inner.Numbers.{Carries, column_of}
 use Rattle.code_read.specs.Symbols.{Says, IndexStandsFor, linked, name_in}
 use Rattle.code_read.specs.Linked.{payload_of}
-use Rattle.code_put.specs.Fits.{short_name, ShortFits}
+use Rattle.code_write.specs.Fits.{short_name, ShortFits}
 use Rattle.file_renumber.specs.inner.Renumbered.{number_in, renumbered, HasNumber, HasShortNumber, IsNumbered}
 use Rattle.file_renumber.proofs.InsnLemmas.{kind_is, of_kind}
 

@@ -22,8 +22,8 @@ use Rattle.code_read.specs.inner.Handlers.{SpellsHandler}
 use Rattle.code_read.specs.Item.{try_handler}
 use Rattle.code_read.specs.inner.ItemReading.{ReadTries}
 use Rattle.code_read.specs.Tries.{handler_of}
-use Rattle.code_put.specs.Fits.{catches_in}
-use Rattle.code_put.proofs.DistinctLaws.{catches-more}
+use Rattle.code_write.specs.Fits.{catches_in}
+use Rattle.code_write.proofs.DistinctLaws.{catches-more}
 use Rattle.file_renumber.specs.inner.Fronts.{AreListed, types_of}
 use Rattle.file_renumber.specs.inner.TryWalks.{MarksOnce}
 use Rattle.file_renumber.proofs.ListLemmas.{all-part, HandlerThere, handler_there}

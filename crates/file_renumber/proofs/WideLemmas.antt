@@ -6,8 +6,8 @@ use Rattle.program_types.specs.Content.{Name, Try, Code}
 use Rattle.program_types.specs.Mentions.{names_of_insn, names_of_try, names_of_code}
 use Rattle.program_types.specs.Sizes.{length_of}
 use Rattle.code_read.specs.declared.item.Item.{Item}
-use Rattle.code_put.specs.Fits.{catches_in, wide_code}
-use Rattle.code_put.specs.Packs.{head_bytes}
+use Rattle.code_write.specs.Fits.{catches_in, wide_code}
+use Rattle.code_write.specs.Packs.{head_bytes}
 use Rattle.file_renumber.specs.inner.CarriedCodes.{head_of}
 use Rattle.file_renumber.specs.inner.Fronts.{SpellsItem}
 use Rattle.file_renumber.proofs.UnitLemmas.{length-is}

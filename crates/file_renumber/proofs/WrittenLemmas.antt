@@ -15,8 +15,8 @@ use Rattle.file_renumber.specs.inner.Marked.{Columns}
 use Rattle.code_read.specs.Walk.{Run, Walks, starts, raw_at}
 use Rattle.code_read.specs.inner.Walk.{IsTable}
 use Rattle.code_read.proofs.Runs.{run-more, run-once, starts-more, table-of}
-use Rattle.code_put.specs.Packs.{joined}
-use Rattle.code_put.proofs.ListLaws.{all-at}
+use Rattle.code_write.specs.Packs.{joined}
+use Rattle.code_write.proofs.ListLaws.{all-at}
 use Rattle.file_renumber.specs.inner.InPlace.{IsRenumbered}
 use Rattle.file_renumber.specs.inner.Renumbered.{renumbered, CanBeRenumbered}
 use Rattle.file_renumber.proofs.NumberLemmas.{renumbered_units}

@@ -9,7 +9,7 @@ ghost use Rattle.file_renumber.specs.inner.Marked.{HasMarks, AddsNames};
 ghost use Rattle.code_read.specs.Places.{Rises};
 ghost use Rattle.code_read.specs.Handlers.{Handler, SpellsList};
 ghost use Rattle.code_read.specs.inner.Handlers.{SpellsCatch, SpellsHandler};
-ghost use Rattle.code_put.specs.inner.Packs.{PacksCatch, PacksHandler};
+ghost use Rattle.code_write.specs.inner.Packs.{PacksCatch, PacksHandler};
 ghost use Rattle.file_renumber.specs.inner.CarriedCodes.{CarriedCatches, CarriedHandler};
 ghost use Rattle.file_renumber.specs.inner.Fronts.{AreListed, types_of};
 

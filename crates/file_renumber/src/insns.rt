@@ -12,7 +12,7 @@ ghost use Rattle.code_read.specs.Symbols.{Says};
 ghost use Rattle.code_read.specs.Walk.{Walks};
 ghost use Rattle.code_read.specs.inner.Walk.{IsTable};
 ghost use Rattle.code_read.specs.Linked.{SpellsInsns};
-ghost use Rattle.code_put.specs.Packs.{joined};
+ghost use Rattle.code_write.specs.Packs.{joined};
 ghost use Rattle.file_renumber.specs.inner.Renumbered.{renumbered, CanBeRenumbered};
 ghost use Rattle.file_renumber.specs.inner.Shapes.{IsOfShape};
 

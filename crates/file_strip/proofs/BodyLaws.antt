@@ -4,16 +4,16 @@ use Rattle.std.specs.Prelude.{MatchBool, ◌==◌}
 use Rattle.std.specs.List.{AllByRecursion}
 use Rattle.std.proofs.lemmas.List.{take_more, length-map}
 use Rattle.dex_base.specs.Fields.{AreBytes}
-use Rattle.code_put.specs.Fits.{CodeBreaksLimit, FitsCode, HandlersAreNear, HandlerTooFar}
-use Rattle.code_put.specs.Packs.{PacksCode}
-use Rattle.code_put.proofs.HandlerOnce.{ranks-injective}
-use Rattle.code_put.proofs.LayoutOnce.{layout-once}
-use Rattle.code_put.proofs.PackedLaws.{packed-spells}
+use Rattle.code_write.specs.Fits.{CodeBreaksLimit, FitsCode, HandlersAreNear, HandlerTooFar}
+use Rattle.code_write.specs.Packs.{PacksCode}
+use Rattle.code_write.proofs.HandlerOnce.{ranks-injective}
+use Rattle.code_write.proofs.LayoutOnce.{layout-once}
+use Rattle.code_write.proofs.PackedLaws.{packed-spells}
 use Rattle.file_renumber.specs.inner.CarriedCodes.{IsCarriedCode}
 use Rattle.dex_insn.specs.declared.opcode.IndexKind.TheVariants as kind
 use Rattle.file_strip.specs.inner.AtLeast.{FitsButHandlers}
-use Rattle.file_assemble.specs.inner.Codes.{WritesBody, is_bodiless}
-use Rattle.file_assemble.proofs.OneBody.{packed_room}
+use Rattle.file_put.specs.inner.Codes.{WritesBody, is_bodiless}
+use Rattle.file_put.proofs.OneBody.{packed_room}
 use Rattle.file_layout.specs.inner.OneMore.{Entry}
 use Rattle.file_layout.specs.inner.Sharing.{UsesItem}
 use Rattle.program_types.specs.Content.{Code}
@@ -23,7 +23,7 @@ use Rattle.file_renumber.specs.inner.Marked.{Columns}
 use Rattle.file_strip.specs.inner.Bodies.{AreNear, AreOwned, IsCarriedBody, IsCarriedSome, IsFar, IsFirstFar, IsOwned, bodies_alone}
 use Rattle.file_strip.specs.declared.codes.PlacedBody.{PlacedBody}
 use Rattle.file_strip.specs.inner.Moved.{IsItem}
-use Rattle.code_put.proofs.ListLaws.{all-at}
+use Rattle.code_write.proofs.ListLaws.{all-at}
 use Rattle.file_renumber.proofs.MarkLemmas.{zip_at}
 use Rattle.dex_base.proofs.ListFacts.{zip_length, some_inj, all_append}
 

@@ -8,9 +8,9 @@ use Rattle.dex_base.specs.Words.{words_bytes}
 use Rattle.dex_base.proofs.GrammarLaws.{Each-appends_none}
 use Rattle.file_classes.specs.ClassRows.{IndexOrNone, no_index, class_word}
 use Rattle.file_needed.proofs.ClassNames.{type_named, source_named}
-use Rattle.file_assemble.specs.inner.ClassDefs.{SpellsClassRow, StringRanks, TypeRanks, with_places}
-use Rattle.file_assemble.proofs.ClassRowLaws.{seated_more}
-use Rattle.file_assemble.proofs.PlacedClasses.{rank_or_none}
+use Rattle.file_put.specs.inner.ClassDefs.{SpellsClassRow, StringRanks, TypeRanks, with_places}
+use Rattle.file_put.proofs.ClassRowLaws.{seated_more}
+use Rattle.file_put.proofs.PlacedClasses.{rank_or_none}
 use Rattle.program_types.specs.Content.{Class, Program, Units, Name, OfDesc, OfText}
 use Rattle.program_types.specs.Key.{text_key}
 use Rattle.program_types.specs.Mentions.{names_of_class, if_any}

@@ -3,7 +3,7 @@ use Rattle.std.proofs.Common.{◌≡◌, ℕ, zero, suc, ◌+◌, ◌≤◌, Lis
 use Rattle.std.specs.Prelude.{◌⊎◌}
 use Rattle.std.specs.Option.{option_to_list}
 use Rattle.std.proofs.lemmas.List.{map-append}
-use Rattle.code_put.specs.Fits.{CodeBreaksLimit}
+use Rattle.code_write.specs.Fits.{CodeBreaksLimit}
 use Rattle.file_limits.specs.Limits.{ClassBreaksLimit, IsFirstToBreak, SomeBreaks, codes_in, codes_of}
 use Rattle.file_limits.specs.Wide.{bodies_in, bodies_of}
 use Rattle.program_types.specs.Content.{Class, Code, Method, Program}

@@ -13,7 +13,7 @@ use Rattle.dex_value.proofs.FrontLaws.{SpellsArray-unique}
 use Rattle.dex_value.proofs.Carrying.{NameStands-functional}
 use Rattle.code_read.specs.Code.{CodeStands}
 use Rattle.code_read.proofs.CodeLaws.{code_one}
-use Rattle.code_put.specs.Fits.{wide_code}
+use Rattle.code_write.specs.Fits.{wide_code}
 use Rattle.file_classes.specs.ClassRows.{IndexOrNone, no_index}
 use Rattle.file_classes.specs.Classes.{CodeAt, SomeCodeStands, StaticsAt}
 use Rattle.file_classes.proofs.OnceLaws.{one_of_kind}

@@ -5,7 +5,7 @@ use Rattle.std.specs.List.{AllByRecursion, flat_map}
 use Rattle.std.proofs.lemmas.List.{take_all, map-append}
 use Rattle.std.proofs.lemmas.Option.{slice_get_within}
 use Rattle.dex_base.specs.Fields.{AreBytes}
-use Rattle.code_put.proofs.HandlerOnce.{ranks-injective}
+use Rattle.code_write.proofs.HandlerOnce.{ranks-injective}
 use Rattle.code_read.proofs.CodesFormed.{standing-formed}
 use Rattle.dex_container.specs.Layout.{size_of}
 use Rattle.file_classes.specs.ClassData.{Entries, EntriesAt}

@@ -28,8 +28,8 @@ use Rattle.file_layout.specs.inner.Sections.{is_empty_list}
 use Rattle.file_limits.specs.Wide.{params_of, wide_list}
 use Rattle.file_limits.specs.inner.Wide.{list_values}
 use Rattle.file_needed.proofs.ClassNames.{interfaces_named}
-use Rattle.file_assemble.specs.inner.Lists.{AddsIndices, SpellsRanks}
-use Rattle.file_assemble.proofs.RankedLists.{list_some, halves_push}
+use Rattle.file_put.specs.inner.Lists.{AddsIndices, SpellsRanks}
+use Rattle.file_put.proofs.RankedLists.{list_some, halves_push}
 use Rattle.file_strip.specs.inner.Keeping.{Keeps}
 use Rattle.file_strip.specs.inner.Lists.{AreCarriedLists, AreFirstLists, AreRanked, IsCarriedList}
 use Rattle.file_strip.specs.inner.Moved.{IsItem}

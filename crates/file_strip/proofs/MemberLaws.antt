@@ -11,10 +11,10 @@ use Rattle.dex_container.specs.Layout.{size_of}
 use Rattle.file_classes.specs.ClassData.{Entries, FieldEntry, MethodEntry, SpellsFieldEntry, SpellsMethodEntry, EntriesAre, steps, index_of}
 use Rattle.file_classes.specs.Classes.{IsField, IsMethod, MembersAre}
 use Rattle.file_needed.proofs.ClassNames.{statics_named, instances_named, directs_kept, virtuals_kept}
-use Rattle.file_assemble.specs.Data.{code_offs}
-use Rattle.file_assemble.specs.inner.Data.{FieldRanks, MethodRanks}
-use Rattle.file_assemble.specs.inner.Growing.{AddsFields, AddsMethods}
-use Rattle.file_assemble.proofs.RunLaws.{total, total_push, no_run, run_push}
+use Rattle.file_put.specs.Data.{code_offs}
+use Rattle.file_put.specs.inner.Data.{FieldRanks, MethodRanks}
+use Rattle.file_put.specs.inner.Growing.{AddsFields, AddsMethods}
+use Rattle.file_put.proofs.RunLaws.{total, total_push, no_run, run_push}
 use Rattle.program_types.specs.Content.{Class, Descriptor, Member, Method, Name, Program}
 use Rattle.program_types.specs.Mentions.{field_of_class, names_of_method}
 use Rattle.tables_names.specs.Closure.{Five, NameRanks, method_of_class}

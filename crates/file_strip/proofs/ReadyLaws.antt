@@ -5,11 +5,11 @@ use Rattle.std.specs.List.{AllByRecursion}
 use Rattle.std.proofs.lemmas.Bool.{cases_lt}
 use Rattle.dex_base.specs.Fields.{AreBytes}
 use Rattle.dex_base.specs.declared.fault.Fault.{Fault}
-use Rattle.code_put.specs.Fits.{CodeBreaksLimit, FitsCode, HandlerTooFar}
+use Rattle.code_write.specs.Fits.{CodeBreaksLimit, FitsCode, HandlerTooFar}
 use Rattle.dex_insn.specs.declared.opcode.IndexKind.TheVariants as kind
-use Rattle.file_assemble.specs.inner.Assembled.{rows_of}
-use Rattle.file_assemble.proofs.FitsLaws.{all_parts, after_tables, HasRoom, Room, room_by_parts}
-use Rattle.file_assemble.proofs.DataParts.{next}
+use Rattle.file_put.specs.inner.Assembled.{rows_of}
+use Rattle.file_put.proofs.FitsLaws.{all_parts, after_tables, HasRoom, Room, room_by_parts}
+use Rattle.file_put.proofs.DataParts.{next}
 use Rattle.file_strip.specs.inner.Keeping.{Keeps}
 use Rattle.file_read.proofs.RangeLaws.{well_formed}
 use Rattle.file_layout.specs.inner.Plan.{tables_end}

@@ -12,12 +12,12 @@ use Rattle.file_layout.proofs.SectionLaws.{gap_one, length-padded, Laying-start}
 use Rattle.file_layout.specs.Tiles.{gap, zeros}
 use Rattle.file_limits.specs.Wide.{wide_data}
 use Rattle.file_limits.specs.inner.Wide.{body_values}
-use Rattle.file_assemble.specs.inner.Data.{PacksData, ClassWithCodes, has_no_members, method_count, with_code_places, wide_with_codes}
-use Rattle.file_assemble.specs.inner.Placing.{items_with}
-use Rattle.file_assemble.proofs.DataLengths.{data_length}
-use Rattle.file_assemble.proofs.LayingLaws.{one_more}
-use Rattle.file_assemble.proofs.SitedLaws.{length-sited, room_of_sited, rest_after}
-use Rattle.file_assemble.proofs.SitedSteps.{sited_at, rest_next, rest_enough}
+use Rattle.file_put.specs.inner.Data.{PacksData, ClassWithCodes, has_no_members, method_count, with_code_places, wide_with_codes}
+use Rattle.file_put.specs.inner.Placing.{items_with}
+use Rattle.file_put.proofs.DataLengths.{data_length}
+use Rattle.file_put.proofs.LayingLaws.{one_more}
+use Rattle.file_put.proofs.SitedLaws.{length-sited, room_of_sited, rest_after}
+use Rattle.file_put.proofs.SitedSteps.{sited_at, rest_next, rest_enough}
 use Rattle.program_types.specs.Content.{Class, Program}
 use Rattle.tables_names.specs.Closure.{Five, NameRanks}
 use Rattle.tables_names.specs.Needed.{needed}

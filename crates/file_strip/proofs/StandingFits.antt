@@ -27,7 +27,7 @@ use Rattle.code_read.specs.Places.{count_below, Rises}
 use Rattle.code_read.specs.Walk.{starts, raw_at, address}
 use Rattle.code_read.specs.Symbols.{linked, ints, ints_from, InsnNames, name_in}
 use Rattle.code_read.specs.Linked.{lead, payload_of, IsLinked, SpellsInsns}
-use Rattle.program_code_rules.specs.Branches.{IsOrigin}
+use Rattle.code_rules.specs.Branches.{IsOrigin}
 use Rattle.code_read.proofs.PlaceLaws.{target-there}
 use Rattle.code_read.proofs.Runs.{table-of, length-of_starts, stands-at}
 use Rattle.code_read.proofs.LinkLaws.{addresses-same, kind-linked}
@@ -36,12 +36,12 @@ use Rattle.code_read.specs.Tries.{SpellsTries}
 use Rattle.code_read.specs.Code.{SpellsBody, CodeStands}
 use Rattle.code_read.proofs.FaultLaws.{units-even}
 use Rattle.code_read.proofs.ItemLaws.{begins_late}
-use Rattle.code_put.specs.Fits.{short_name, ShortFits, distance_of, BranchFits, TargetsFit, OffsetsFit, IsEven, TryFits}
+use Rattle.code_write.specs.Fits.{short_name, ShortFits, distance_of, BranchFits, TargetsFit, OffsetsFit, IsEven, TryFits}
 use Rattle.file_strip.specs.inner.AtLeast.{AreNoFurther, CodesFit, FitsButHandlers}
 use Rattle.tables_names.specs.Closure.{Five, NameRanks}
 use Rattle.code_read.proofs.SaidLaws.{slice-bytes}
 use Rattle.code_read.proofs.CodesFormed.{leads-inside, count-most, not-below, from-at, u16-fits}
-use Rattle.code_put.proofs.DistanceLaws.{lead-there}
+use Rattle.code_write.proofs.DistanceLaws.{lead-there}
 use Rattle.dex_base.proofs.ListFacts.{take_bytes}
 use Rattle.std.proofs.lemmas.Option.{IfSome_then}
 

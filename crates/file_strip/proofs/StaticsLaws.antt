@@ -11,8 +11,8 @@ use Rattle.file_classes.specs.Classes.{StaticsAt}
 use Rattle.file_layout.specs.inner.Sections.{is_empty_list}
 use Rattle.file_limits.specs.inner.Wide.{array_values}
 use Rattle.file_needed.proofs.ClassNames.{values_kept}
-use Rattle.file_assemble.specs.inner.Arrays.{WritesArray}
-use Rattle.file_assemble.proofs.RankedArrays.{array_some}
+use Rattle.file_put.specs.inner.Arrays.{WritesArray}
+use Rattle.file_put.proofs.RankedArrays.{array_some}
 use Rattle.file_layout.specs.inner.OneMore.{Entry}
 use Rattle.file_layout.specs.inner.Sharing.{UsesItem}
 use Rattle.program_types.specs.Content.{Name, OfField, Class, Program, Value, Values, Named, Enum, Array, no_values, more_values, values}

@@ -7,7 +7,7 @@ use Rattle.dex_base.specs.Grammar.{Appends}
 use Rattle.dex_base.specs.Words.{words_bytes}
 use Rattle.dex_base.proofs.GrammarLaws.{Each-push}
 use Rattle.dex_container.specs.Layout.{size_of}
-use Rattle.file_assemble.specs.inner.Rows.{SpellsFieldRow, SpellsMethodRow, SpellsProtoRow, SpellsProtos, SpellsTable, SpellsTypeRow}
+use Rattle.file_put.specs.inner.Rows.{SpellsFieldRow, SpellsMethodRow, SpellsProtoRow, SpellsProtos, SpellsTable, SpellsTypeRow}
 use Rattle.program_types.specs.Content.{Units, Proto, FieldRef, MethodRef, Program, OfText, OfDesc, OfField, OfMethod}
 use Rattle.program_types.specs.Key.{Key, text_key, proto_key, field_ref_key, method_ref_key}
 use Rattle.program_types.specs.Shorty.{shorty}

@@ -19,7 +19,7 @@ use Rattle.dex_container.specs.declared.section.Section.{Section}
 use Rattle.file_layout.specs.inner.Sections.{Adds, Laying, never}
 use Rattle.file_layout.proofs.SectionLaws.{Laying-start, Laying-more, gap_one, unpadded}
 use Rattle.file_limits.specs.inner.Wide.{text_values, wide_text}
-use Rattle.file_assemble.proofs.LengthLaws.{text_some}
+use Rattle.file_put.proofs.LengthLaws.{text_some}
 use Rattle.program_types.specs.Content.{Units, Program, OfText}
 use Rattle.program_types.specs.Key.{Key, text_key}
 use Rattle.tables_names.specs.Needed.{needed}
@@ -32,7 +32,7 @@ use Rattle.tables_rows.specs.Stands.{StringStands}
 use Rattle.file_strip.specs.inner.Keeping.{Keeps}
 use Rattle.file_strip.specs.inner.Texts.{AreFirstTexts}
 use Rattle.file_strip.proofs.KeepLaws.{number_is, numbers_long, next_kept, next_not_kept, first_number, carried}
-use Rattle.code_put.proofs.ListLaws.{all-at}
+use Rattle.code_write.proofs.ListLaws.{all-at}
 use Rattle.dex_base.proofs.ListFacts.{all_append}
 
 -- ---- no unit has a zero byte

@@ -7,7 +7,7 @@ use Rattle.dex_base.specs.Fields.{AreBytes}
 use Rattle.dex_base.specs.declared.fault.Fault.{Fault}
 use Rattle.file_classes.specs.ClassData.{EntriesAre, MethodEntry}
 use Rattle.file_classes.specs.Classes.{CodeAt, CodesAre, IsMethod, SomeCodeStands, SpellsClass}
-use Rattle.code_put.specs.Fits.{BranchOutOfReach, CodeBreaksLimit, FieldOutOfReach, HandlerTooFar, MethodOutOfReach, Misaligned, StringOutOfReach, TooManyTries, TryTooLong}
+use Rattle.code_write.specs.Fits.{BranchOutOfReach, CodeBreaksLimit, FieldOutOfReach, HandlerTooFar, MethodOutOfReach, Misaligned, StringOutOfReach, TooManyTries, TryTooLong}
 use Rattle.dex_container.specs.Frame.{IsFramed}
 use Rattle.dex_insn.specs.declared.opcode.IndexKind.TheVariants as kind
 use Rattle.file_limits.specs.Limits as limits

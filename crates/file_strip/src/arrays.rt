@@ -8,7 +8,7 @@ ghost use Rattle.file_layout.specs.Sections.{wide_all};
 ghost use Rattle.file_layout.specs.inner.Sections.{is_empty_list, Laid};
 ghost use Rattle.file_layout.specs.inner.Tiles.{AreShared};
 ghost use Rattle.file_limits.specs.inner.Wide.{array_values};
-ghost use Rattle.file_assemble.specs.inner.Arrays.{WritesArray};
+ghost use Rattle.file_put.specs.inner.Arrays.{WritesArray};
 ghost use Rattle.file_layout.specs.inner.Sharing.{UsesItem};
 ghost use Rattle.program_types.specs.Content.{Program, Value};
 ghost use Rattle.tables_names.specs.Closure.{AreRising, Five, NameRanks};
@@ -21,8 +21,8 @@ use crate::class_words::class_words;
 use crate::moved::Moved;
 use dex_base::{Fault, are_bytes};
 use dex_container::Sections;
-use file_assemble::Placed;
 use file_classes::word;
+use file_put::Placed;
 use file_renumber::{Numbers, renumber_array};
 use std::alloc::Global;
 

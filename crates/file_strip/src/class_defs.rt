@@ -5,7 +5,7 @@ ghost use Rattle.dex_base.specs.Grammar.{Appends, Each};
 ghost use Rattle.dex_container.specs.Layout.{size_of};
 ghost use Rattle.dex_container.specs.Section as section;
 ghost use Rattle.file_classes.specs.ClassRows.{IndexOrNone};
-ghost use Rattle.file_assemble.specs.inner.ClassDefs.{SpellsClassRow, StringRanks, TypeRanks, with_places};
+ghost use Rattle.file_put.specs.inner.ClassDefs.{SpellsClassRow, StringRanks, TypeRanks, with_places};
 ghost use Rattle.program_types.specs.Content.{Program, Units};
 ghost use Rattle.tables_names.specs.Closure.{Five};
 ghost use Rattle.tables_names.specs.Needed.{needed};

@@ -10,7 +10,7 @@ ghost use Rattle.file_layout.specs.inner.Tiles.{AreShared};
 ghost use Rattle.file_limits.specs.Limits.{ClassBreaksLimit, IsFirstToBreak};
 ghost use Rattle.file_limits.specs.Wide.{wide_body};
 ghost use Rattle.file_limits.specs.inner.Wide.{body_values};
-ghost use Rattle.file_assemble.specs.inner.Codes.{PacksBody, WritesBody, is_bodiless};
+ghost use Rattle.file_put.specs.inner.Codes.{PacksBody, WritesBody, is_bodiless};
 ghost use Rattle.file_layout.specs.inner.Sharing.{UsesItem};
 ghost use Rattle.program_types.specs.Content as content;
 ghost use Rattle.program_types.specs.Content.{Program};
@@ -24,8 +24,8 @@ ghost use Rattle.file_strip.specs.inner.Moved.{AreMoved};
 use crate::moved::Moved;
 use dex_base::{Fault, are_bytes, fault};
 use dex_container::{Section, Sections, kind, section_of};
-use file_assemble::Placed;
 use file_classes::{MethodEntry, class_count, class_word, entries_at, word};
+use file_put::Placed;
 use file_renumber::{Numbers, renumber_code};
 use std::alloc::Global;
 

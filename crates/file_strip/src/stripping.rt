@@ -12,8 +12,8 @@ ghost use Rattle.file_limits.specs.inner.Sum.{IsSum};
 ghost use Rattle.file_limits.specs.Wide.{wide, wide_class};
 ghost use Rattle.file_read.specs.Means.{Means};
 ghost use Rattle.file_strip.specs.inner.Keeping.{Keeps};
-ghost use Rattle.file_assemble.specs.inner.Assembled.{Assembled, DataIsLaid, SpellsTables, rows_of};
-ghost use Rattle.file_assemble.specs.inner.Making.{places_of};
+ghost use Rattle.file_put.specs.inner.Assembled.{Assembled, DataIsLaid, SpellsTables, rows_of};
+ghost use Rattle.file_put.specs.inner.Making.{places_of};
 ghost use Rattle.file_strip.specs.inner.Ready.{IsReady};
 
 use crate::arrays::put_arrays;
@@ -28,10 +28,10 @@ use crate::texts::put_strings;
 use dex_base::{Fault, Seed, are_bytes, fault};
 use dex_container::Sections;
 use dex_insn::IndexKind;
-use file_assemble::{Data, space};
 use file_classes::class_count;
 use file_layout::{Rows, finish};
 use file_limits::plus;
+use file_put::{Data, space};
 use file_renumber::Numbers;
 use std::alloc::Global;
 

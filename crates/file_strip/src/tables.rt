@@ -5,7 +5,7 @@ ghost use Rattle.dex_base.specs.Fields.{u16_bytes, u32_bytes};
 ghost use Rattle.dex_base.specs.Grammar.{Appends};
 ghost use Rattle.dex_container.specs.Layout.{size_of};
 ghost use Rattle.dex_container.specs.Section as section;
-ghost use Rattle.file_assemble.specs.inner.Rows.{SpellsFieldRow, SpellsMethodRow, SpellsProtos, SpellsRows, SpellsTable, SpellsTypeRow};
+ghost use Rattle.file_put.specs.inner.Rows.{SpellsFieldRow, SpellsMethodRow, SpellsProtos, SpellsRows, SpellsTable, SpellsTypeRow};
 ghost use Rattle.program_types.specs.Content.{Program};
 ghost use Rattle.program_types.specs.Key.{field_ref_key, method_ref_key, text_key};
 ghost use Rattle.tables_names.specs.Needed.{needed};

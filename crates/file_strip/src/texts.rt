@@ -20,7 +20,7 @@ ghost use Rattle.file_strip.specs.inner.Texts.{AreFirstTexts};
 use dex_base::{Fault, put_uleb, read_uleb, u32_at};
 use dex_container::{Section, Sections, bytes_from, kind, section_of};
 use dex_insn::IndexKind;
-use file_assemble::Placed;
+use file_put::Placed;
 use file_renumber::Numbers;
 use memchr::memchr;
 use std::alloc::Global;

@@ -2,14 +2,14 @@
 
 ghost use Rattle.std.specs.Prelude.{◌≡◌, ◌≤◌, []};
 ghost use Rattle.std.specs.List.{flat_map};
-ghost use Rattle.code_put.specs.Fits.{wide_code};
+ghost use Rattle.code_write.specs.Fits.{wide_code};
 ghost use Rattle.program_types.specs.Mentions.{names_of_insn, names_of_try};
 ghost use Rattle.program_types.specs.View as view;
 
 use crate::codes_as_numbers::insns_told;
 use bumpalo::Bump;
 use code_align::align;
-use code_put::addresses;
+use code_write::addresses;
 use dex_base::{Fault, fault};
 use dex_samples::{Case, all_hold};
 use program_types::{Code, Insn, Try};

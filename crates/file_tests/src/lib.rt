@@ -39,7 +39,7 @@ mod values_put;
 #[cfg(test)]
 mod values_read;
 
-// code_read, code_put and code_align
+// code_read, code_write and code_align
 #[cfg(test)]
 mod codes_as_numbers;
 #[cfg(test)]

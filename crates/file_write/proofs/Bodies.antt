@@ -6,7 +6,7 @@ use Rattle.file_classes.specs.Classes.{CodeAt, CodesAre, SomeCodeStands}
 use Rattle.file_classes.proofs.StaticsLaws.{at_none, at_other}
 use Rattle.code_read.specs.Code.{SpellsCode, CodeStands}
 use Rattle.code_read.proofs.CarryLaws.{SpellsCode-weaker}
-use Rattle.code_put.proofs.PackedLaws.{packed-spells}
+use Rattle.code_write.proofs.PackedLaws.{packed-spells}
 use Rattle.file_layout.specs.declared.plan.Part.{Part}
 use Rattle.file_layout.specs.inner.Parts.{HasPart}
 use Rattle.file_layout.specs.Tiles.{Among, gap}
@@ -15,9 +15,9 @@ use Rattle.file_layout.proofs.StandLaws.{at_item, even_four}
 use Rattle.file_limits.specs.Wide.{bodies_in}
 use Rattle.tables_names.specs.Closure.{Five, NameRanks}
 use Rattle.program_types.specs.Content.{Name, Code, Method}
-use Rattle.file_assemble.specs.inner.Codes.{PacksBody, is_bodiless}
-use Rattle.file_assemble.specs.Data.{code_offs}
-use Rattle.file_assemble.specs.inner.Named.{BodyCanBePut}
+use Rattle.file_put.specs.inner.Codes.{PacksBody, is_bodiless}
+use Rattle.file_put.specs.Data.{code_offs}
+use Rattle.file_put.specs.inner.Named.{BodyCanBePut}
 use Rattle.tables_rows.specs.Stands.{NameStands}
 
 -- the bytes are a code_item of the body, if there is one

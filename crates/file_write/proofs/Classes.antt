@@ -3,14 +3,14 @@ use Rattle.std.proofs.Common.{◌≡◌, ℕ, ◌+◌, ◌<◌, List, ◌++◌, 
 use Rattle.std.proofs.lemmas.List.{length-map}
 use Rattle.std.proofs.lemmas.Option.{slice_get-map}
 use Rattle.std.specs.List.{AllZip}
-use Rattle.file_assemble.specs.inner.Assembled.{Assembled}
-use Rattle.file_assemble.proofs.FitsLaws.{room_of}
-use Rattle.file_assemble.proofs.ReadyLaws.{class_can}
+use Rattle.file_put.specs.inner.Assembled.{Assembled}
+use Rattle.file_put.proofs.FitsLaws.{room_of}
+use Rattle.file_put.proofs.ReadyLaws.{class_can}
 use Rattle.file_classes.specs.ClassData.{EntriesAt}
 use Rattle.file_classes.specs.ClassRows.{InOrder, class_word}
 use Rattle.file_classes.specs.Classes.{CodeAt, SpellsClass, StaticsAt}
 use Rattle.file_classes.proofs.EntryLaws.{entry_at}
-use Rattle.file_assemble.specs.inner.ClassDefs.{TypeRanks}
+use Rattle.file_put.specs.inner.ClassDefs.{TypeRanks}
 use Rattle.dex_container.specs.Layout.{size_of}
 use Rattle.file_read.specs.Means.{Means}
 use Rattle.file_layout.specs.inner.Sections.{is_empty_list}
@@ -24,11 +24,11 @@ use Rattle.tables_names.specs.Closure.{NameRanks}
 use Rattle.tables_names.specs.Needed.{needed}
 use Rattle.program_types.specs.Content.{Class, Name, Program}
 use Rattle.program_rules.specs.WellFormed.{WellFormed}
-use Rattle.file_assemble.specs.inner.Codes.{is_bodiless}
-use Rattle.file_assemble.specs.Data.{code_offs}
-use Rattle.file_assemble.specs.inner.Data.{has_no_members, method_count, with_code_places}
-use Rattle.file_assemble.specs.inner.Named.{BodyCanBePut}
-use Rattle.file_assemble.proofs.SitedLaws.{count_of_bodies, rest_after}
+use Rattle.file_put.specs.inner.Codes.{is_bodiless}
+use Rattle.file_put.specs.Data.{code_offs}
+use Rattle.file_put.specs.inner.Data.{has_no_members, method_count, with_code_places}
+use Rattle.file_put.specs.inner.Named.{BodyCanBePut}
+use Rattle.file_put.proofs.SitedLaws.{count_of_bodies, rest_after}
 use Rattle.tables_rows.specs.Names.{AreRows}
 use Rattle.tables_rows.specs.Stands.{NameStands}
 use Rattle.file_write.proofs.Bodies.{body_at, codes_are}

@@ -4,8 +4,8 @@ use Rattle.dex_base.specs.Leb128.{SpellsSigned, Shortest, Spells}
 use Rattle.dex_base.proofs.PlacedLaws.{Placed-weaker}
 use Rattle.dex_base.proofs.WeakerLaws.{Implies, Many-weaker, Pair-weaker, Then-weaker}
 use Rattle.code_read.specs.Handlers.{AllBy, Handler, PacksHandlers, PartsBy, AddressBy, TypeBy, catches_of}
-use Rattle.code_put.specs.Packs.{AreLowered, PacksCode, PacksHandlersOf}
-use Rattle.code_put.specs.inner.Packs.{PacksCatch, PacksHandler}
+use Rattle.code_write.specs.Packs.{AreLowered, PacksCode, PacksHandlersOf}
+use Rattle.code_write.specs.inner.Packs.{PacksCatch, PacksHandler}
 use Rattle.dex_insn.specs.Raw as raw
 use Rattle.dex_insn.specs.Raw.{Raw}
 use Rattle.program_types.specs.Content.{Code, Insn, Name, OfDesc, Try}

@@ -13,8 +13,8 @@ use Rattle.dex_container.specs.Where.{At, slice}
 use Rattle.dex_value.specs.Spelling.{SpellsArray}
 use Rattle.dex_value.specs.Wide.{wide_array}
 use Rattle.dex_value.proofs.Lengths.{SpellsArray-most}
-use Rattle.file_assemble.specs.inner.Assembled.{Assembled, DataLies, Places, SpellsTables, StandOnce, rows_of}
-use Rattle.file_assemble.proofs.OnceLaws.{datas_shared}
+use Rattle.file_put.specs.inner.Assembled.{Assembled, DataLies, Places, SpellsTables, StandOnce, rows_of}
+use Rattle.file_put.proofs.OnceLaws.{datas_shared}
 use Rattle.file_classes.specs.ClassData.{Entries}
 use Rattle.file_classes.specs.ClassRows.{class_data_off, interfaces_off, static_values_off}
 use Rattle.file_classes.specs.Classes.{CodeAt, CodesAre, MembersAre}
@@ -31,16 +31,16 @@ use Rattle.file_limits.specs.Wide.{bodies_in, bodies_of, params_of, wide_body, w
 use Rattle.file_limits.specs.inner.Wide.{array_values, body_values, list_values, text_values, wide_text}
 use Rattle.file_limits.proofs.PartLaws.{by_parts}
 use Rattle.file_read.specs.Means.{Means}
-use Rattle.file_assemble.specs.inner.ClassDefs.{SpellsClassRow, with_places}
-use Rattle.file_assemble.specs.inner.Rows.{SpellsRows}
-use Rattle.file_assemble.specs.inner.Codes.{PacksBody, is_bodiless}
-use Rattle.file_assemble.specs.Data.{code_offs}
-use Rattle.file_assemble.specs.inner.Data.{PacksData, ClassWithCodes, has_no_members, method_count, with_code_places, wide_with_codes}
-use Rattle.file_assemble.specs.inner.Lists.{SpellsRanks}
-use Rattle.file_assemble.proofs.OneBody.{packed_room}
-use Rattle.file_assemble.proofs.DataLengths.{data_length}
-use Rattle.file_assemble.proofs.RankedLists.{gap_four, list_most}
-use Rattle.file_assemble.proofs.SitedLaws.{count_of_bodies, length-sited, room_of_sited}
+use Rattle.file_put.specs.inner.ClassDefs.{SpellsClassRow, with_places}
+use Rattle.file_put.specs.inner.Rows.{SpellsRows}
+use Rattle.file_put.specs.inner.Codes.{PacksBody, is_bodiless}
+use Rattle.file_put.specs.Data.{code_offs}
+use Rattle.file_put.specs.inner.Data.{PacksData, ClassWithCodes, has_no_members, method_count, with_code_places, wide_with_codes}
+use Rattle.file_put.specs.inner.Lists.{SpellsRanks}
+use Rattle.file_put.proofs.OneBody.{packed_room}
+use Rattle.file_put.proofs.DataLengths.{data_length}
+use Rattle.file_put.proofs.RankedLists.{gap_four, list_most}
+use Rattle.file_put.proofs.SitedLaws.{count_of_bodies, length-sited, room_of_sited}
 use Rattle.program_rules.specs.WellFormed.{WellFormed}
 use Rattle.program_types.specs.Content.{Class, Code, Descriptor, OfDesc, OfText, Program, Units, Value}
 use Rattle.program_types.specs.Key.{proto_key, text_key}

@@ -14,8 +14,8 @@ use Rattle.file_layout.specs.inner.Tiles.{Lays, Refers}
 use Rattle.file_layout.proofs.StandLaws.{at_item, even_one}
 use Rattle.tables_names.specs.Closure.{Five, NameRanks}
 use Rattle.program_types.specs.Content.{Name}
-use Rattle.file_assemble.specs.Data.{code_offs}
-use Rattle.file_assemble.specs.inner.Data.{PacksData, ClassWithCodes, has_no_members, method_count}
+use Rattle.file_put.specs.Data.{code_offs}
+use Rattle.file_put.specs.inner.Data.{PacksData, ClassWithCodes, has_no_members, method_count}
 use Rattle.tables_rows.specs.Stands.{NameStands}
 use Rattle.file_write.proofs.Members.{empty_run, entries_spelled, members_stand}
 use Rattle.std.proofs.lemmas.Bool.{and_parts}

@@ -1,6 +1,6 @@
 -- What is assembled is the file of its program.
 use Rattle.std.proofs.Common.{◌≡◌, ◌≢◌, ℕ, zero, suc, ◌≤◌, List, ap, arith, inr}
-use Rattle.file_assemble.specs.inner.Assembled.{Assembled}
+use Rattle.file_put.specs.inner.Assembled.{Assembled}
 use Rattle.dex_base.specs.Fault.{memory}
 use Rattle.dex_base.specs.Fields.{AreBytes}
 use Rattle.dex_base.specs.declared.fault.Fault.{Fault}

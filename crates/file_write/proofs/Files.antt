@@ -4,8 +4,8 @@ use Rattle.std.proofs.lemmas.List.{take-append-drop, nil_from_length}
 use Rattle.std.proofs.lemmas.Option.{slice_get-get_or}
 use Rattle.std.specs.Prelude.{if◌then◌else◌, ◌==◌}
 use Rattle.std.specs.List.{flat_map}
-use Rattle.file_assemble.specs.inner.Assembled.{Assembled}
-use Rattle.file_assemble.proofs.AssembledLaws.{array_count, data_count, list_count, text_count}
+use Rattle.file_put.specs.inner.Assembled.{Assembled}
+use Rattle.file_put.proofs.AssembledLaws.{array_count, data_count, list_count, text_count}
 use Rattle.dex_base.specs.Mutf8.{PacksText}
 use Rattle.dex_base.specs.Leb128.{Shortest}
 use Rattle.file_classes.specs.ClassData.{Entries, EntriesAt}
@@ -27,10 +27,10 @@ use Rattle.tables_names.specs.Rank.{IsAt}
 use Rattle.program_types.specs.Content.{Class, Program, Proto, Value}
 use Rattle.program_types.specs.Key.{proto_key}
 use Rattle.program_rules.specs.WellFormed.{WellFormed}
-use Rattle.file_assemble.specs.inner.Codes.{PacksBody, is_bodiless}
-use Rattle.file_assemble.specs.inner.Data.{PacksData, has_no_members, method_count, with_code_places}
-use Rattle.file_assemble.specs.inner.Lists.{SpellsRanks}
-use Rattle.file_assemble.proofs.SitedLaws.{count_of_bodies, rest_after}
+use Rattle.file_put.specs.inner.Codes.{PacksBody, is_bodiless}
+use Rattle.file_put.specs.inner.Data.{PacksData, has_no_members, method_count, with_code_places}
+use Rattle.file_put.specs.inner.Lists.{SpellsRanks}
+use Rattle.file_put.proofs.SitedLaws.{count_of_bodies, rest_after}
 use Rattle.tables_rows.specs.RowFields.{proto_parameters, string_place}
 use Rattle.dex_value.specs.Spelling.{SpellsArray}
 use Rattle.file_write.proofs.Classes.{data_stands, row}

@@ -4,8 +4,8 @@ use Rattle.std.specs.List.{AllByRecursion, AllZip}
 use Rattle.file_limits.specs.Wide.{bodies_of}
 use Rattle.file_limits.specs.inner.Wide.{body_values}
 use Rattle.program_types.specs.Content.{Class, Code, Program}
-use Rattle.file_assemble.specs.inner.Data.{ClassWithCodes, method_count, with_code_places}
-use Rattle.file_assemble.proofs.SitedLaws.{count_of_bodies, rest_after}
+use Rattle.file_put.specs.inner.Data.{ClassWithCodes, method_count, with_code_places}
+use Rattle.file_put.proofs.SitedLaws.{count_of_bodies, rest_after}
 
 -- ---- two lists, element by element
 

@@ -16,7 +16,7 @@ use Rattle.file_layout.specs.inner.Spans.{Span, has_items, span_at, MapNames}
 use Rattle.file_layout.specs.Tiles.{IsNext, Tiles, gap}
 use Rattle.file_layout.proofs.MapLaws.{Has}
 use Rattle.file_layout.proofs.TileLaws.{Tiles-le}
-use Rattle.file_assemble.proofs.DataParts.{tiles_take}
+use Rattle.file_put.proofs.DataParts.{tiles_take}
 use Rattle.file_write.specs.Packed.{IsPackedSection, MapIsPacked, MapSays, TablesArePacked, table_end}
 use Rattle.file_write.proofs.Sections.{first_place}
 use Rattle.file_layout.proofs.Named.{◌&◌}

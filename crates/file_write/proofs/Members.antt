@@ -6,7 +6,7 @@ use Rattle.dex_base.proofs.WeakerLaws.{Implies, Shortest-weaker, Then-weaker, Pa
 use Rattle.file_classes.specs.ClassData.{FieldEntry, MethodEntry, Entries, counts_of, lists_of, SpellsFieldEntry, SpellsMethodEntry, SpellsCounts, SpellsLists, SpellsEntries, EntriesAre}
 use Rattle.file_classes.specs.Classes.{IsField, IsMethod, MembersAre}
 use Rattle.program_types.specs.Content.{Name, OfField, OfMethod, Descriptor, Member, Method, Class}
-use Rattle.file_assemble.specs.inner.Data.{FieldRanks, MethodRanks, MembersRank}
+use Rattle.file_put.specs.inner.Data.{FieldRanks, MethodRanks, MembersRank}
 use Rattle.tables_rows.specs.Stands.{NameStands}
 
 -- ---- numbers in any spelling

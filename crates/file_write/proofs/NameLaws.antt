@@ -25,11 +25,11 @@ use Rattle.program_types.specs.Kinds.{void}
 use Rattle.program_types.specs.Shorty.{shorty}
 use Rattle.program_rules.specs.WellFormed.{WellFormed}
 use Rattle.program_rules.specs.Valid.{IsValidField, IsValidMethod, IsValidName, IsValidProto, IsValueType}
-use Rattle.file_assemble.specs.inner.Lists.{SpellsRanks}
+use Rattle.file_put.specs.inner.Lists.{SpellsRanks}
 use Rattle.tables_rows.specs.RowFields.{member_class, member_kind, member_name, proto_return, proto_shorty, type_string}
 use Rattle.tables_rows.specs.Stands.{FieldStands, MethodStands, NameStands, ProtoStands, SpellsIndexes, SpellsTypes, StringStands, TypeStands, TypesAt}
-use Rattle.file_assemble.specs.inner.Assembled.{Assembled}
-use Rattle.file_assemble.proofs.NamedLaws.{mentions_hold}
+use Rattle.file_put.specs.inner.Assembled.{Assembled}
+use Rattle.file_put.proofs.NamedLaws.{mentions_hold}
 use Rattle.file_write.proofs.RowLaws.{field_count, field_row, method_count, method_row, proto_count, proto_row, string_count, string_row, type_count, type_row}
 use Rattle.file_write.proofs.ValidNames.{AreValid, IsFieldKey, IsMethodKey, IsProtoKey, IsTypeKey, member_is, needed_valid}
 use Rattle.dex_base.proofs.ListFacts.{slice_left, zip_weaker}

@@ -4,7 +4,7 @@ use Rattle.std.specs.Prelude.{◌↔◌}
 use Rattle.file_read.specs.Means.{Means}
 use Rattle.file_read.proofs.PassLaws.{program_one}
 use Rattle.file_read.proofs.RangeLaws.{well_formed}
-use Rattle.file_assemble.proofs.FileOnce.{file_one as assembled_one}
+use Rattle.file_put.proofs.FileOnce.{file_one as assembled_one}
 use Rattle.program_types.specs.Content.{Program}
 use Rattle.file_write.specs.Written.{IsFileOf, IsStripped}
 use Rattle.file_write.proofs.Converse.{assembled_of}

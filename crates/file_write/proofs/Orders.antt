@@ -4,7 +4,7 @@ use Rattle.std.proofs.lemmas.Option.{slice_get-map}
 use Rattle.std.specs.Prelude.{IfSome}
 use Rattle.file_classes.specs.ClassRows.{InOrder, IndexOrNone, NoneDefines, class_word, no_index}
 use Rattle.file_classes.proofs.EntryLaws.{entry_at}
-use Rattle.file_assemble.specs.inner.ClassDefs.{TypeRanks}
+use Rattle.file_put.specs.inner.ClassDefs.{TypeRanks}
 use Rattle.dex_container.specs.Frame.{IsFramed}
 use Rattle.dex_container.specs.Layout.{size_of}
 use Rattle.dex_container.specs.Where.{AtOrNone}

@@ -4,17 +4,17 @@ use Rattle.std.proofs.lemmas.Bool.{cases_lt}
 use Rattle.std.specs.Prelude.{◌&&◌}
 use Rattle.std.specs.List.{AllByRecursion, flat_map, slice_get}
 use Rattle.code_read.proofs.CarryLaws.{SpellsCode-weaker}
-use Rattle.code_put.proofs.PackedLaws.{packed-spells}
-use Rattle.file_assemble.proofs.FitsLaws.{room_of}
-use Rattle.file_assemble.proofs.OnceLaws.{sited_class, types_apart}
-use Rattle.file_assemble.proofs.ReadyLaws.{class_can}
+use Rattle.code_write.proofs.PackedLaws.{packed-spells}
+use Rattle.file_put.proofs.FitsLaws.{room_of}
+use Rattle.file_put.proofs.OnceLaws.{sited_class, types_apart}
+use Rattle.file_put.proofs.ReadyLaws.{class_can}
 use Rattle.file_classes.specs.ClassData.{Entries, FieldEntry, EntriesAre, MethodEntry, index_of, steps}
 use Rattle.file_limits.specs.Limits.{Fits}
 use Rattle.file_limits.specs.Wide.{bodies_of}
 use Rattle.file_limits.specs.inner.Wide.{body_values}
-use Rattle.file_assemble.specs.inner.Data.{FieldRanks, MembersRank, MethodRanks, PacksData, ClassWithCodes, has_no_members, with_code_places}
-use Rattle.file_assemble.specs.inner.Named.{BodyCanBePut}
-use Rattle.file_assemble.proofs.RankedLists.{named_one}
+use Rattle.file_put.specs.inner.Data.{FieldRanks, MembersRank, MethodRanks, PacksData, ClassWithCodes, has_no_members, with_code_places}
+use Rattle.file_put.specs.inner.Named.{BodyCanBePut}
+use Rattle.file_put.proofs.RankedLists.{named_one}
 use Rattle.program_rules.specs.WellFormed.{WellFormed}
 use Rattle.program_types.specs.Content.{Class, Code, Descriptor, FieldRef, Member, Method, MethodRef, Name, Program, Value}
 use Rattle.program_types.specs.Key.{field_ref_key, method_ref_key, text_key}
@@ -26,8 +26,8 @@ use Rattle.file_write.proofs.Sections.{Reads, Tells}
 use Rattle.dex_base.specs.Leb128.{Shortest}
 use Rattle.file_layout.specs.inner.Sections.{is_empty_list}
 use Rattle.tables_names.specs.Closure.{Five, NameRanks}
-use Rattle.file_assemble.specs.inner.Codes.{PacksBody, is_bodiless}
-use Rattle.file_assemble.specs.inner.Lists.{SpellsRanks}
+use Rattle.file_put.specs.inner.Codes.{PacksBody, is_bodiless}
+use Rattle.file_put.specs.inner.Lists.{SpellsRanks}
 use Rattle.tables_rows.specs.Stands.{NameStands}
 use Rattle.dex_value.specs.Spelling.{SpellsArray}
 use Rattle.dex_value.proofs.Weaker.{SpellsArray-weaker}

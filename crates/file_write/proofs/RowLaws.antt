@@ -7,8 +7,8 @@ use Rattle.dex_base.specs.Words.{words_bytes}
 use Rattle.dex_base.proofs.FieldBounds.{u32_at-fits}
 use Rattle.dex_base.specs.Fields.{u16_at, u32_at}
 use Rattle.file_classes.specs.ClassRows.{IndexOrNone, class_word}
-use Rattle.file_assemble.specs.inner.ClassDefs.{SpellsClassRow, StringRanks, TypeRanks, all_but_first, with_places}
-use Rattle.file_assemble.proofs.PlacedClasses.{first_of, length-seated, others_of}
+use Rattle.file_put.specs.inner.ClassDefs.{SpellsClassRow, StringRanks, TypeRanks, all_but_first, with_places}
+use Rattle.file_put.proofs.PlacedClasses.{first_of, length-seated, others_of}
 use Rattle.dex_container.specs.Frame.{IsFramed}
 use Rattle.dex_container.specs.Layout.{offset_of, size_of}
 use Rattle.file_layout.specs.inner.Header.{HasHeader}
@@ -24,13 +24,13 @@ use Rattle.tables_names.specs.Rank.{IsAt}
 use Rattle.program_types.specs.Content.{Class, Descriptor, FieldRef, MethodRef, Program, Proto, Units}
 use Rattle.program_types.specs.Key.{field_ref_key, method_ref_key, proto_key, text_key}
 use Rattle.program_types.specs.Shorty.{shorty}
-use Rattle.file_assemble.specs.inner.Rows.{SpellsFieldRow, SpellsMethodRow, SpellsRows, SpellsTypeRow}
-use Rattle.file_assemble.proofs.AtLaws as at_index
+use Rattle.file_put.specs.inner.Rows.{SpellsFieldRow, SpellsMethodRow, SpellsRows, SpellsTypeRow}
+use Rattle.file_put.proofs.AtLaws as at_index
 use Rattle.tables_rows.specs.RowFields.{member_class, member_kind, member_name, proto_parameters, proto_return, proto_shorty, row_place, string_place, type_string}
-use Rattle.file_assemble.specs.inner.Assembled.{Assembled, rows_of}
-use Rattle.file_assemble.proofs.AssembledLaws.{class_long, each_long, protos_long, row_count, table_long}
+use Rattle.file_put.specs.inner.Assembled.{Assembled, rows_of}
+use Rattle.file_put.proofs.AssembledLaws.{class_long, each_long, protos_long, row_count, table_long}
 use Rattle.file_write.proofs.FieldLaws.{all_fit, after_halves, file_u16, file_u32, first_half, from_classes, from_fields, from_methods, from_protos, from_strings, from_types, only_u32, places_below, second_half, word_is}
-use Rattle.file_assemble.proofs.AtLaws.{field_size, method_size, type_size}
+use Rattle.file_put.proofs.AtLaws.{field_size, method_size, type_size}
 
 -- class i with its places
 pub seated_is : (p : Program) (lists datas arrays : List ℕ) (i : ℕ) (c : Class) → slice_get p i ≡ Some c

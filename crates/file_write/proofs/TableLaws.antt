@@ -19,14 +19,14 @@ use Rattle.program_types.specs.Content.{Descriptor, FieldRef, MethodRef, Name, O
 use Rattle.program_types.specs.Key.{Key, field_ref_key, method_ref_key, proto_key, text_key}
 use Rattle.program_types.specs.KeyLaws.{ordering_then-equal}
 use Rattle.program_rules.specs.WellFormed.{WellFormed}
-use Rattle.file_assemble.specs.inner.Lists.{SpellsRanks}
+use Rattle.file_put.specs.inner.Lists.{SpellsRanks}
 use Rattle.tables_rows.specs.RowFields.{member_class, member_indices, member_kind, member_name, proto_parameters, proto_return, type_string}
 use Rattle.tables_rows.specs.Sorted.{MemberIsBelow, ProtoIsBelow, RowHolds, RowsHold, StringIsBelow, TablesHold, TypeIsBelow}
 use Rattle.tables_rows.specs.Stands.{FieldStands, MethodStands, NameStands, ProtoStands, SpellsIndexes, StringStands, TypeStands}
 use Rattle.tables_rows.proofs.NameLaws.{field_one, method_one, proto_one}
 use Rattle.tables_rows.proofs.RowReading.{string_one}
 use Rattle.tables_rows.proofs.TypeLists.{protos_below, type_one}
-use Rattle.file_assemble.specs.inner.Assembled.{Assembled}
+use Rattle.file_put.specs.inner.Assembled.{Assembled}
 use Rattle.file_write.specs.Least.{HoldsExactly}
 use Rattle.file_write.proofs.NameLaws.{field_stands, method_stands, name_stands, proto_list, proto_stands, ranks_at, ranks_of, string_stands, type_stands, valid_of}
 use Rattle.file_write.proofs.RowLaws.{field_count, field_row, is_framed, method_count, method_row, proto_count, proto_row, string_count, type_count, type_row}

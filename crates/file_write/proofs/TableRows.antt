@@ -13,9 +13,9 @@ use Rattle.dex_container.specs.Where.{slice}
 use Rattle.file_classes.specs.ClassRows.{IndexOrNone, class_word}
 use Rattle.file_classes.specs.Classes.{RowIs}
 use Rattle.file_classes.proofs.EntryLaws.{entry_at}
-use Rattle.file_assemble.specs.inner.ClassDefs.{ClassWithPlaces, SpellsClassRow, StringRanks, TypeRanks, with_places}
-use Rattle.file_assemble.specs.inner.Rows.{SpellsFieldRow, SpellsMethodRow, SpellsProtoRow, SpellsProtos, SpellsRows, SpellsTable, SpellsTypeRow}
-use Rattle.file_assemble.proofs.PlacedClasses.{length-seated}
+use Rattle.file_put.specs.inner.ClassDefs.{ClassWithPlaces, SpellsClassRow, StringRanks, TypeRanks, with_places}
+use Rattle.file_put.specs.inner.Rows.{SpellsFieldRow, SpellsMethodRow, SpellsProtoRow, SpellsProtos, SpellsRows, SpellsTable, SpellsTypeRow}
+use Rattle.file_put.proofs.PlacedClasses.{length-seated}
 use Rattle.program_types.specs.Content.{Class, Descriptor, FieldRef, MethodRef, OfDesc, OfField, OfMethod, OfText, Program, Proto, Units}
 use Rattle.program_types.specs.Key.{Key, field_ref_key, method_ref_key, proto_key, text_key}
 use Rattle.program_types.specs.Shorty.{shorty}

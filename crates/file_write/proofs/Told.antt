@@ -23,10 +23,10 @@ use Rattle.file_layout.specs.inner.Sections.{is_empty_list, never}
 use Rattle.file_layout.proofs.SectionLaws.{not_none}
 use Rattle.file_limits.specs.Wide.{bodies_in, bodies_of}
 use Rattle.file_limits.specs.inner.Wide.{body_values}
-use Rattle.file_assemble.specs.inner.Codes.{PacksBody, is_bodiless}
-use Rattle.file_assemble.specs.Data.{code_offs}
-use Rattle.file_assemble.specs.inner.Data.{FieldRanks, MembersRank, MethodRanks, PacksData, ClassWithCodes, has_no_members, method_count, with_code_places}
-use Rattle.file_assemble.specs.inner.Lists.{SpellsRanks}
+use Rattle.file_put.specs.inner.Codes.{PacksBody, is_bodiless}
+use Rattle.file_put.specs.Data.{code_offs}
+use Rattle.file_put.specs.inner.Data.{FieldRanks, MembersRank, MethodRanks, PacksData, ClassWithCodes, has_no_members, method_count, with_code_places}
+use Rattle.file_put.specs.inner.Lists.{SpellsRanks}
 use Rattle.program_types.specs.Content.{Class, Code, Descriptor, Member, Method, Name, OfDesc, OfField, OfMethod, Program, Units, Value}
 use Rattle.program_types.specs.Key.{text_key}
 use Rattle.tables_names.specs.Closure.{Five, NameRanks}

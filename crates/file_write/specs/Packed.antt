@@ -7,14 +7,14 @@ use Rattle.dex_base.specs.Fields.{AreBytes, u16_at, u32_at}
 use Rattle.dex_base.specs.Leb128.{Spells, Shortest}
 use Rattle.file_classes.specs.ClassData.{Entries, EntriesAt, SpellsEntries}
 use Rattle.file_classes.specs.ClassRows.{annotations_off, class_data_off, interfaces_off, static_values_off}
-use Rattle.code_put.specs.Packs.{PacksCode}
+use Rattle.code_write.specs.Packs.{PacksCode}
 use Rattle.code_read.specs.Code.{SpellsCode}
 use Rattle.dex_container.specs.Layout.{size_of, offset_of, row_bytes, map_place, map_end, entry_count, entry_place, kind_at, items_at, place_at, data_begin, data_end}
 use Rattle.dex_container.specs.Section as section
 use Rattle.file_layout.specs.Parts.{IsWrittenKind}
 use Rattle.file_layout.specs.Tiles.{Among, Tiles, IsNext, distinct_places}
 use Rattle.program_types.specs.Content.{Code, Value}
-use Rattle.file_assemble.specs.Data.{code_offs}
+use Rattle.file_put.specs.Data.{code_offs}
 use Rattle.tables_rows.specs.Names.{AreRows}
 use Rattle.tables_rows.specs.RowFields.{string_place, proto_parameters}
 use Rattle.tables_rows.specs.Stands.{NameStands, SpellsIndexes}

@@ -1,7 +1,7 @@
 //! Laws of the file of a program and of a stripped file, each the contract of a function that does nothing.
 //! Page: "Dalvik Executable format", "File layout".
 ghost use Rattle.std.specs.Prelude.{◌≡◌, ℕ, ◌<◌, ◌↔◌, List};
-ghost use Rattle.file_assemble.specs.inner.Assembled.{Assembled};
+ghost use Rattle.file_put.specs.inner.Assembled.{Assembled};
 ghost use Rattle.file_classes.specs.ClassRows.{InOrder};
 ghost use Rattle.file_classes.specs.Classes.{SpellsClass};
 ghost use Rattle.dex_container.specs.Frame.{IsFramed};

@@ -11,7 +11,7 @@ ghost use Rattle.file_write.specs.Written.{IsFileOf, IsStripped, IsStripRefused}
 
 use dex_base::{Fault, Seed, are_bytes};
 use dex_container::open;
-use file_assemble::assemble;
+use file_put::assemble;
 use file_read::check_framed;
 use file_strip::strip_framed;
 use program_types::Program;

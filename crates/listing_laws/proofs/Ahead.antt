@@ -11,9 +11,9 @@ use Rattle.listing_words.specs.inner.Words.{IsWritable, line_bytes}
 use Rattle.listing_slots.specs.Keys.{key_text, same}
 use Rattle.listing_slots.proofs.ShownLaws.{same_refl}
 use Rattle.listing_lines.specs.declared.form.Form.TheVariants.{Two}
-use Rattle.listing_labels.specs.Lines.{lines}
-use Rattle.listing_labels.specs.Labels.{Label, lookup, with_label, first_word, is_stop, is_mark, labels_ahead}
-use Rattle.listing_labels.proofs.AheadLaws.{ahead_marks, ahead_counts}
+use Rattle.listing_lines.specs.Splitting.{lines}
+use Rattle.listing_lines.specs.Labels.{Label, lookup, with_label, first_word, is_stop, is_mark, labels_ahead}
+use Rattle.listing_lines.proofs.AheadLaws.{ahead_marks, ahead_counts}
 use Rattle.listing_print.specs.Operands.{insn_operands, label_name}
 use Rattle.listing_print.specs.Printed.{insn_word, insn_text, label_text}
 use Rattle.listing_print.specs.Canon.{is_named, label_if_named, insns_text}
@@ -25,7 +25,7 @@ use Rattle.listing_laws.proofs.InsnRuns.{insn_words, insn_is, insn_is_other, ins
 use Rattle.listing_words.proofs.PrintLaws.{starts, up_to_end}
 use Rattle.dex_base.proofs.ListFacts.{by_kind}
 use Rattle.listing_slots.proofs.KeyLaws.{same_true}
-use Rattle.listing_labels.proofs.LookLaws.{look_after, with_new}
+use Rattle.listing_lines.proofs.LookLaws.{look_after, with_new}
 
 -- ---- the labels that are printed
 

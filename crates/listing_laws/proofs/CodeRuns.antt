@@ -12,7 +12,7 @@ use Rattle.listing_lines.specs.declared.form.Form.TheVariants.{One, Two}
 use Rattle.listing_lines.specs.Needs.{Need, with_need, insn_needs}
 use Rattle.listing_lines.specs.Places.{is_insns}
 use Rattle.listing_parse.specs.States.{State, Open, OpenBody, stage_of, counted, add, inside}
-use Rattle.listing_labels.specs.Labels.{Label, lookup}
+use Rattle.listing_lines.specs.Labels.{Label, lookup}
 use Rattle.listing_parse.specs.Text.{line_of_form}
 use Rattle.listing_parse.specs.declared.form_line.FormLine.TheVariants.{Mark}
 use Rattle.listing_print.specs.Operands.{insn_operands, label_name}

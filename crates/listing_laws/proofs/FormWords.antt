@@ -18,7 +18,7 @@ use Rattle.listing_slots.specs.inner.Shown.{FitsSlot}
 use Rattle.listing_slots.proofs.ShownLaws.{shown_says, shown_written, number_written}
 use Rattle.listing_lines.specs.declared.form.Form.{Form}
 use Rattle.listing_lines.specs.declared.form.Form.TheVariants.{One, Two}
-use Rattle.listing_labels.specs.Labels.{Label, is_name_byte, are_name_bytes, is_label, lookup, marked_by, SpellsHere, SpellsAll}
+use Rattle.listing_lines.specs.Labels.{Label, is_name_byte, are_name_bytes, is_label, lookup, marked_by, SpellsHere, SpellsAll}
 use Rattle.listing_parse.specs.Forms.{SpellsInForm}
 use Rattle.listing_print.specs.Operands.{Operand, label_name, operand_text, operand_text_in, shown_in}
 use Rattle.listing_print.specs.inner.Reading.{slots_of, data_of, words_in, FitOperands}

@@ -14,7 +14,7 @@ use Rattle.listing_slots.specs.Slots.{SpellsSlots}
 use Rattle.listing_slots.specs.declared.due.Due.{Due}
 use Rattle.listing_slots.specs.declared.due.Due.TheVariants as due
 use Rattle.listing_slots.specs.Shapes.{Row, field_slots, given_row, slot_at, key_slot, due_after, due_of_key, due_after_close, due_after_key, due_after_word, is_whole, value_slots}
-use Rattle.listing_labels.specs.Labels.{Label, SpellsAll, SpellsBy, is_target}
+use Rattle.listing_lines.specs.Labels.{Label, SpellsAll, SpellsBy, is_target}
 use Rattle.listing_laws.proofs.WordRuns.{whole_of, more_of}
 
 -- no target stands in the slots

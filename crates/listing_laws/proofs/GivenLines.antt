@@ -18,7 +18,7 @@ use Rattle.listing_lines.specs.Lines.{line_of, static_line, value_of, member_of}
 use Rattle.listing_print.proofs.RowLaws.{past_three}
 use Rattle.listing_lines.specs.declared.form.Form.{Form}
 use Rattle.listing_lines.specs.declared.form.Form.TheVariants.{One, Two}
-use Rattle.listing_labels.specs.Labels.{Label}
+use Rattle.listing_lines.specs.Labels.{Label}
 use Rattle.listing_parse.specs.Forms.{HasShapeInForm, SpellsInForm}
 use Rattle.listing_laws.proofs.FreeSlots.{AreFree, row_is_free, value_is_free, said_here, said_anywhere}
 use Rattle.listing_laws.specs.inner.Values.{word_of_key, SayGiven, IsReadAsValue, IsReadAsLine}

@@ -30,8 +30,8 @@ use Rattle.listing_lines.specs.declared.form.Form.{Form}
 use Rattle.listing_lines.specs.declared.form.Form.TheVariants.{One, Two}
 use Rattle.listing_lines.specs.Places.{may_stand, is_insn, is_insns, is_start}
 use Rattle.listing_parse.specs.States.{State, stage_of, insn_count, counted, add}
-use Rattle.listing_labels.specs.Lines.{is_skipped}
-use Rattle.listing_labels.specs.Labels.{Label, is_mark, is_stop}
+use Rattle.listing_lines.specs.Splitting.{is_skipped}
+use Rattle.listing_lines.specs.Labels.{Label, is_mark, is_stop}
 use Rattle.listing_parse.specs.declared.form_line.FormLine.TheVariants as line_of_form
 use Rattle.listing_parse.specs.Text.{TakesLine, LineSays, is_second, line_of_form, labels_after}
 use Rattle.listing_print.specs.Operands.{insn_operands, operand_text_in}

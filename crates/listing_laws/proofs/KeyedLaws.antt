@@ -20,8 +20,8 @@ use Rattle.listing_lines.specs.Forms.{is_two}
 use Rattle.listing_lines.specs.declared.form.Form.{Form}
 use Rattle.listing_lines.specs.declared.form.Form.TheVariants.{One, Two}
 use Rattle.listing_parse.specs.States.{State, stage_of, counted, add}
-use Rattle.listing_labels.specs.Lines.{lines, is_skipped}
-use Rattle.listing_labels.specs.Labels.{Label}
+use Rattle.listing_lines.specs.Splitting.{lines, is_skipped}
+use Rattle.listing_lines.specs.Labels.{Label}
 use Rattle.listing_parse.specs.Forms.{HasShapeInForm, may_stand_in_form}
 use Rattle.listing_parse.specs.Text.{Reading, TakesLine, Reads, is_second, begins_mark, line_of_mark, line_of_form, labels_after}
 use Rattle.listing_parse.specs.declared.form_line.FormLine.{FormLine}

@@ -9,7 +9,7 @@ use Rattle.listing_words.specs.Texts.{glyph, escape_text, unit_text}
 use Rattle.listing_words.specs.Words.{Word, plain_word, text_in_quotes, IsGraphic, word_bytes}
 use Rattle.listing_words.specs.inner.Words.{IsWritable, line_bytes}
 use Rattle.listing_parse.specs.States.{at_top, State, start}
-use Rattle.listing_labels.specs.Lines.{lines}
+use Rattle.listing_lines.specs.Splitting.{lines}
 use Rattle.listing_parse.specs.Text.{Reading, TakesLine, Reads, IsListing}
 use Rattle.listing_lines.specs.declared.form.Form.TheVariants.{One}
 use Rattle.listing_laws.proofs.Runs.{Frame, bare, at, RunsInto, RunsTo}

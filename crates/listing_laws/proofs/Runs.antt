@@ -4,9 +4,9 @@ use Rattle.std.specs.List.{AllByRecursion}
 use Rattle.program_types.specs.Content.{Catch, Try, Class}
 use Rattle.listing_lines.specs.Needs.{Need}
 use Rattle.listing_parse.specs.States.{State, Open, ClassPart, OpenBody, CodePart, at_insns, in_try, at_top, in_class, in_code, all_tries}
-use Rattle.listing_labels.specs.Lines.{lines}
+use Rattle.listing_lines.specs.Splitting.{lines}
 use Rattle.listing_lines.specs.declared.form.Form.{Form}
-use Rattle.listing_labels.specs.Labels.{Label}
+use Rattle.listing_lines.specs.Labels.{Label}
 use Rattle.listing_parse.specs.Text.{Reading, Reads}
 
 -- What holds beside the state: the form of the listing, and the labels of the open code.

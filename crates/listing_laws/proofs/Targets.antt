@@ -11,7 +11,7 @@ use Rattle.listing_slots.specs.declared.key.Key.TheVariants as key
 use Rattle.listing_lines.specs.Needs.{most_needed, insn_needs}
 use Rattle.listing_lines.specs.declared.form.Form.{Form}
 use Rattle.listing_lines.specs.declared.form.Form.TheVariants.{One, Two}
-use Rattle.listing_labels.specs.Labels.{Label, lookup, marked_by}
+use Rattle.listing_lines.specs.Labels.{Label, lookup, marked_by}
 use Rattle.listing_print.specs.Operands.{Operand, keyword, v4, to, name_operand, label_name, pair_operands, element_operands, insn_operands}
 use Rattle.listing_print.specs.Canon.{try_numbers, code_numbers, is_named}
 use Rattle.listing_print.specs.inner.Reading.{FitOperands}

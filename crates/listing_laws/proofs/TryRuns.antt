@@ -13,7 +13,7 @@ use Rattle.listing_print.specs.Canon.{all_numbers, try_numbers, is_named, catche
 use Rattle.listing_print.specs.inner.Reading.{FitOperands}
 use Rattle.listing_lines.specs.declared.form.Form.{Form}
 use Rattle.listing_lines.specs.declared.form.Form.TheVariants.{One, Two}
-use Rattle.listing_labels.specs.Labels.{Label}
+use Rattle.listing_lines.specs.Labels.{Label}
 use Rattle.listing_laws.proofs.Runs.{Frame, RunsTo, NeedsFit, coding, trying, with_handlers, Tried}
 use Rattle.listing_laws.proofs.Printable.{CatchFits, CatchAllFits, TryFits}
 use Rattle.listing_laws.proofs.RunLaws.{runs_join}

@@ -18,9 +18,9 @@ use Rattle.listing_lines.specs.declared.form.Form.TheVariants.{One, Two}
 use Rattle.listing_lines.specs.Places.{may_stand}
 use Rattle.listing_lines.specs.Needs.{Need, first_late}
 use Rattle.listing_parse.specs.States.{Open, Owner, OpenBody, CodePart, after_method, at_members, at_insns, add, all_tries, begun, with_tries, whole_code, with_code_at}
-use Rattle.listing_labels.specs.Lines.{lines, is_skipped}
-use Rattle.listing_labels.specs.Labels.{Label, first_word, is_stop, labels_ahead}
-use Rattle.listing_labels.proofs.AheadLaws.{ahead_stops}
+use Rattle.listing_lines.specs.Splitting.{lines, is_skipped}
+use Rattle.listing_lines.specs.Labels.{Label, first_word, is_stop, labels_ahead}
+use Rattle.listing_lines.proofs.AheadLaws.{ahead_stops}
 use Rattle.listing_parse.specs.Text.{Reading, Reads, labels_after}
 use Rattle.listing_print.specs.Printed.{line_operands, keyed_text, keyed_text_in}
 use Rattle.listing_print.specs.Canon.{try_numbers, code_numbers, insns_text, catches_text, catch_all_text, try_text, code_text}

@@ -6,7 +6,7 @@ ghost use Rattle.listing_words.specs.Words.{Word};
 ghost use Rattle.listing_slots.specs.declared.key.Key.TheVariants.{Static};
 ghost use Rattle.listing_lines.specs.Lines.{static_line};
 ghost use Rattle.listing_lines.specs.declared.form.Form.{Form};
-ghost use Rattle.listing_labels.specs.Labels.{Label};
+ghost use Rattle.listing_lines.specs.Labels.{Label};
 ghost use Rattle.listing_laws.specs.inner.Values.{word_of_key, SaysValue, SayGiven, IsReadAsValue, IsReadAsLine};
 
 /// Words are read as a value exactly if they say it: its keyword and its operand, an array's values between braces. So a

@@ -1,2 +1,7 @@
 pub mod LineLaws
 pub mod MakingLaws
+pub mod SplitLaws
+pub mod AheadLaws
+pub mod SpellLaws
+pub mod LookLaws
+pub mod OrderLaws

@@ -3,3 +3,6 @@ pub mod LineView
 pub mod Lines
 pub mod MakingView
 pub mod NeedView
+pub mod Labels
+pub mod Order
+pub mod View

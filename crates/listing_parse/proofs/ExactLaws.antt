@@ -9,9 +9,9 @@ use Rattle.listing_words.proofs.WordLaws.{words_one}
 use Rattle.listing_slots.specs.declared.slot.Slot.{Slot}
 use Rattle.listing_slots.specs.Data.{Datum}
 use Rattle.listing_slots.specs.Shapes.{Shape}
-use Rattle.listing_labels.specs.Lines.{lines, is_skipped}
-use Rattle.listing_labels.specs.Labels.{Label}
-use Rattle.listing_labels.proofs.SpellLaws.{here_one, here_bad}
+use Rattle.listing_lines.specs.Splitting.{lines, is_skipped}
+use Rattle.listing_lines.specs.Labels.{Label}
+use Rattle.listing_lines.proofs.SpellLaws.{here_one, here_bad}
 use Rattle.listing_lines.specs.declared.form.Form.{Form}
 use Rattle.listing_lines.specs.declared.form.Form.TheVariants.{One, Two}
 use Rattle.listing_parse.specs.Forms.{HasShapeInForm, may_stand_in_form, SpellsInForm, MisspellsInForm}

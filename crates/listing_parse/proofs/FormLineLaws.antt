@@ -1,9 +1,9 @@
 -- Lines that say nothing of the program.
 use Rattle.std.proofs.Common.{◌≡◌, ◌≢◌, ℕ, ◌==◌, Bool, true, false, List, [], ◌∷◌, Option, Some, None, length, map, refl, ap, ◌∙◌, arith, codes}
 use Rattle.std.proofs.lemmas.Bool.{eq-eqb, ne_eqb}
-use Rattle.listing_labels.specs.Labels.{Label, is_label, lookup}
-use Rattle.listing_labels.specs.inner.View.{place_in}
-use Rattle.listing_labels.specs.declared.known.Place.{Place}
+use Rattle.listing_lines.specs.Labels.{Label, is_label, lookup}
+use Rattle.listing_lines.specs.inner.View.{place_in}
+use Rattle.listing_lines.specs.declared.known.Place.{Place}
 use Rattle.listing_parse.specs.States.{stage_of}
 use Rattle.listing_lines.specs.Forms.{is_two}
 use Rattle.listing_lines.specs.Places.{is_start, is_insns}

@@ -16,7 +16,7 @@ use Rattle.program_rules.specs.Rules.{method_key}
 use Rattle.listing_parse.specs.Members.{is_held, put_in}
 use Rattle.listing_parse.specs.States.{with_code}
 use Rattle.listing_parse.specs.Classes.{Rise, AreSorted}
-use Rattle.listing_labels.proofs.OrderLaws.{lt_less}
+use Rattle.listing_lines.proofs.OrderLaws.{lt_less}
 use Rattle.dex_base.proofs.ListFacts.{by_kind, all_weaker}
 
 -- ---- keys
@@ -167,11 +167,11 @@ module _ {X : Type 0} (key : X → Key) where
 
 -- ---- a method with its code
 
-pub code_put : (m : Method) (c : Code) (ms : List Method) → is_held method_key (method_key m) ms ≡ false → with_code (put_in method_key m ms) (method_key m) c ≡ put_in method_key (record m { code = Some c }) ms
-code_put m c [] n = rw (tied (method_key m)) refl
-code_put m c (y ∷ ms) n =
+pub code_write : (m : Method) (c : Code) (ms : List Method) → is_held method_key (method_key m) ms ≡ false → with_code (put_in method_key m ms) (method_key m) c ≡ put_in method_key (record m { code = Some c }) ms
+code_write m c [] n = rw (tied (method_key m)) refl
+code_write m c (y ∷ ms) n =
     let o = key_cmp (method_key m) (method_key y) in
     elim (by_kind (is_lt o)) [
       | inl e ↦ rw (e, tied (method_key m)) refl
-      | inr e ↦ rw (e, first_false (is_eq (key_cmp (method_key m) (method_key y))) (is_held method_key (method_key m) ms) n) (ap (λ l. y ∷ l) (code_put m c ms (second_false (is_eq o) (is_held method_key (method_key m) ms) n)))
+      | inr e ↦ rw (e, first_false (is_eq (key_cmp (method_key m) (method_key y))) (is_held method_key (method_key m) ms) n) (ap (λ l. y ∷ l) (code_write m c ms (second_false (is_eq o) (is_held method_key (method_key m) ms) n)))
     ]

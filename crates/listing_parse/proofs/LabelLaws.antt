@@ -17,9 +17,9 @@ use Rattle.listing_lines.specs.Places.{is_insn}
 use Rattle.listing_lines.specs.declared.form.Form.{Form}
 use Rattle.listing_lines.specs.declared.form.Form.TheVariants.{One, Two}
 use Rattle.listing_parse.specs.States.{is_among}
-use Rattle.listing_labels.specs.Lines.{is_skipped}
-use Rattle.listing_labels.specs.Labels.{Label, is_label, is_mark, lookup, with_label, first_word, is_stop, labels_ahead}
-use Rattle.listing_labels.proofs.AheadLaws.{ahead_skips, ahead_stops, ahead_marks, ahead_counts}
+use Rattle.listing_lines.specs.Splitting.{is_skipped}
+use Rattle.listing_lines.specs.Labels.{Label, is_label, is_mark, lookup, with_label, first_word, is_stop, labels_ahead}
+use Rattle.listing_lines.proofs.AheadLaws.{ahead_skips, ahead_stops, ahead_marks, ahead_counts}
 use Rattle.listing_parse.specs.Text.{begins_mark}
 use Rattle.listing_parse.specs.Codes.{Numbered}
 use Rattle.listing_parse.specs.Classes.{NoneTwice}
@@ -28,7 +28,7 @@ use Rattle.listing_parse.proofs.SecondFormLaws.{none_each, found_same, no_line_o
 use Rattle.listing_parse.proofs.HeadLaws.{same_true, distinct_last}
 use Rattle.listing_parse.proofs.LineSteps.{insn_said, insn_as, labels_by}
 use Rattle.dex_base.proofs.ListFacts.{by_kind}
-use Rattle.listing_labels.proofs.LookLaws.{look_after, with_new}
+use Rattle.listing_lines.proofs.LookLaws.{look_after, with_new}
 
 -- ---- names of labels
 

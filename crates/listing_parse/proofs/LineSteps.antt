@@ -16,8 +16,8 @@ use Rattle.listing_lines.specs.declared.stage.Stage.{Stage}
 use Rattle.listing_lines.specs.declared.stage.Stage.TheVariants.{Insns, Tries, Caught}
 use Rattle.listing_parse.specs.States.{Open, ClassPart, at_heads, at_members, after_method, at_insns, after_try, in_try, Block, at_start, at_top, in_class, in_code, State, stage_of, insn_count, opened, closed, begun, noted, with_insn, with_tries, whole_code, with_code_at, class_of, owner_of, with_body, code_ended, late_in, with_block, counted, inside, add}
 use Rattle.listing_lines.specs.Needs.{first_late, earliest}
-use Rattle.listing_labels.specs.Lines.{is_skipped}
-use Rattle.listing_labels.specs.Labels.{Label, labels_ahead}
+use Rattle.listing_lines.specs.Splitting.{is_skipped}
+use Rattle.listing_lines.specs.Labels.{Label, labels_ahead}
 use Rattle.listing_parse.specs.Forms.{HasShapeInForm, may_stand_in_form}
 use Rattle.listing_parse.specs.Text.{Reading, is_second, line_of_form, labels_after, LineSays, TakesLine}
 use Rattle.listing_parse.specs.declared.form_line.FormLine.TheVariants.{Nothing}

@@ -17,7 +17,7 @@ use Rattle.listing_lines.specs.Places.{is_insn, is_start}
 use Rattle.listing_lines.specs.declared.form.Form.{Form}
 use Rattle.listing_lines.specs.declared.form.Form.TheVariants.{One, Two}
 use Rattle.listing_parse.specs.States.{Block, at_start, at_top, in_code, State, stage_of, add}
-use Rattle.listing_labels.specs.Lines.{lines, is_skipped}
+use Rattle.listing_lines.specs.Splitting.{lines, is_skipped}
 use Rattle.listing_parse.specs.Text.{Reading, is_second, line_of_form, in_second, LineSays, AddsLine, TakesLine, Reads, IsListing}
 use Rattle.listing_parse.specs.declared.form_line.FormLine.TheVariants.{Nothing, First, Mark}
 use Rattle.listing_parse.specs.Codes.{Numbered, said}

@@ -15,7 +15,7 @@ use Rattle.listing_parse.specs.Classes.{at_most_one, ListedMember, static_entry,
 use Rattle.listing_parse.specs.inner.Runs.{at_line, Steps, Runs, is_outside, with_its_code}
 use Rattle.listing_parse.proofs.LateLaws.{earliest_none, none_late, all_lead, neither_late, runs_late}
 use Rattle.listing_parse.proofs.CodeLaws.{again, code_read, text_runs}
-use Rattle.listing_parse.proofs.HeldLaws.{ArePut, code_put}
+use Rattle.listing_parse.proofs.HeldLaws.{ArePut, code_write}
 use Rattle.listing_parse.proofs.Numbering.{Splits, Front, more_front, front_then, Behind, goes, starts, splits, none_said, length_after, within, after_class, class_open}
 use Rattle.listing_parse.proofs.StageLaws.{class_goes_on}
 
@@ -99,13 +99,13 @@ direct_coded : (o : Open) (m : Method) (c : Option Code) → is_held method_key 
     → coded (record o { directs = put_in method_key m o.directs }) (direct_owner m) c ≡ record o { directs = put_in method_key (method_with m c) o.directs }
 unfolding direct_owner
 direct_coded o m None h = refl
-direct_coded o m (Some c) h = ap (λ ms. record o { directs = ms }) (code_put m c o.directs h)
+direct_coded o m (Some c) h = ap (λ ms. record o { directs = ms }) (code_write m c o.directs h)
 
 virtual_coded : (o : Open) (m : Method) (c : Option Code) → is_held method_key (method_key m) o.virtuals ≡ false
     → coded (record o { virtuals = put_in method_key m o.virtuals }) (virtual_owner m) c ≡ record o { virtuals = put_in method_key (method_with m c) o.virtuals }
 unfolding virtual_owner
 virtual_coded o m None h = refl
-virtual_coded o m (Some c) h = ap (λ ms. record o { virtuals = ms }) (code_put m c o.virtuals h)
+virtual_coded o m (Some c) h = ap (λ ms. record o { virtuals = ms }) (code_write m c o.virtuals h)
 
 -- ---- what is read is the text of members
 

@@ -10,8 +10,8 @@ use Rattle.listing_words.proofs.WordLaws.{words_one}
 use Rattle.listing_slots.specs.declared.slot.Slot.{Slot}
 use Rattle.listing_slots.specs.Slots.{MisspellsSlots}
 use Rattle.listing_slots.specs.Shapes.{Shape}
-use Rattle.listing_labels.specs.Lines.{lines}
-use Rattle.listing_labels.specs.Labels.{Label, MisspellsAll}
+use Rattle.listing_lines.specs.Splitting.{lines}
+use Rattle.listing_lines.specs.Labels.{Label, MisspellsAll}
 use Rattle.listing_lines.specs.declared.form.Form.{Form}
 use Rattle.listing_lines.specs.declared.form.Form.TheVariants.{One, Two}
 use Rattle.listing_parse.specs.Forms.{HasShapeInForm, may_stand_in_form, MisspellsInForm}

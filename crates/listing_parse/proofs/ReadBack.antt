@@ -11,9 +11,9 @@ use Rattle.listing_lines.specs.declared.form.Form.{Form}
 use Rattle.listing_lines.specs.declared.form.Form.TheVariants.{One, Two}
 use Rattle.listing_lines.specs.declared.stage.Stage.TheVariants.{Insns, Tries, Caught}
 use Rattle.listing_parse.specs.States.{Block, at_start, State, stage_of, insn_count, counted}
-use Rattle.listing_labels.specs.Lines.{is_skipped}
-use Rattle.listing_labels.specs.Labels.{Label, is_label, lookup, with_label, labels_ahead}
-use Rattle.listing_labels.proofs.AheadLaws.{ahead_skips}
+use Rattle.listing_lines.specs.Splitting.{is_skipped}
+use Rattle.listing_lines.specs.Labels.{Label, is_label, lookup, with_label, labels_ahead}
+use Rattle.listing_lines.proofs.AheadLaws.{ahead_skips}
 use Rattle.listing_parse.specs.Text.{Reading, is_second, begins_mark, is_on, line_of_mark, line_of_form, in_second, LineSays, AddsLine, TakesLine, Reads}
 use Rattle.listing_parse.specs.declared.form_line.FormLine.TheVariants.{Nothing, Refused, First, Mark}
 use Rattle.listing_parse.specs.Codes.{Numbered}
@@ -25,7 +25,7 @@ use Rattle.listing_parse.proofs.HeadLaws.{distinct_more}
 use Rattle.listing_parse.proofs.LineSteps.{rd, insn_said, labels_by, out, insns, later, part_of, part_after, part_moves, out_is, insns_is, later_is, renumbered, line_step}
 use Rattle.listing_parse.proofs.LabelLaws.{not_named, names_append, look_front, found_le, ahead_extends, label_ahead, insn_ahead, end_ahead, ends_insns, NoLabels}
 use Rattle.listing_parse.proofs.ReadOn.{same_labels, within_place, none_by, end_by, out_goes}
-use Rattle.listing_labels.proofs.LookLaws.{with_new}
+use Rattle.listing_lines.proofs.LookLaws.{with_new}
 
 -- ---- what an line_of_form tells
 

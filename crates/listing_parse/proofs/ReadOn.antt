@@ -9,7 +9,7 @@ use Rattle.listing_lines.specs.Forms.{is_two}
 use Rattle.listing_lines.specs.declared.form.Form.{Form}
 use Rattle.listing_lines.specs.declared.form.Form.TheVariants.{One, Two}
 use Rattle.listing_parse.specs.States.{Block, State, stage_of, insn_count, counted}
-use Rattle.listing_labels.specs.Labels.{Label, is_label, lookup}
+use Rattle.listing_lines.specs.Labels.{Label, is_label, lookup}
 use Rattle.listing_parse.specs.Text.{Reading, is_on, line_of_form, TakesLine, Reads}
 use Rattle.listing_parse.specs.declared.form_line.FormLine.TheVariants.{Mark}
 use Rattle.listing_parse.specs.Codes.{Numbered}

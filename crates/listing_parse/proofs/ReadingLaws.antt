@@ -9,7 +9,7 @@ use Rattle.listing_parse.specs.declared.block.Block.{Block}
 use Rattle.listing_parse.specs.declared.block.Block.TheVariants.{Top}
 use Rattle.listing_parse.specs.declared.draft.Draft.{Draft}
 use Rattle.listing_parse.specs.States.{at_top, State}
-use Rattle.listing_labels.specs.Lines.{lines}
+use Rattle.listing_lines.specs.Splitting.{lines}
 use Rattle.listing_parse.specs.Text.{Reading, begin, line_counted, TakesLine, Reads, IsListing, LineIsRefused, IsBadLine, ListingBreaks}
 use Rattle.listing_parse.specs.inner.Text.{IsFinished, IsUnfinished}
 use Rattle.listing_parse.specs.inner.View.{block, state}

@@ -5,7 +5,7 @@ use Rattle.listing_slots.specs.Data.{Datum}
 use Rattle.listing_slots.specs.Shapes.{Shape}
 use Rattle.listing_lines.specs.Lines.{line_of}
 use Rattle.listing_parse.specs.States.{State, add}
-use Rattle.listing_labels.specs.Lines.{is_skipped}
+use Rattle.listing_lines.specs.Splitting.{is_skipped}
 use Rattle.listing_parse.specs.Forms.{HasShapeInForm, may_stand_in_form, SpellsInForm, MisspellsInForm}
 use Rattle.listing_parse.specs.Text.{Reading, line_of_form, labels_after, LineSays, IsUnsaid, LineIsRefused}
 use Rattle.listing_parse.specs.declared.form_line.FormLine.TheVariants.{Nothing}

@@ -9,7 +9,7 @@ use Rattle.listing_slots.specs.declared.slot.Slot.{Slot}
 use Rattle.listing_slots.specs.Keys.{key_text, same, find_key, lead_keys, payload_keys}
 use Rattle.listing_slots.specs.Slots.{has_form, have_forms}
 use Rattle.listing_slots.specs.Shapes.{Row, Shape, IsInsnRow, HasBareShape, key_row}
-use Rattle.listing_labels.specs.Labels.{is_mark}
+use Rattle.listing_lines.specs.Labels.{is_mark}
 use Rattle.listing_parse.specs.Text.{is_second, begins_mark}
 use Rattle.listing_slots.proofs.ShapeLaws.{all_at}
 use Rattle.listing_slots.proofs.KeyLaws.{same_true}

@@ -33,8 +33,8 @@ use Rattle.listing_slots.specs.Shapes.{Shape, HasBareShape, before_close, name_s
 use Rattle.listing_slots.specs.inner.ValidNames.{Spellings}
 use Rattle.listing_slots.proofs.ShapeLaws.{all_at, bare_shape}
 use Rattle.listing_slots.proofs.ShownLaws.{is_word, word_written, digits_graphic, digits_written, front_written}
-use Rattle.listing_labels.specs.Labels.{Label, SpellsLabel, SpellsAll}
-use Rattle.listing_labels.specs.Lines.{is_comment, is_skipped}
+use Rattle.listing_lines.specs.Labels.{Label, SpellsLabel, SpellsAll}
+use Rattle.listing_lines.specs.Splitting.{is_comment, is_skipped}
 use Rattle.listing_lines.specs.Lines.{insn_line, insn_of, line_of}
 use Rattle.listing_lines.specs.Forms.{is_two}
 use Rattle.listing_lines.specs.Places.{is_insns, may_stand}

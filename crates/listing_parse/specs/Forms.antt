@@ -5,7 +5,7 @@ use Rattle.listing_words.specs.Words.{Word}
 use Rattle.listing_slots.specs.declared.slot.Slot.{Slot}
 use Rattle.listing_slots.specs.Data.{Datum}
 use Rattle.listing_slots.specs.Slots.{SpellsSlots, MisspellsSlots}
-use Rattle.listing_labels.specs.Labels.{Label, SpellsAll, MisspellsAll}
+use Rattle.listing_lines.specs.Labels.{Label, SpellsAll, MisspellsAll}
 use Rattle.listing_slots.specs.Shapes.{Shape, HasShape, HasBareShape}
 use Rattle.listing_lines.specs.Places.{may_stand}
 use Rattle.listing_lines.specs.declared.form.Form.{Form}

@@ -14,8 +14,8 @@ use Rattle.listing_lines.specs.Lines.{line_of}
 use Rattle.listing_lines.specs.Places.{is_start, is_insns}
 use Rattle.listing_lines.specs.Forms.{is_two}
 use Rattle.listing_parse.specs.States.{at_top, State, start, stage_of, counted, add}
-use Rattle.listing_labels.specs.Lines.{lines, is_skipped}
-use Rattle.listing_labels.specs.Labels.{Label, is_label, is_mark, lookup, labels_ahead}
+use Rattle.listing_lines.specs.Splitting.{lines, is_skipped}
+use Rattle.listing_lines.specs.Labels.{Label, is_label, is_mark, lookup, labels_ahead}
 use Rattle.listing_parse.specs.Forms.{HasShapeInForm, may_stand_in_form, SpellsInForm, MisspellsInForm}
 use Rattle.listing_lines.specs.declared.form.Form.{Form}
 use Rattle.listing_lines.specs.declared.form.Form.TheVariants.{One, Two}

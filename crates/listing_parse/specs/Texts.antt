@@ -12,8 +12,8 @@ use Rattle.listing_lines.specs.Places.{is_insn}
 use Rattle.listing_lines.specs.Forms.{is_two}
 use Rattle.listing_lines.specs.declared.form.Form.{Form}
 use Rattle.listing_lines.specs.declared.form.Form.TheVariants.{One, Two}
-use Rattle.listing_labels.specs.Lines.{lines, is_skipped}
-use Rattle.listing_labels.specs.Labels.{Label, is_label}
+use Rattle.listing_lines.specs.Splitting.{lines, is_skipped}
+use Rattle.listing_lines.specs.Labels.{Label, is_label}
 use Rattle.listing_parse.specs.Forms.{HasShapeInForm, SpellsInForm}
 use Rattle.listing_parse.specs.Text.{is_second}
 use Rattle.listing_parse.specs.Codes.{Numbered, said}

@@ -10,7 +10,7 @@ ghost use Rattle.listing_slots.specs.inner.ShapeView.{shape};
 ghost use Rattle.listing_lines.specs.Lines.{line_of};
 ghost use Rattle.listing_parse.specs.States.{add};
 ghost use Rattle.listing_parse.specs.inner.View.{state};
-ghost use Rattle.listing_labels.specs.Lines.{lines, is_skipped};
+ghost use Rattle.listing_lines.specs.Splitting.{lines, is_skipped};
 ghost use Rattle.listing_parse.specs.Forms.{HasShapeInForm, SpellsInForm, MisspellsInForm};
 ghost use Rattle.listing_parse.specs.inner.Named.{ReadingIsNamed};
 ghost use Rattle.listing_parse.specs.Text.{line_counted, LineSays, IsUnsaid, AddsLine, TakesLine, LineIsRefused};
@@ -22,8 +22,7 @@ use crate::reading::Reading;
 use crate::short::read_short;
 use bumpalo::Bump;
 use dex_base::{Fault, fault};
-use listing_labels::{is_skipped, read_all};
-use listing_lines::{Form, make_insn, make_line};
+use listing_lines::{Form, is_skipped, make_insn, make_line, read_all};
 use listing_slots::{
     Datum, Found, Kind, Slot, Spelled, read_bare_shape, read_operands, read_shape,
 };

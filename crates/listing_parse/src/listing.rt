@@ -4,7 +4,7 @@ ghost use Rattle.std.specs.Prelude.{◌≡◌, ◌≢◌, [], length, IsTrue, If
 ghost use Rattle.dex_base.specs.Fault.{memory};
 ghost use Rattle.program_types.specs.View.{program};
 ghost use Rattle.listing_parse.specs.inner.View.{state};
-ghost use Rattle.listing_labels.specs.Lines.{lines};
+ghost use Rattle.listing_lines.specs.Splitting.{lines};
 ghost use Rattle.listing_parse.specs.inner.Named.{StateIsNamed};
 ghost use Rattle.listing_parse.specs.Text as spec;
 ghost use Rattle.listing_parse.specs.Text.{begin, Reads, IsListing, IsBadLine, ListingBreaks};
@@ -17,8 +17,7 @@ use crate::lines::{Scratch, read_line};
 use crate::reading::Reading;
 use bumpalo::Bump;
 use dex_base::{Fault, Seed, fault};
-use listing_labels::{Labels, split_line};
-use listing_lines::Form;
+use listing_lines::{Form, Labels, split_line};
 use listing_slots::Spelled;
 use program_rules::well_formed_named_seeded;
 use program_types::Program;

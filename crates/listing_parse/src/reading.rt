@@ -6,7 +6,7 @@ ghost use Rattle.dex_base.specs.Fault.{memory};
 ghost use Rattle.listing_words.specs.inner.View.{word};
 ghost use Rattle.listing_slots.specs.inner.ShapeView.{shape};
 ghost use Rattle.listing_parse.specs.inner.View.{state};
-ghost use Rattle.listing_labels.specs.Lines.{lines};
+ghost use Rattle.listing_lines.specs.Splitting.{lines};
 ghost use Rattle.listing_parse.specs.Forms.{may_stand_in_form};
 ghost use Rattle.listing_parse.specs.Text.{word_is, is_second, begins_mark, labels_after};
 ghost use Rattle.listing_parse.specs.inner.ReadingView.{reading};
@@ -15,8 +15,9 @@ use crate::block::Block;
 use crate::draft::Draft;
 use crate::form_line::FormLine;
 use dex_base::{Fault, fault};
-use listing_labels::{Labels, is_label, is_mark, look_ahead};
-use listing_lines::{Form, is_insns, is_start, is_two, may_stand};
+use listing_lines::{
+    Form, Labels, is_insns, is_label, is_mark, is_start, is_two, look_ahead, may_stand,
+};
 use listing_slots::{Found, Kind, Slot, is_same};
 use listing_words::Word;
 

@@ -11,7 +11,7 @@ ghost use Rattle.program_types.specs.View.{insn, name};
 ghost use Rattle.listing_slots.specs.Data.{word, named};
 ghost use Rattle.listing_slots.specs.Shapes.{target, name_slot};
 ghost use Rattle.listing_slots.specs.inner.ValidNames.{StayValid, StayWhole};
-ghost use Rattle.listing_labels.specs.Labels.{Label};
+ghost use Rattle.listing_lines.specs.Labels.{Label};
 ghost use Rattle.listing_parse.specs.inner.Named.{StayNamed};
 ghost use Rattle.listing_parse.specs.inner.Short.{TakesSaid, SayInsn, IsShortLine};
 ghost use Rattle.listing_parse.specs.inner.ReadingView.{reading};
@@ -24,8 +24,7 @@ use crate::short_pieces::{
 };
 use dex_base::Fault;
 use dex_insn::{Format, format_of, index_kind_of, opcode_named};
-use listing_labels::read_target;
-use listing_lines::{is_insns, is_two};
+use listing_lines::{is_insns, is_two, read_target};
 use listing_slots::{Datum, name_slot, read_datum};
 use listing_words::{Word, after_spaces, split_before};
 use program_types::{Insn, Name};

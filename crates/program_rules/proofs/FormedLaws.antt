@@ -2,8 +2,8 @@
 use Rattle.std.proofs.Common.{List, [], ◌∷◌, Option, None, Some}
 use Rattle.std.specs.Prelude.{IfSome}
 use Rattle.std.specs.List.{AllByRecursion}
-use Rattle.program_code_rules.proofs.OperandLaws.{operands_of}
-use Rattle.program_code_rules.specs.CodeRules.{OperandsHold, TargetsHold, PayloadsHold, TriesHold}
+use Rattle.code_rules.proofs.OperandLaws.{operands_of}
+use Rattle.code_rules.specs.CodeRules.{OperandsHold, TargetsHold, PayloadsHold, TriesHold}
 use Rattle.program_types.specs.Content.{Code, Method, Class}
 use Rattle.program_types.specs.Formed.{IsFormed, RegistersHold}
 use Rattle.program_rules.specs.Ranges.{CodeInRange, DefinedInRange, ClassInRange}

@@ -11,7 +11,7 @@ use Rattle.program_types.specs.Depth.{depth, most_depth}
 use Rattle.program_types.specs.Formed.{RegistersHold}
 use Rattle.program_types.specs.Key.{Key, key_cmp, proto_key}
 use Rattle.program_types.specs.Mentions.{names_of_class}
-use Rattle.program_code_rules.specs.CodeRules.{OperandsHold, TargetsHold, PayloadsHold, TriesHold}
+use Rattle.code_rules.specs.CodeRules.{OperandsHold, TargetsHold, PayloadsHold, TriesHold}
 use Rattle.program_rules.specs.Valid.{IsValidName}
 
 -- ---- names (110)

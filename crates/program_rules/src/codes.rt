@@ -4,10 +4,10 @@ ghost use Rattle.std.specs.Prelude.{◌↔◌, map, IfOk, IsTrue, IfSome};
 ghost use Rattle.std.specs.List.{AllByRecursion};
 ghost use Rattle.program_types.specs.View.{method, class};
 ghost use Rattle.program_rules.specs.Rules.{CodesHold};
-ghost use Rattle.program_code_rules.specs.CodeRules.{PayloadsHold};
-ghost use Rattle.program_code_rules.specs.inner.CodeRules.{KeepsRule};
+ghost use Rattle.code_rules.specs.CodeRules.{PayloadsHold};
+ghost use Rattle.code_rules.specs.inner.CodeRules.{KeepsRule};
 
-use program_code_rules::{CodeRule, code_holds, payloads_hold_in};
+use code_rules::{CodeRule, code_holds, payloads_hold_in};
 use program_types::{Class, Method};
 use std::alloc::{AllocError, Global};
 

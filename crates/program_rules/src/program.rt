@@ -3,7 +3,7 @@
 ghost use Rattle.std.specs.Prelude.{◌≡◌, ◌≢◌, ◌↔◌, length, map, IsTrue, IfOk, OnOk, IfErr};
 ghost use Rattle.std.specs.List.{AllByRecursion};
 ghost use Rattle.dex_base.specs.Fault.{memory};
-ghost use Rattle.program_code_rules.specs.CodeRules.{OperandsHold, PayloadsHold, TargetsHold, TriesHold};
+ghost use Rattle.code_rules.specs.CodeRules.{OperandsHold, PayloadsHold, TargetsHold, TriesHold};
 ghost use Rattle.program_types.specs.Content as content;
 ghost use Rattle.program_types.specs.Formed.{RegistersHold};
 ghost use Rattle.program_types.specs.View.{class, desc, program};
@@ -19,8 +19,8 @@ use crate::members::{members_rise, names_are_valid};
 use crate::numbers::{TypePlaces, numbers_of, order_holds_in};
 use crate::order::order_holds;
 use crate::values::values_fit;
+use code_rules::CodeRule;
 use dex_base::{Fault, Seed, fault};
-use program_code_rules::CodeRule;
 use program_types::{Class, Desc, Program};
 use std::alloc::{AllocError, Global};
 

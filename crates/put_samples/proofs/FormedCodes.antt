@@ -2,9 +2,9 @@
 use Rattle.std.proofs.Common.{ℕ, ◌≡◌, ◌<◌, ◌≤◌, ◌++◌, List, [], ◌∷◌, Option, None, Some}
 use Rattle.std.specs.Prelude.{IfSome}
 use Rattle.std.specs.List.{AllByRecursion, flat_map}
-use Rattle.code_put.specs.Fits.{AllInsns, CanBePut, HasIndexBelow, ShortFits, short_name, wide_code}
-use Rattle.program_code_rules.proofs.OperandLaws.{operands_of}
-use Rattle.program_code_rules.specs.CodeRules.{OperandsHold, TargetsHold, PayloadsHold, TriesHold}
+use Rattle.code_write.specs.Fits.{AllInsns, CanBePut, HasIndexBelow, ShortFits, short_name, wide_code}
+use Rattle.code_rules.proofs.OperandLaws.{operands_of}
+use Rattle.code_rules.specs.CodeRules.{OperandsHold, TargetsHold, PayloadsHold, TriesHold}
 use Rattle.dex_insn.specs.declared.opcode.IndexKind.TheVariants as kind
 use Rattle.tables_names.specs.Closure.{NameRanks, nothing}
 use Rattle.program_types.specs.Content.{Name, OfText, OfDesc, OfField, OfMethod, Code}

@@ -2,15 +2,15 @@
 
 ghost use Rattle.std.specs.Prelude.{◌≡◌, ◌≤◌, ◌<◌, [], IfOk, IsTrue};
 ghost use Rattle.std.specs.List.{flat_map};
-ghost use Rattle.code_put.specs.Fits.{wide_code};
+ghost use Rattle.code_write.specs.Fits.{wide_code};
 ghost use Rattle.tables_names.specs.Closure.{nothing};
 ghost use Rattle.program_types.specs.Formed.{IsFormed};
 ghost use Rattle.program_types.specs.Mentions.{names_of_insn, names_of_try};
 ghost use Rattle.program_types.specs.View as view;
 
-use code_put::{fits, put_code};
+use code_rules::{CodeRule, code_holds};
+use code_write::{fits, put_code};
 use dex_base::Fault;
-use program_code_rules::{CodeRule, code_holds};
 use program_types::{Code, Insn, Try};
 use std::alloc::Global;
 use tables_names::{Needed, Ranks};

@@ -5,7 +5,7 @@ ghost use Rattle.program_types.specs.Kinds.{HasIndex};
 ghost use Rattle.program_types.specs.Mentions.{names_of_code, names_of_try};
 ghost use Rattle.program_types.specs.View as view;
 ghost use Rattle.tables_names.specs.Closure.{NameRanks};
-ghost use Rattle.code_put.specs.Fits.{CanBePut, FitsCode, HasIndexBelow};
+ghost use Rattle.code_write.specs.Fits.{CanBePut, FitsCode, HasIndexBelow};
 
 use bumpalo::Bump;
 use dex_base::Fault;
@@ -27,7 +27,7 @@ pub fn code_read<'a>(
 
 /// The code is well formed and keeps the limits on code; each name has a rank of at most 4294967295, the types in its instructions have one of at most
 /// 65535, and its own terms in the plain sum come to at most 4294967295.
-pub fn code_put(out: &mut Vec<u8>, ranks: &Ranks<'_>, code: &Code<'_>) -> Result<(), Fault>
+pub fn code_write(out: &mut Vec<u8>, ranks: &Ranks<'_>, code: &Code<'_>) -> Result<(), Fault>
     requires formed { IsFormed (view.code code.now) }
     requires fits { FitsCode (NameRanks ranks.now) (view.code code.now) }
     requires ranked { CanBePut (NameRanks ranks.now) (view.code code.now) }

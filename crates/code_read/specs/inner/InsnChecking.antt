@@ -1,7 +1,7 @@
 -- What the private functions that look at instructions say.
 use Rattle.std.specs.Prelude.{ℕ, List, length, Option, IfNone, IfSome}
 use Rattle.program_types.specs.Content.{Name, Insn}
-use Rattle.program_code_rules.specs.First.{AllHold}
+use Rattle.code_rules.specs.First.{AllHold}
 use Rattle.code_read.specs.inner.InsnReading.{ReadInsns}
 use Rattle.code_read.specs.Registers.{AmongAt, IsPast}
 

@@ -4,8 +4,8 @@ use Rattle.dex_insn.specs.Raw as raw
 use Rattle.dex_insn.specs.Raw.{Raw}
 use Rattle.program_types.specs.Content.{Name, Insn}
 use Rattle.program_types.specs.Formed.{AreAmong}
-use Rattle.program_code_rules.specs.inner.Branches.{BranchStays}
-use Rattle.program_code_rules.specs.First.{AllHold}
+use Rattle.code_rules.specs.inner.Branches.{BranchStays}
+use Rattle.code_rules.specs.First.{AllHold}
 use Rattle.code_read.specs.Linked.{lead}
 use Rattle.code_read.specs.Symbols.{Says}
 use Rattle.code_read.specs.inner.InsnReading.{ReadInsns}

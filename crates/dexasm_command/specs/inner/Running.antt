@@ -3,7 +3,7 @@ use Rattle.std.specs.Prelude.{◌≡◌, ◌⊎◌, ℕ, Bool, true, false, List
 use Rattle.std.specs.Global.{Global}
 use Rattle.std.specs.Io.KnownBytes.{Keeps}
 use Rattle.std.specs.Borrow.{Bor}
-use Rattle.dexasm_job.specs.declared.job.Job.{Job}
+use Rattle.dexasm_world.specs.declared.job.Job.{Job}
 use Rattle.dexasm_run.specs.Answers.{Answer}
 use Rattle.dexasm_run.specs.Runs.{MatchRun, IsAllGiven, Answers, BeginsAnswer, Refuses}
 use Rattle.dexasm_run.specs.declared.error.RunFault.{RunFault}

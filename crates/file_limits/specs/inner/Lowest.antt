@@ -2,7 +2,7 @@
 use Rattle.std.specs.Prelude.{◌≡◌, ℕ, ◌≤◌, List, ◌==◌, min, nat_le, if◌then◌else◌, Option, Some, None, IfNone, IfSome}
 use Rattle.std.specs.List.{AllByRecursion, slice_get}
 use Rattle.dex_base.specs.declared.fault.Fault.{Fault}
-use Rattle.code_put.specs.Fits.{FitsCode}
+use Rattle.code_write.specs.Fits.{FitsCode}
 use Rattle.program_types.specs.Content.{Name, Code, Class, Program}
 use Rattle.file_limits.specs.Limits.{ClassBreaksLimit, IsFirstToBreak, SomeBreaks, codes_of}
 

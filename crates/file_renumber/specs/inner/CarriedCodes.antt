@@ -16,7 +16,7 @@ use Rattle.code_read.specs.Handlers.{Handler}
 use Rattle.code_read.specs.inner.Handlers.{SpellsCatch, SpellsHandler}
 use Rattle.code_read.specs.inner.ItemReading.{ReadTries}
 use Rattle.code_read.specs.declared.item.Item.{Item}
-use Rattle.code_put.specs.Fits.{AllInsns, ShortFits, catches_in, wide_code}
+use Rattle.code_write.specs.Fits.{AllInsns, ShortFits, catches_in, wide_code}
 use Rattle.file_renumber.specs.inner.Fronts.{types_of}
 
 -- The code stands at this offset, and by these numbers each name in it has its rank among the names s, which fits its

@@ -13,8 +13,8 @@ use Rattle.code_read.specs.inner.Handlers.{SpellsHandler}
 use Rattle.code_read.specs.Item.{try_start, try_count}
 use Rattle.code_read.specs.inner.ItemReading.{ReadTries}
 use Rattle.code_read.specs.declared.item.Item.{Item}
-use Rattle.code_put.specs.inner.Packs.{PacksHandler}
-use Rattle.code_put.specs.inner.Writing.{IsHeldAs}
+use Rattle.code_write.specs.inner.Packs.{PacksHandler}
+use Rattle.code_write.specs.inner.Writing.{IsHeldAs}
 use Rattle.file_renumber.specs.inner.Fronts.{AreListed, types_of}
 use Rattle.file_renumber.specs.declared.handlers.Handlers.{Handlers}
 use Rattle.file_renumber.specs.inner.CarriedCodes.{CarriedHandler, CarriedTries}

@@ -2,7 +2,7 @@
 use Rattle.std.specs.Prelude.{ℕ, ◌≤◌, List, length}
 use Rattle.dex_base.specs.Fields.{AreBytes}
 use Rattle.code_read.specs.Code.{CodeStands}
-use Rattle.code_put.specs.Fits.{AllInsns, AllNumbers, AllTries, IsEven, OffsetsFit, ShortFits, TryFits}
+use Rattle.code_write.specs.Fits.{AllInsns, AllNumbers, AllTries, IsEven, OffsetsFit, ShortFits, TryFits}
 use Rattle.dex_container.specs.Frame.{IsFramed}
 use Rattle.dex_insn.specs.declared.opcode.IndexKind.{IndexKind}
 use Rattle.tables_names.specs.Closure.{Five, NameRanks}

@@ -2,12 +2,12 @@
 -- Page: "Dalvik Executable format", "encoded_method": code_off, 0 for a method without a body; "code_item".
 use Rattle.std.specs.Prelude.{◌≡◌, ℕ, ◌+◌, ◌==◌, List, [], ◌∷◌, ◌++◌, ◌⊎◌, MatchBool, Option, None, Some, map, take}
 use Rattle.std.specs.List.{AllByRecursion, AllZip}
-use Rattle.code_put.specs.Fits.{CodeBreaksLimit}
+use Rattle.code_write.specs.Fits.{CodeBreaksLimit}
 use Rattle.file_renumber.specs.inner.CarriedCodes.{IsCarriedCode}
 use Rattle.file_classes.specs.declared.class_data.MethodEntry.{MethodEntry}
 use Rattle.file_strip.specs.inner.AtLeast.{FitsButHandlers}
 use Rattle.file_limits.specs.Wide.{bodies_of}
-use Rattle.file_assemble.specs.inner.Codes.{WritesBody, is_bodiless}
+use Rattle.file_put.specs.inner.Codes.{WritesBody, is_bodiless}
 use Rattle.program_types.specs.Content.{Code, Program}
 use Rattle.program_types.specs.Formed.{IsFormed}
 use Rattle.tables_names.specs.Closure.{Five, NameRanks}

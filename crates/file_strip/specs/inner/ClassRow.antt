@@ -2,7 +2,7 @@
 -- Page: "Dalvik Executable format", "class_def_item".
 use Rattle.std.specs.Prelude.{◌≡◌, ℕ, List, Some, slice_get}
 use Rattle.dex_base.specs.Grammar.{Appends}
-use Rattle.file_assemble.specs.inner.ClassDefs.{SpellsClassRow}
+use Rattle.file_put.specs.inner.ClassDefs.{SpellsClassRow}
 use Rattle.program_types.specs.Content.{Class, Program}
 use Rattle.tables_names.specs.Needed.{needed}
 

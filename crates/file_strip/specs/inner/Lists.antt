@@ -3,7 +3,7 @@
 use Rattle.std.specs.Prelude.{◌≡◌, ℕ, ◌≤◌, List, Some, length, map, slice_get, slice_index, take}
 use Rattle.std.specs.List.{AllByRecursion, AllZip}
 use Rattle.file_layout.specs.inner.Sections.{is_empty_list}
-use Rattle.file_assemble.specs.inner.Lists.{SpellsRanks}
+use Rattle.file_put.specs.inner.Lists.{SpellsRanks}
 use Rattle.file_limits.specs.Wide.{params_of}
 use Rattle.program_types.specs.Content.{Program, Units, OfDesc}
 use Rattle.program_types.specs.Key.{text_key}

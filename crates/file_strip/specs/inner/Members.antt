@@ -2,7 +2,7 @@
 -- Page: "Dalvik Executable format", "class_data_item", "encoded_field", "encoded_method".
 use Rattle.std.specs.Prelude.{◌≡◌, ℕ, ◌+◌, ◌<◌, ◌≤◌, ◌^◌, List, Some, length, slice_get, slice_index}
 use Rattle.file_classes.specs.ClassData.{Entries, index_of, steps}
-use Rattle.file_assemble.specs.inner.Data.{FieldRanks, MethodRanks}
+use Rattle.file_put.specs.inner.Data.{FieldRanks, MethodRanks}
 use Rattle.program_types.specs.Content.{Class}
 use Rattle.tables_names.specs.Closure.{Five, NameRanks}
 use Rattle.file_renumber.specs.inner.Marked.{Columns}

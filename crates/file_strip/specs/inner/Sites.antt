@@ -3,7 +3,7 @@
 use Rattle.std.specs.Prelude.{◌≡◌, ℕ, ◌+◌, ◌<◌, ◌≤◌, ◌^◌, List, Some, drop, length, slice_get, take}
 use Rattle.file_layout.specs.inner.Sections.{AddsSome}
 use Rattle.file_limits.specs.Wide.{wide_data}
-use Rattle.file_assemble.specs.inner.Data.{PacksData, has_no_members, method_count}
+use Rattle.file_put.specs.inner.Data.{PacksData, has_no_members, method_count}
 use Rattle.program_types.specs.Content.{Class, Program}
 use Rattle.tables_names.specs.Closure.{NameRanks}
 use Rattle.tables_names.specs.Needed.{needed}

@@ -4,7 +4,7 @@ use Rattle.std.specs.Prelude.{ℕ, List}
 use Rattle.std.specs.List.{AllZip}
 use Rattle.file_classes.specs.Classes.{StaticsAt}
 use Rattle.file_layout.specs.inner.Sections.{is_empty_list}
-use Rattle.file_assemble.specs.inner.Arrays.{WritesArray}
+use Rattle.file_put.specs.inner.Arrays.{WritesArray}
 use Rattle.program_types.specs.Content.{Value, values}
 use Rattle.program_types.specs.Mentions.{AllNamesHold}
 use Rattle.tables_names.specs.Closure.{Five, AreRising, NameRanks}

@@ -13,7 +13,7 @@ use Rattle.dex_container.specs.Where.{IsSectionOf}
 use Rattle.dex_value.specs.Standing.{ArrayStands}
 use Rattle.dex_value.specs.Wide.{wide_array, wide_values}
 use Rattle.code_read.specs.Code.{CodeStands}
-use Rattle.code_put.specs.Fits.{wide_code}
+use Rattle.code_write.specs.Fits.{wide_code}
 use Rattle.file_layout.specs.Sections.{wide_all}
 use Rattle.file_limits.specs.inner.Sum.{IsSum}
 use Rattle.file_limits.specs.Wide.{bodies_of, wide_body, wide_class, wide_data}

@@ -2,7 +2,7 @@
 -- Page: "Dalvik Executable format", "string_id_item" to "method_id_item".
 use Rattle.std.specs.Prelude.{ℕ, List, slice_index, take}
 use Rattle.dex_base.specs.Grammar.{Appends}
-use Rattle.file_assemble.specs.inner.Rows.{SpellsProtos, SpellsTable}
+use Rattle.file_put.specs.inner.Rows.{SpellsProtos, SpellsTable}
 use Rattle.program_types.specs.Key.{Key}
 use Rattle.tables_names.specs.Closure.{Five}
 

@@ -17,7 +17,7 @@ use Rattle.listing_slots.specs.declared.due.Due.TheVariants as due
 use Rattle.listing_slots.specs.Shapes.{Shape, value_slots}
 use Rattle.listing_lines.specs.Lines.{Line, line_of, value_of}
 use Rattle.listing_lines.specs.declared.form.Form.{Form}
-use Rattle.listing_labels.specs.Labels.{Label}
+use Rattle.listing_lines.specs.Labels.{Label}
 use Rattle.listing_parse.specs.Forms.{HasShapeInForm, SpellsInForm}
 
 -- The word that a keyword is.

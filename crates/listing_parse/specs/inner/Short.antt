@@ -13,7 +13,7 @@ use Rattle.listing_slots.specs.declared.slot.Slot.{Slot}
 use Rattle.listing_slots.specs.Data.{Datum, byte}
 use Rattle.listing_slots.specs.Slots.{SpellsNumber, SpellsInteger, has_form, have_forms}
 use Rattle.listing_slots.specs.Shapes.{register4, plain_slots}
-use Rattle.listing_labels.specs.Labels.{Label, SpellsHere, SpellsAll}
+use Rattle.listing_lines.specs.Labels.{Label, SpellsHere, SpellsAll}
 use Rattle.listing_lines.specs.Lines.{insn_of}
 use Rattle.listing_lines.specs.Places.{is_insns}
 use Rattle.listing_lines.specs.declared.form.Form.TheVariants.{Two}

@@ -1,7 +1,7 @@
 -- Beside Text.antt: what no promise reaches.
 use Rattle.std.specs.Prelude.{◌≡◌, ◌≢◌, ℕ, ◌⊎◌, Some, None}
 use Rattle.listing_parse.specs.States.{at_top, State}
-use Rattle.listing_labels.specs.Lines.{lines}
+use Rattle.listing_lines.specs.Splitting.{lines}
 
 -- After all lines: no block is open, and each target is an instruction of its code.
 abbrev pub IsFinished : State → Type 0

@@ -2,7 +2,7 @@ use Rattle.std.proofs.Common.{◌<◌, length}
 use Rattle.std.specs.Prelude.{slice_index}
 use Rattle.program_types.specs.View.{catch}
 use Rattle.program_types.specs.Content.{Catch}
-use Rattle.code_put.proofs.ListLaws.{all-view}
+use Rattle.code_write.proofs.ListLaws.{all-view}
 use Rattle.code_align.specs.Aligned.{moved_catch}
 use Rattle.code_align.proofs.MoveLaws.{view-more}
 use Rattle.code_align.proofs.moving.moved_catches.Goals as goal

@@ -6,7 +6,7 @@ use Rattle.program_types.specs.Content as made
 use Rattle.program_types.specs.declared.insn.Insn.TheVariants as held
 use Rattle.program_types.specs.Operands.{IsOperand}
 use Rattle.std.proofs.lemmas.List.{length-map}
-use Rattle.code_put.proofs.SizeLaws.{insn-at}
+use Rattle.code_write.proofs.SizeLaws.{insn-at}
 use Rattle.code_align.specs.Aligned.{moved_insn, with_nops}
 use Rattle.code_align.proofs.MoveLaws.{insns-turn, one-more, two-more}
 use Rattle.code_align.proofs.moving.moved_insns.Goals.{then-pads-k+in_ok-push, else-pads-k}

@@ -1,7 +1,7 @@
 use Rattle.std.proofs.Common.{length, sym, subst}
 use Rattle.std.specs.Prelude.{slice_index}
 use Rattle.program_types.specs.Content.{Try}
-use Rattle.code_put.proofs.ItemPieces.{seen-at}
+use Rattle.code_write.proofs.ItemPieces.{seen-at}
 use Rattle.program_types.specs.View.{try}
 use Rattle.code_align.specs.Aligned.{moved_try}
 use Rattle.code_align.specs.inner.Aligning.{IsTryBelow}

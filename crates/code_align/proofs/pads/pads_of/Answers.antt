@@ -4,7 +4,7 @@ use Rattle.program_types.specs.Content.{Insn}
 use Rattle.program_types.specs.Operands.{IsOperand}
 use Rattle.program_types.specs.Sizes.{insn_units}
 use Rattle.std.proofs.lemmas.List.{length-map}
-use Rattle.code_put.proofs.SizeLaws.{insn-at, units-small}
+use Rattle.code_write.proofs.SizeLaws.{insn-at, units-small}
 use Rattle.code_align.specs.inner.Aligning.{is_odd, pads_from}
 use Rattle.code_align.proofs.PadLaws.{pads-turn, after-most}
 use Rattle.code_align.proofs.pads.pads_of.Goals as goal

@@ -1,4 +1,4 @@
-use Rattle.program_code_rules.specs.First.{AllHold}
+use Rattle.code_rules.specs.First.{AllHold}
 use Rattle.code_read.specs.Tries.{TryHolds}
 use Rattle.code_read.proofs.tries.check_tries.Given as goal
 

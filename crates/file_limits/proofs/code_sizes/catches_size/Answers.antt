@@ -1,7 +1,7 @@
 use Rattle.std.proofs.Common.{◌*◌, map, arith, subst, List, [], None}
 use Rattle.std.proofs.lemmas.List.{take_all, length-map}
-use Rattle.code_put.proofs.FitLaws.{catches-more, caught}
-use Rattle.code_put.specs.Fits.{catches_in}
+use Rattle.code_write.proofs.FitLaws.{catches-more, caught}
+use Rattle.code_write.specs.Fits.{catches_in}
 use Rattle.program_types.specs.Content.{Try}
 use Rattle.program_types.specs.View as view
 use Rattle.program_types.specs.declared.code.Try as held

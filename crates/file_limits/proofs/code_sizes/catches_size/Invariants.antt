@@ -1,5 +1,5 @@
 use Rattle.std.proofs.Common.{◌*◌, map, take}
-use Rattle.code_put.specs.Fits.{catches_in}
+use Rattle.code_write.specs.Fits.{catches_in}
 use Rattle.program_types.specs.View as view
 use Rattle.file_limits.specs.inner.Sum.{IsSum}
 use Rattle.file_limits.proofs.code_sizes.catches_size.Given as goal

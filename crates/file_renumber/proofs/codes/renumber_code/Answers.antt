@@ -4,7 +4,7 @@ use Rattle.dex_base.specs.Fields.{AreBytes}
 use Rattle.program_types.specs.Sizes.{addresses_of}
 use Rattle.tables_rows.specs.Stands.{NameStands}
 use Rattle.code_read.specs.Places.{Rises}
-use Rattle.code_put.specs.Packs.{items_bytes, padding}
+use Rattle.code_write.specs.Packs.{items_bytes, padding}
 use Rattle.file_renumber.proofs.CodeLemmas.{cover_with, items_with, can_renumber_all, addresses_are, carried_tries, cover_tries, packed_code}
 use Rattle.file_renumber.proofs.WideLemmas.{count_same}
 use Rattle.file_renumber.proofs.codes.renumber_code.Goals as goal

@@ -1,7 +1,7 @@
 use Rattle.std.proofs.Common.{◌∙◌}
 use Rattle.std.proofs.lemmas.Result.{IfOk-weaker}
 use Rattle.tables_names.specs.Closure.{NameRanks}
-use Rattle.code_put.proofs.LaidLaws.{laid-none}
+use Rattle.code_write.proofs.LaidLaws.{laid-none}
 use Rattle.file_renumber.proofs.tries.lay_tries.Goals as goal
 
 pub returns-then-item-eq0-clause-ok : goal.returns-then-item-eq0-clause-ok

@@ -11,7 +11,7 @@ use Rattle.code_read.specs.Places.{Rises, position}
 use Rattle.code_read.specs.inner.Handlers.{SpellsHandler}
 use Rattle.code_read.specs.Item.{try_handler}
 use Rattle.code_read.specs.Tries.{handler_of}
-use Rattle.code_put.specs.Fits.{catches_in}
+use Rattle.code_write.specs.Fits.{catches_in}
 use Rattle.file_renumber.specs.inner.Marked.{AddsNames}
 use Rattle.file_renumber.specs.inner.TryWalks.{ListedTries, MarksOnce}
 use Rattle.file_renumber.proofs.TryLemmas.{tries_start, there, taken_at, tries_more, tries_end, as_many, number_inside, found_in, zeros_long}

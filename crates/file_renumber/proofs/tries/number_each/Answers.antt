@@ -4,10 +4,10 @@ use Rattle.tables_names.specs.Closure.{NameRanks}
 use Rattle.code_read.proofs.Lists.{zeros}
 use Rattle.code_read.specs.Places.{position}
 use Rattle.code_read.specs.Item.{try_handler}
-use Rattle.code_put.specs.inner.Writing.{IsDistinct}
-use Rattle.code_put.proofs.HandlerOnce.{handler-once, ranks-injective, packs-unique}
-use Rattle.code_put.proofs.DistinctLaws.{distinct-none, distinct-more}
-use Rattle.code_put.proofs.NumberLaws.{none-held}
+use Rattle.code_write.specs.inner.Writing.{IsDistinct}
+use Rattle.code_write.proofs.HandlerOnce.{handler-once, ranks-injective, packs-unique}
+use Rattle.code_write.proofs.DistinctLaws.{distinct-none, distinct-more}
+use Rattle.code_write.proofs.NumberLaws.{none-held}
 use Rattle.file_renumber.proofs.TryLemmas.{there, number_inside, found_in, zeros_long}
 use Rattle.file_renumber.proofs.KnownLemmas.{carried_at, known_none}
 use Rattle.file_renumber.proofs.tries.number_each.Goals as goal

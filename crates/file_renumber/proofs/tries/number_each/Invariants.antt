@@ -1,6 +1,6 @@
 use Rattle.std.proofs.Common.{map}
 use Rattle.tables_names.specs.Closure.{NameRanks}
-use Rattle.code_put.specs.inner.Writing.{IsDistinct}
+use Rattle.code_write.specs.inner.Writing.{IsDistinct}
 use Rattle.file_renumber.specs.inner.TryWalks.{CarriedList, AreKnown}
 use Rattle.file_renumber.proofs.tries.number_each.Given as goal
 

@@ -3,7 +3,7 @@ use Rattle.std.proofs.lemmas.List.{length-map}
 use Rattle.dex_base.specs.Fields.{AreBytes}
 use Rattle.tables_rows.specs.Stands.{NameStands}
 use Rattle.tables_names.specs.Closure.{NameRanks}
-use Rattle.code_put.specs.inner.Packs.{PacksHandler}
+use Rattle.code_write.specs.inner.Packs.{PacksHandler}
 use Rattle.file_renumber.specs.inner.CarriedCodes.{CarriedHandler}
 use Rattle.file_renumber.proofs.TryLemmas.{handler_some}
 use Rattle.file_renumber.proofs.KnownLemmas.{known_more, all_bytes, number_low}

@@ -3,7 +3,7 @@ use Rattle.std.specs.Prelude.{min}
 use Rattle.std.proofs.lemmas.Result.{on_ok_weaker}
 use Rattle.code_read.specs.Places.{count_below}
 use Rattle.code_read.specs.Item.{try_start, try_count}
-use Rattle.code_put.specs.Packs.{bound_of}
+use Rattle.code_write.specs.Packs.{bound_of}
 use Rattle.file_renumber.proofs.KnownLemmas.{item_put}
 use Rattle.file_renumber.proofs.tries.put_item.Goals as goal
 

@@ -1,8 +1,8 @@
 use Rattle.std.proofs.Common.{◌≡◌, ◌<◌, ℕ, get_or, refl, arith, subst, inl, inr}
 use Rattle.std.proofs.lemmas.Bool.{cases_lt}
 use Rattle.program_types.specs.Formed.{try_at}
-use Rattle.code_put.proofs.ItemPieces.{items-turn, items-end}
-use Rattle.code_put.proofs.ListLaws.{all-from}
+use Rattle.code_write.proofs.ItemPieces.{items-turn, items-end}
+use Rattle.code_write.proofs.ListLaws.{all-from}
 use Rattle.file_renumber.proofs.tries.put_items.Goals as goal
 
 pub loop-i-preserved : goal.loop-i-preserved

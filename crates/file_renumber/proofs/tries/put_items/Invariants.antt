@@ -1,6 +1,6 @@
 use Rattle.std.proofs.Common.{◌≡◌, ◌++◌, ◌<◌, ℕ, List, drop, get_or}
 use Rattle.program_types.specs.Content.{Try}
-use Rattle.code_put.specs.Packs.{items_bytes}
+use Rattle.code_write.specs.Packs.{items_bytes}
 use Rattle.file_renumber.specs.inner.TryWalks.{CoverTries}
 use Rattle.file_renumber.proofs.tries.put_items.Given as goal
 

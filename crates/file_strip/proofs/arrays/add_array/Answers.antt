@@ -1,6 +1,6 @@
 use Rattle.std.proofs.Common.{arith}
 use Rattle.file_layout.specs.inner.Sections.{is_empty_list}
-use Rattle.file_assemble.specs.inner.Arrays.{WritesArray}
+use Rattle.file_put.specs.inner.Arrays.{WritesArray}
 use Rattle.file_strip.specs.inner.Statics.{WritesStatics}
 use Rattle.file_strip.proofs.StaticsLaws.{array_carried, no_array, array_item, eq_off, off_some}
 use Rattle.file_strip.proofs.MovedLaws.{item_again, item_used, moved_more}

@@ -7,9 +7,9 @@ use Rattle.dex_base.specs.Leb128.{Shortest}
 use Rattle.dex_value.specs.Spelling.{SpellsArray}
 use Rattle.dex_value.specs.Wide.{wide_array}
 use Rattle.tables_names.specs.Closure.{NameRanks}
-use Rattle.file_assemble.specs.inner.Arrays.{WritesArray}
-use Rattle.file_assemble.proofs.LayingLaws.{items_few}
-use Rattle.file_assemble.proofs.RankedArrays.{array_packs, array_one, array_most, arrays_once}
+use Rattle.file_put.specs.inner.Arrays.{WritesArray}
+use Rattle.file_put.proofs.LayingLaws.{items_few}
+use Rattle.file_put.proofs.RankedArrays.{array_packs, array_one, array_most, arrays_once}
 use Rattle.file_layout.proofs.SharingLaws.{sharing_start, sharing_next, sharing_end, sharing_shared}
 use Rattle.file_strip.specs.inner.Statics.{IsCarriedStatics, WritesStatics}
 use Rattle.file_renumber.proofs.MarkLemmas.{zip_at}

@@ -5,7 +5,7 @@ use Rattle.file_layout.specs.inner.Sections.{is_empty_list}
 use Rattle.dex_base.specs.Leb128.{Shortest}
 use Rattle.dex_value.specs.Spelling.{SpellsArray}
 use Rattle.dex_value.specs.Wide.{wide_array}
-use Rattle.file_assemble.specs.inner.Arrays.{WritesArray}
+use Rattle.file_put.specs.inner.Arrays.{WritesArray}
 use Rattle.file_layout.specs.inner.Sharing.{Sharing}
 use Rattle.file_strip.specs.inner.Statics.{AreCarriedStatics, WritesStatics}
 use Rattle.file_strip.specs.inner.Moved.{AreMoved}

@@ -1,6 +1,6 @@
 use Rattle.std.proofs.Common.{arith}
 use Rattle.tables_names.specs.Needed.{needed}
-use Rattle.file_assemble.proofs.ClassRowLaws.{seated_all}
+use Rattle.file_put.proofs.ClassRowLaws.{seated_all}
 use Rattle.file_strip.proofs.ClassRowLaws.{seated_start, seated_next}
 use Rattle.file_strip.proofs.class_defs.put_classes.Goals as goal
 

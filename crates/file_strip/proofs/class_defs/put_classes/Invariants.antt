@@ -1,6 +1,6 @@
 use Rattle.std.proofs.Common.{take}
 use Rattle.dex_base.specs.Grammar.{Appends, Each}
-use Rattle.file_assemble.specs.inner.ClassDefs.{SpellsClassRow, with_places}
+use Rattle.file_put.specs.inner.ClassDefs.{SpellsClassRow, with_places}
 use Rattle.program_types.specs.Content.{Program}
 use Rattle.tables_names.specs.Needed.{needed}
 use Rattle.file_strip.specs.inner.Keeping.{Keeps}

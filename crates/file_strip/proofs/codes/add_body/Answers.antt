@@ -1,5 +1,5 @@
 use Rattle.std.proofs.Common.{arith}
-use Rattle.file_assemble.specs.inner.Codes.{WritesBody, is_bodiless}
+use Rattle.file_put.specs.inner.Codes.{WritesBody, is_bodiless}
 use Rattle.file_strip.specs.inner.Bodies.{WritesCarried}
 use Rattle.file_strip.proofs.BodyLaws.{some_carried}
 use Rattle.file_strip.proofs.MovedLaws.{item_again, item_used, moved_more}

@@ -4,9 +4,9 @@ use Rattle.program_types.specs.Content.{Code}
 use Rattle.tables_names.specs.Closure.{NameRanks}
 use Rattle.file_layout.specs.inner.Tiles.{AreShared}
 use Rattle.file_limits.specs.Wide.{wide_body}
-use Rattle.file_assemble.specs.inner.Codes.{PacksBody, WritesBody, is_bodiless}
-use Rattle.file_assemble.proofs.LayingLaws.{items_few, room_at}
-use Rattle.file_assemble.proofs.OneBody.{bodies_packs, bodies_one, bodies_most, bodies_once}
+use Rattle.file_put.specs.inner.Codes.{PacksBody, WritesBody, is_bodiless}
+use Rattle.file_put.proofs.LayingLaws.{items_few, room_at}
+use Rattle.file_put.proofs.OneBody.{bodies_packs, bodies_one, bodies_most, bodies_once}
 use Rattle.file_layout.proofs.SharingLaws.{sharing_start, sharing_next, sharing_end, sharing_shared}
 use Rattle.file_strip.specs.inner.Bodies.{AreNear, IsFar, WritesCarried, bodies_alone}
 use Rattle.file_strip.proofs.BodyLaws.{carried_at, first_far, near_body, near_more, owned_long, turn_of}

@@ -2,7 +2,7 @@ use Rattle.std.proofs.Common.{ℕ, List, Option, take, drop}
 use Rattle.program_types.specs.Content.{Code}
 use Rattle.tables_names.specs.Closure.{Five, NameRanks}
 use Rattle.file_limits.specs.Wide.{wide_body}
-use Rattle.file_assemble.specs.inner.Codes.{PacksBody, WritesBody, is_bodiless}
+use Rattle.file_put.specs.inner.Codes.{PacksBody, WritesBody, is_bodiless}
 use Rattle.file_layout.specs.inner.Sharing.{Sharing}
 use Rattle.file_strip.specs.inner.Bodies.{AreNear, AreOwned, WritesCarried, bodies_alone}
 use Rattle.file_strip.specs.inner.Moved.{AreMoved}

@@ -3,7 +3,7 @@ use Rattle.file_layout.specs.Sections.{wide_all}
 use Rattle.file_layout.specs.inner.Sections.{Laid}
 use Rattle.file_layout.specs.inner.Tiles.{AreShared}
 use Rattle.file_limits.specs.Wide.{wide_body}
-use Rattle.file_assemble.specs.inner.Codes.{PacksBody, is_bodiless}
+use Rattle.file_put.specs.inner.Codes.{PacksBody, is_bodiless}
 use Rattle.program_types.specs.Content.{Code}
 use Rattle.tables_names.specs.Closure.{NameRanks}
 use Rattle.tables_names.specs.Needed.{needed}

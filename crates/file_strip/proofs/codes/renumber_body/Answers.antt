@@ -1,5 +1,5 @@
 use Rattle.std.proofs.Common.{arith, ap, ◌∙◌}
-use Rattle.code_put.specs.Fits.{HandlerTooFar}
+use Rattle.code_write.specs.Fits.{HandlerTooFar}
 use Rattle.file_strip.proofs.BodyLaws.{body_item, body_far}
 use Rattle.file_strip.proofs.codes.renumber_body.Goals as goal
 

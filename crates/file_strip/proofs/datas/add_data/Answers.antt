@@ -1,7 +1,7 @@
 use Rattle.std.proofs.Common.{arith}
 use Rattle.std.proofs.lemmas.List.{length-map}
 use Rattle.file_classes.specs.inner.Reading.{field_entry, method_entry}
-use Rattle.file_assemble.proofs.ClassDataLaws.{data_adds}
+use Rattle.file_put.proofs.ClassDataLaws.{data_adds}
 use Rattle.file_strip.proofs.datas.add_data.Goals as goal
 
 pub overflow_cast-place : goal.overflow_cast-place

@@ -3,7 +3,7 @@ use Rattle.std.proofs.lemmas.List.{length-map, length-take}
 use Rattle.file_classes.specs.ClassData.{EntriesAt}
 use Rattle.file_classes.specs.inner.Reading.{entries, method_entry}
 use Rattle.file_layout.specs.inner.Sections.{AddsSome}
-use Rattle.file_assemble.specs.inner.Data.{PacksData, has_no_members, method_count}
+use Rattle.file_put.specs.inner.Data.{PacksData, has_no_members, method_count}
 use Rattle.tables_names.specs.Closure.{NameRanks}
 use Rattle.tables_names.specs.Needed.{needed}
 use Rattle.file_strip.proofs.SiteLaws.{entries_carried}

@@ -1,7 +1,7 @@
 use Rattle.std.proofs.Common.{arith}
-use Rattle.file_assemble.specs.inner.Data.{PacksData, has_no_members, wide_with_codes}
-use Rattle.file_assemble.proofs.LayingLaws.{items_few}
-use Rattle.file_assemble.proofs.SitedLaws.{room_of_sited}
+use Rattle.file_put.specs.inner.Data.{PacksData, has_no_members, wide_with_codes}
+use Rattle.file_put.proofs.LayingLaws.{items_few}
+use Rattle.file_put.proofs.SitedLaws.{room_of_sited}
 use Rattle.tables_names.specs.Closure.{NameRanks}
 use Rattle.tables_names.specs.Needed.{needed}
 use Rattle.file_strip.proofs.SiteLaws.{sited_start, sited_room, sited_next, sited_end}

@@ -4,7 +4,7 @@ use Rattle.file_classes.specs.inner.Reading.{field_entry}
 use Rattle.file_classes.specs.ClassData.{SpellsFieldEntry}
 use Rattle.file_classes.specs.declared.class_data.FieldEntry as made
 use Rattle.dex_base.specs.Leb128.{Spells, Shortest}
-use Rattle.file_assemble.specs.inner.Data.{FieldRanks}
+use Rattle.file_put.specs.inner.Data.{FieldRanks}
 use Rattle.tables_names.specs.Closure.{NameRanks}
 use Rattle.file_strip.proofs.MemberLaws.{run_start, run_index, run_low, run_more, fields_end}
 use Rattle.file_strip.proofs.datas.put_fields.Goals as goal

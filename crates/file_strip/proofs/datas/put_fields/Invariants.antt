@@ -1,6 +1,6 @@
 use Rattle.std.proofs.Common.{List, map}
 use Rattle.file_classes.specs.inner.Reading.{field_entry}
-use Rattle.file_assemble.specs.inner.Data.{FieldRanks}
+use Rattle.file_put.specs.inner.Data.{FieldRanks}
 use Rattle.program_types.specs.Content.{Descriptor, Member}
 use Rattle.tables_names.specs.Closure.{Five, NameRanks}
 use Rattle.file_strip.specs.inner.Members.{IsCarriedRun}

@@ -4,10 +4,10 @@ use Rattle.std.proofs.lemmas.Result.{on_ok_weaker}
 use Rattle.file_classes.specs.inner.Reading.{field_entry, method_entry}
 use Rattle.file_classes.specs.declared.class_data.FieldEntry.{FieldEntry}
 use Rattle.file_classes.specs.declared.class_data.MethodEntry.{MethodEntry}
-use Rattle.file_assemble.specs.inner.Data.{FieldRanks, MethodRanks}
+use Rattle.file_put.specs.inner.Data.{FieldRanks, MethodRanks}
 use Rattle.tables_names.specs.Closure.{NameRanks}
 use Rattle.file_strip.specs.inner.Members.{IsCarriedRun}
-use Rattle.file_assemble.proofs.ClassDataLaws.{members_append}
+use Rattle.file_put.proofs.ClassDataLaws.{members_append}
 use Rattle.file_strip.proofs.datas.put_members.Goals as goal
 
 pub put_counts-requires-clause-statics : goal.put_counts-requires-clause-statics

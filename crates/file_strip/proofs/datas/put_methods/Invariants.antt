@@ -1,6 +1,6 @@
 use Rattle.std.proofs.Common.{List, map}
 use Rattle.file_classes.specs.inner.Reading.{method_entry}
-use Rattle.file_assemble.specs.inner.Data.{MethodRanks}
+use Rattle.file_put.specs.inner.Data.{MethodRanks}
 use Rattle.program_types.specs.Content.{Descriptor, Method}
 use Rattle.tables_names.specs.Closure.{Five, NameRanks}
 use Rattle.file_strip.specs.inner.Members.{IsCarriedRun}

@@ -1,6 +1,6 @@
 use Rattle.std.proofs.Common.{arith}
 use Rattle.file_layout.specs.inner.Sections.{is_empty_list}
-use Rattle.file_assemble.specs.inner.Lists.{SpellsRanks}
+use Rattle.file_put.specs.inner.Lists.{SpellsRanks}
 use Rattle.file_strip.specs.inner.Lists.{WritesList}
 use Rattle.file_strip.proofs.ListLaws.{room_of_bytes}
 use Rattle.file_strip.proofs.MovedLaws.{item_again, item_used, moved_more}

@@ -4,9 +4,9 @@ use Rattle.program_types.specs.Content.{Units}
 use Rattle.file_layout.specs.inner.Sections.{is_empty_list}
 use Rattle.file_layout.specs.inner.Tiles.{AreShared}
 use Rattle.file_limits.specs.Wide.{wide_list}
-use Rattle.file_assemble.specs.inner.Lists.{SpellsRanks}
-use Rattle.file_assemble.proofs.LayingLaws.{items_few, room_at}
-use Rattle.file_assemble.proofs.RankedLists.{list_packs, list_one, list_most, lists_once}
+use Rattle.file_put.specs.inner.Lists.{SpellsRanks}
+use Rattle.file_put.proofs.LayingLaws.{items_few, room_at}
+use Rattle.file_put.proofs.RankedLists.{list_packs, list_one, list_most, lists_once}
 use Rattle.file_layout.proofs.SharingLaws.{sharing_start, sharing_next, sharing_end, sharing_shared}
 use Rattle.file_strip.specs.inner.Lists.{IsCarriedList, WritesList}
 use Rattle.file_renumber.proofs.MarkLemmas.{zip_at}

@@ -3,7 +3,7 @@ use Rattle.program_types.specs.Content.{Units}
 use Rattle.tables_names.specs.Closure.{Five}
 use Rattle.file_layout.specs.inner.Sections.{is_empty_list}
 use Rattle.file_limits.specs.Wide.{wide_list}
-use Rattle.file_assemble.specs.inner.Lists.{SpellsRanks}
+use Rattle.file_put.specs.inner.Lists.{SpellsRanks}
 use Rattle.file_layout.specs.inner.Sharing.{Sharing}
 use Rattle.file_strip.specs.inner.Lists.{AreCarriedLists, WritesList}
 use Rattle.file_strip.specs.inner.Moved.{AreMoved}

@@ -7,8 +7,8 @@ use Rattle.program_types.specs.Key.{text_key}
 use Rattle.tables_names.specs.Rank.{IsAt}
 use Rattle.tables_rows.specs.inner.Halves.{halves}
 use Rattle.tables_rows.proofs.HalvesLaws.{u16_at-halves}
-use Rattle.file_assemble.proofs.RankedLists.{indices_none}
-use Rattle.file_assemble.specs.inner.Lists.{AddsIndices}
+use Rattle.file_put.proofs.RankedLists.{indices_none}
+use Rattle.file_put.specs.inner.Lists.{AddsIndices}
 use Rattle.file_strip.proofs.ListLaws.{ranked_at, ranked_long, indices_next}
 use Rattle.file_strip.proofs.lists.put_numbers.Goals as goal
 use Rattle.dex_base.proofs.ListFacts.{some_one}

@@ -1,8 +1,8 @@
 use Rattle.std.proofs.Common.{◌+◌, length, ap, sym, ◌∙◌, arith, List, ℕ}
 use Rattle.file_layout.specs.inner.Plan.{tables_end}
 use Rattle.file_layout.proofs.TileLaws.{length-zeros}
-use Rattle.file_assemble.specs.inner.Making.{places_of}
-use Rattle.file_assemble.proofs.AssembledLaws.{array_count, assembled, data_count, list_count, row_count, text_count}
+use Rattle.file_put.specs.inner.Making.{places_of}
+use Rattle.file_put.proofs.AssembledLaws.{array_count, assembled, data_count, list_count, row_count, text_count}
 use Rattle.tables_names.specs.Needed.{needed}
 use Rattle.file_strip.proofs.ReadyLaws.{room}
 use Rattle.file_strip.proofs.stripping.assemble_kept.Goals as goal

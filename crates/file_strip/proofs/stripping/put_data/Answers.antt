@@ -2,11 +2,11 @@ use Rattle.std.proofs.Common.{◌≡◌, length, ap, ◌∙◌, arith}
 use Rattle.file_layout.specs.inner.Plan.{tables_end}
 use Rattle.file_layout.specs.inner.Tiles.{Refers}
 use Rattle.file_limits.specs.inner.Wide.{body_values}
-use Rattle.file_assemble.specs.inner.Codes.{is_bodiless}
-use Rattle.file_assemble.proofs.SitedLaws.{room_of_sited}
-use Rattle.file_assemble.specs.inner.Assembled.{Places, rows_of}
-use Rattle.file_assemble.proofs.DataParts.{laid}
-use Rattle.file_assemble.proofs.OnceLaws.{datas_shared}
+use Rattle.file_put.specs.inner.Codes.{is_bodiless}
+use Rattle.file_put.proofs.SitedLaws.{room_of_sited}
+use Rattle.file_put.specs.inner.Assembled.{Places, rows_of}
+use Rattle.file_put.proofs.DataParts.{laid}
+use Rattle.file_put.proofs.OnceLaws.{datas_shared}
 use Rattle.tables_names.specs.Needed.{needed}
 use Rattle.file_strip.proofs.ReadyLaws.{and_laid, first, room}
 use Rattle.file_strip.proofs.stripping.put_data.Goals as goal

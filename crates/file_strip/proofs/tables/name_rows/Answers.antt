@@ -1,6 +1,6 @@
 use Rattle.std.proofs.Common.{ap, ◌∙◌, ◌++◌, List, ℕ}
 use Rattle.dex_base.specs.Words.{words_bytes}
-use Rattle.file_assemble.proofs.FieldLaws.{five_joined}
+use Rattle.file_put.proofs.FieldLaws.{five_joined}
 use Rattle.file_strip.proofs.KeepLaws.{same_lengths}
 use Rattle.file_strip.proofs.tables.name_rows.Goals as goal
 

@@ -1,6 +1,6 @@
 use Rattle.std.proofs.Common.{◌≡◌, ◌++◌, ◌∙◌}
 use Rattle.dex_base.specs.Fields.{u16_bytes, u32_bytes}
-use Rattle.file_assemble.proofs.FieldLaws.{three_joined}
+use Rattle.file_put.proofs.FieldLaws.{three_joined}
 use Rattle.file_strip.proofs.tables.put_member.Goals as goal
 
 pub returns-clause-ok : goal.returns-clause-ok

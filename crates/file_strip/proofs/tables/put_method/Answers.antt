@@ -1,7 +1,7 @@
 use Rattle.std.proofs.Common.{true≢false, refl, ◌≡◌, ◌<◌, ℕ, length, sym, subst, ◌∙◌, arith, slice_get, Some}
 use Rattle.std.proofs.lemmas.Result.{on_ok_weaker}
 use Rattle.dex_container.specs.Layout.{size_of}
-use Rattle.file_assemble.specs.inner.Rows.{SpellsMethodRow}
+use Rattle.file_put.specs.inner.Rows.{SpellsMethodRow}
 use Rattle.program_types.specs.Key.{method_ref_key}
 use Rattle.tables_names.specs.Needed.{needed}
 use Rattle.file_strip.proofs.KeepLaws.{numbers_long, few_types, few_protos}

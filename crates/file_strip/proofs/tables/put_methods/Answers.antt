@@ -1,6 +1,6 @@
 use Rattle.std.proofs.Common.{◌≡◌, ap, ◌∙◌, arith}
 use Rattle.dex_container.specs.Layout.{size_of, offset_of}
-use Rattle.file_assemble.specs.inner.Rows.{SpellsMethodRow}
+use Rattle.file_put.specs.inner.Rows.{SpellsMethodRow}
 use Rattle.program_types.specs.Key.{method_ref_key}
 use Rattle.tables_names.specs.Needed.{needed}
 use Rattle.file_renumber.proofs.ColumnLemmas.{table_size}

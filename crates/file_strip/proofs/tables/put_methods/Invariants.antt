@@ -1,4 +1,4 @@
-use Rattle.file_assemble.specs.inner.Rows.{SpellsMethodRow}
+use Rattle.file_put.specs.inner.Rows.{SpellsMethodRow}
 use Rattle.program_types.specs.Content.{Program}
 use Rattle.program_types.specs.Key.{method_ref_key}
 use Rattle.tables_names.specs.Needed.{needed}

@@ -3,7 +3,7 @@ use Rattle.std.proofs.lemmas.Result.{on_ok_weaker}
 use Rattle.std.proofs.lemmas.Option.{slice_get_within}
 use Rattle.dex_base.specs.Words.{words_bytes}
 use Rattle.dex_container.specs.Layout.{size_of}
-use Rattle.file_assemble.specs.inner.Rows.{SpellsProtoRow}
+use Rattle.file_put.specs.inner.Rows.{SpellsProtoRow}
 use Rattle.tables_names.specs.Needed.{needed}
 use Rattle.file_strip.proofs.KeepLaws.{number_is, numbers_long, same_lengths}
 use Rattle.file_strip.proofs.TableLaws.{kept_proto, proto_row, ranked_within, proto_kept, proto_not_kept}

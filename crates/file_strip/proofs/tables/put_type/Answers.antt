@@ -2,7 +2,7 @@ use Rattle.std.proofs.Common.{true≢false, refl, ◌≡◌, ◌<◌, ◌∷◌,
 use Rattle.std.proofs.lemmas.Result.{on_ok_weaker}
 use Rattle.dex_base.specs.Words.{words_bytes}
 use Rattle.dex_container.specs.Layout.{size_of}
-use Rattle.file_assemble.specs.inner.Rows.{SpellsTypeRow}
+use Rattle.file_put.specs.inner.Rows.{SpellsTypeRow}
 use Rattle.program_types.specs.Key.{text_key}
 use Rattle.tables_names.specs.Needed.{needed}
 use Rattle.file_strip.proofs.KeepLaws.{numbers_long}

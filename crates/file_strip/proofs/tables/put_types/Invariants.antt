@@ -1,4 +1,4 @@
-use Rattle.file_assemble.specs.inner.Rows.{SpellsTypeRow}
+use Rattle.file_put.specs.inner.Rows.{SpellsTypeRow}
 use Rattle.program_types.specs.Content.{Program}
 use Rattle.program_types.specs.Key.{text_key}
 use Rattle.tables_names.specs.Needed.{needed}

@@ -3,7 +3,7 @@ use Rattle.dex_base.specs.Mutf8.{PacksText}
 use Rattle.dex_container.specs.Layout.{size_of, offset_of}
 use Rattle.file_layout.specs.inner.Sections.{Laying, never}
 use Rattle.file_limits.specs.inner.Wide.{text_values, wide_text}
-use Rattle.file_assemble.proofs.ApartLaws.{texts_shared}
+use Rattle.file_put.proofs.ApartLaws.{texts_shared}
 use Rattle.tables_names.specs.Needed.{needed}
 use Rattle.file_renumber.proofs.ColumnLemmas.{table_size}
 use Rattle.file_strip.specs.inner.Texts.{AreFirstTexts}

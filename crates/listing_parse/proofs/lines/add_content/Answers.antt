@@ -4,7 +4,7 @@ use Rattle.listing_words.specs.inner.View.{word}
 use Rattle.listing_slots.specs.inner.View.{datum}
 use Rattle.listing_slots.specs.inner.ShapeView.{shape}
 use Rattle.listing_parse.specs.inner.View.{state}
-use Rattle.listing_labels.specs.Lines.{lines}
+use Rattle.listing_lines.specs.Splitting.{lines}
 use Rattle.listing_parse.specs.Text.{Reading, labels_after}
 use Rattle.listing_parse.specs.inner.ReadingView.{reading}
 use Rattle.listing_parse.proofs.NamedLaws.{said_named}

@@ -1,6 +1,6 @@
 use Rattle.std.proofs.Common.{◌≡◌, ◌∙◌, ◌+◌, refl, sym, ap, subst, arith, List, ℕ, length, ◌++◌, ◌∷◌, []}
 use Rattle.std.proofs.lemmas.List.{length_push}
-use Rattle.listing_labels.specs.Lines.{lines}
+use Rattle.listing_lines.specs.Splitting.{lines}
 use Rattle.listing_parse.specs.inner.Named.{StateIsNamed}
 use Rattle.listing_parse.specs.Text.{Reading, begin, Reads}
 use Rattle.listing_parse.specs.inner.ReadingView.{reading}

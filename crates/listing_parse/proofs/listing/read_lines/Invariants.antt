@@ -1,5 +1,5 @@
 use Rattle.std.proofs.Common.{◌≡◌, ◌≤◌, ◌+◌, ◌++◌, ℕ, List, length}
-use Rattle.listing_labels.specs.Lines.{lines}
+use Rattle.listing_lines.specs.Splitting.{lines}
 use Rattle.listing_parse.specs.inner.Named.{ReadingIsNamed}
 use Rattle.listing_parse.specs.Text.{begin, Reads}
 use Rattle.listing_parse.specs.inner.ReadingView.{reading}

@@ -1,5 +1,5 @@
 use Rattle.std.proofs.Common.{subst, sym}
-use Rattle.code_put.specs.Fits.{CanBePut}
+use Rattle.code_write.specs.Fits.{CanBePut}
 use Rattle.tables_names.specs.Closure.{NameRanks, Five}
 use Rattle.program_types.specs.View as view
 use Rattle.put_samples.proofs.FormedCodes.{can_be_put}

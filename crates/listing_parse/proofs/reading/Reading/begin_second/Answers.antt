@@ -1,6 +1,6 @@
 use Rattle.std.proofs.Common.{List, ap}
 use Rattle.listing_parse.specs.inner.View.{state, block}
-use Rattle.listing_labels.specs.Labels.{Label}
+use Rattle.listing_lines.specs.Labels.{Label}
 use Rattle.listing_lines.specs.declared.form.Form.TheVariants.{Two}
 use Rattle.listing_parse.specs.States.{at_top}
 use Rattle.listing_parse.specs.inner.ReadingView.{reading}

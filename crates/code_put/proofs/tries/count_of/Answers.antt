@@ -1,5 +1,0 @@
-use Rattle.code_put.proofs.FitLaws.{caught}
-use Rattle.code_put.proofs.tries.count_of.Goals as goal
-
-pub returns : goal.returns
-returns c = caught c.args.tries.now c.args.i _ c.requires

@@ -1,8 +1,0 @@
-//! Laws of what fits, each the contract of a function that does nothing else.
-
-ghost use Rattle.code_put.specs.inner.Laws.{CodeLimitsAreDecided};
-
-/// A code fits, by the ranks of names, exactly if it breaks none of the limits of a code.
-pub fn code_limits_are_decided()
-    ensures { CodeLimitsAreDecided }
-{}

@@ -1,5 +1,0 @@
-use Rattle.file_assemble.proofs.FileOnce.{file_one}
-use Rattle.file_assemble.proofs.assembled_laws.assembled_is_one.Goals as goal
-
-pub returns : goal.returns
-returns c = file_one

@@ -1,7 +1,0 @@
-use Rattle.std.proofs.Common.{arith}
-use Rattle.program_types.specs.View as view
-use Rattle.file_assemble.proofs.PlacedClasses.{rank_or_none}
-use Rattle.file_assemble.proofs.class_defs.string_or_none.Goals as goal
-
-pub returns-in-Some : goal.returns-in-Some
-returns-in-Some c = rw c.in-Some.is (rank_or_none c.args.ranks.now.strings _ (view.str c.in-Some.text) (omega (arith, c.requires.few)) c.string_index.ensures)

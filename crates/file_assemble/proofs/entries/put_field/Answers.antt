@@ -1,8 +1,0 @@
-use Rattle.std.proofs.Common.{ℕ}
-use Rattle.std.proofs.lemmas.Result.{on_ok_weaker}
-use Rattle.dex_base.proofs.GrammarLaws.{Then-appends}
-use Rattle.dex_base.specs.Leb128.{Spells, Shortest}
-use Rattle.file_assemble.proofs.entries.put_field.Goals as goal
-
-pub returns-clause-ok : goal.returns-clause-ok
-returns-clause-ok c = on_ok_weaker c.put_uleb-2.result (λ a. Then-appends (Shortest Spells) (λ (n : ℕ). Shortest Spells) _ _ _ c.args.step c.args.flags c.in_ok-put_uleb.ensures.ok a) c.put_uleb-2.ensures.ok
