@@ -6,18 +6,18 @@ use Rattle.dex_base.specs.Deciding.{Decided, DecidedFront}
 use Rattle.dex_base.specs.Grammar.{Takes, IsPrefixUnique, Then, Many}
 use Rattle.dex_base.specs.Leb128.{SpellsSigned, signed_low_first}
 use Rattle.dex_base.specs.Via.{Via}
+use Rattle.dex_base.specs.FirstFault.{FirstBroken}
 use Rattle.dex_base.proofs.FirstFaultLaws.{broken_clear, broken_decided}
 use Rattle.dex_base.proofs.Deciding.{decide_like, decide_both, decide_le, decide_by, DecidedEach, decide_each, decide_sequence}
 use Rattle.dex_base.proofs.TakesLaws.{Takes-then, Then-takes, Takes-unique, Takes-none, NoneBegins-from_takes}
 use Rattle.dex_base.proofs.ViaLaws.{via-takes, via-none, via-nothing}
 use Rattle.code_rules.specs.First.{AllHold}
-use Rattle.code_rules.specs.inner.First.{IsFirstBroken}
 
 -- ---- numbers below a bound
 
 pub decide-all-below : (P : ℕ → Type 0) → ((k : ℕ) → Decided (P k)) → (n : ℕ) → Decided (AllHold P n)
 decide-all-below P d n =
-    let first : AllHold P n ⊎ ((k : ℕ) × IsFirstBroken P n k) = broken_decided d in
+    let first : AllHold P n ⊎ ((k : ℕ) × FirstBroken n P (λ i. i) k) = broken_decided d in
     elim first [ inl all ↦ inl all | inr f ↦ inr (λ all. broken_clear all f.1) ]
 
 -- a list of n values, each with what it must have

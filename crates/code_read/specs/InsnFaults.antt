@@ -14,24 +14,25 @@ use Rattle.code_read.specs.Linked.{NameHolds, AreLinked}
 abbrev pub insn_fault : List ℕ → ℕ → ℕ → ℕ → Fault
 insn_fault ss base number k = record { code = number; place = base + 2 * slice_index ss k }
 
--- The fault is that of the first instruction whose index has no row (65).
+-- The fault of the first instruction whose index has no row (65).
 abbrev pub NamesBreak : (ℕ → Name → Type 0) → List Raw → List ℕ → ℕ → Fault → Type 0
 NamesBreak N rs ss base = FirstBroken (length rs) (NameHolds N rs) (insn_fault ss base 65)
 
--- The rule of branches that instruction k breaks: where a branch leads (68), or that it leads nowhere else (69).
+-- The first rule of branches that instruction k violates: the target (68), a target other than itself (69).
 abbrev pub BranchBreaks : List ℕ → List Insn → ℕ → ℕ → Fault → Type 0
 BranchBreaks ss is base k fault =
     or_else (insn_fault ss base 68 k) fault (BranchLands is k) (
     or_else (insn_fault ss base 69 k) fault (BranchMoves is k) ⊥)
 
--- The first rule that a linked instruction breaks: of branches, of the use of payloads (70), of where a switch's payload leads (68).
+-- The first rule that a linked instruction violates: those of branches, the use of payloads (70), the targets of a
+-- switch (68).
 abbrev pub LinkedBreak : List ℕ → List Insn → ℕ → Fault → Type 0
 LinkedBreak ss is base fault =
     or_first (length is) (BranchHolds is) (BranchBreaks ss is base) fault (
     or_broken (length is) (PayloadHolds is) (insn_fault ss base 70) fault (
     or_broken (length is) (SwitchLands is) (insn_fault ss base 68) fault ⊥))
 
--- An index has no row, or the instructions, linked, break a rule.
+-- An index has no row, or the linked instructions violate a rule.
 abbrev pub RulesBreak : (ℕ → Name → Type 0) → List Raw → ℕ → Fault → Type 0
 RulesBreak N rs base fault =
     NamesBreak N rs (starts rs) base fault

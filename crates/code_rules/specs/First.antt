@@ -1,4 +1,4 @@
--- The first of some numbers that breaks a rule.
+-- Rules that all numbers below a bound keep.
 use Rattle.std.specs.Prelude.{ℕ}
 use Rattle.dex_base.specs.FirstFault.{AllBelow}
 

@@ -1,6 +1,5 @@
 -- What no promise reaches: the contracts of inner functions, and proofs, name it.
 pub mod Branches
 pub mod CodeRules
-pub mod First
 pub mod Parts
 pub mod Uses

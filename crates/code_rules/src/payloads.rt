@@ -4,8 +4,8 @@ ghost use Rattle.std.specs.Prelude.{◌≡◌, ◌↔◌, ◌<◌, ◌≤◌, �
 ghost use Rattle.program_types.specs.Formed.{insn_at, insn_wants, insn_reach, WantsPayload, RefersToPayload, PayloadHolds};
 ghost use Rattle.program_types.specs.View.{insn, code};
 ghost use Rattle.code_rules.specs.CodeRules.{PayloadsHold};
+ghost use Rattle.dex_base.specs.FirstFault.{FirstBroken};
 ghost use Rattle.code_rules.specs.First.{AllHold};
-ghost use Rattle.code_rules.specs.inner.First.{IsFirstBroken};
 ghost use Rattle.code_rules.specs.inner.Parts.{HasNoPayload, IsUsedOnce};
 ghost use Rattle.code_rules.specs.inner.Uses.{AreUses, used_again};
 
@@ -213,7 +213,7 @@ fn are_plain(insns: &[Insn<'_>]) -> bool
 /// The first instruction that refers to no payload of its kind, or is the payload of a switch and hasn't exactly one, in time that
 /// grows with the code: it takes a byte an instruction, and nothing where no instruction has to do with payloads.
 pub fn first_bad_use(alloc: Global, insns: &[Insn<'_>]) -> Result<Option<usize>, AllocError>
-    ensures some { IfOk result (λ found. IfSome found (IsFirstBroken (PayloadHolds (map insn insns.now)) (length insns.now))) }
+    ensures some { IfOk result (λ found. IfSome found (FirstBroken (length insns.now) (PayloadHolds (map insn insns.now)) (λ k. k))) }
     ensures none { IfOk result (λ found. IfNone found (AllHold (PayloadHolds (map insn insns.now)) (length insns.now))) }
 {
     if are_plain(insns) {

@@ -4,8 +4,8 @@ ghost use Rattle.std.specs.Prelude.{◌↔◌, ◌<◌, length, map, take, IsTru
 ghost use Rattle.std.specs.List.{AllByRecursion, range_with_len};
 ghost use Rattle.program_types.specs.Formed.{insn_at, insn_registers, AreAmong, RegistersHold};
 ghost use Rattle.program_types.specs.View.{insn, code};
+ghost use Rattle.dex_base.specs.FirstFault.{FirstBroken};
 ghost use Rattle.code_rules.specs.First.{AllHold};
-ghost use Rattle.code_rules.specs.inner.First.{IsFirstBroken};
 
 use program_types::{Code, Insn};
 
@@ -77,7 +77,7 @@ fn register_holds(count: u16, insns: &[Insn<'_>], k: usize) -> bool
 
 /// The first instruction that names a register past the first `count`.
 pub fn first_past(count: u16, insns: &[Insn<'_>]) -> Option<usize>
-    ensures some { IfSome result (IsFirstBroken (λ k. AreAmong count (insn_at (map insn insns.now) k)) (length insns.now)) }
+    ensures some { IfSome result (FirstBroken (length insns.now) (λ k. AreAmong count (insn_at (map insn insns.now) k)) (λ k. k)) }
     ensures none { IfNone result (AllHold (λ k. AreAmong count (insn_at (map insn insns.now) k)) (length insns.now)) }
 {
     for k in 0..insns.len() {

@@ -6,8 +6,8 @@ ghost use Rattle.program_types.specs.Formed.{insn_branch, insn_short_branch, IsT
 ghost use Rattle.program_types.specs.View.{insn, code};
 ghost use Rattle.code_rules.specs.Branches.{BranchLands, BranchMoves, BranchHolds, SwitchLands};
 ghost use Rattle.code_rules.specs.inner.Branches.{BranchStays};
+ghost use Rattle.dex_base.specs.FirstFault.{FirstBroken};
 ghost use Rattle.code_rules.specs.First.{AllHold};
-ghost use Rattle.code_rules.specs.inner.First.{IsFirstBroken};
 ghost use Rattle.code_rules.specs.CodeRules.{TargetsHold};
 
 use program_types::{Code, Insn, payload_of, targets_of};
@@ -128,7 +128,7 @@ fn switch_lands(insns: &[Insn<'_>], k: usize) -> bool
 
 /// The first branch that leads to no instruction, to a payload, or to itself where it may not.
 pub fn first_bad_branch(insns: &[Insn<'_>]) -> Option<usize>
-    ensures some { IfSome result (IsFirstBroken (BranchHolds (map insn insns.now)) (length insns.now)) }
+    ensures some { IfSome result (FirstBroken (length insns.now) (BranchHolds (map insn insns.now)) (λ k. k)) }
     ensures none { IfNone result (AllHold (BranchHolds (map insn insns.now)) (length insns.now)) }
 {
     for k in 0..insns.len() {
@@ -141,7 +141,7 @@ pub fn first_bad_branch(insns: &[Insn<'_>]) -> Option<usize>
 
 /// The first payload of a switch one of whose targets is no instruction, or a payload.
 pub fn first_bad_switch(insns: &[Insn<'_>]) -> Option<usize>
-    ensures some { IfSome result (IsFirstBroken (SwitchLands (map insn insns.now)) (length insns.now)) }
+    ensures some { IfSome result (FirstBroken (length insns.now) (SwitchLands (map insn insns.now)) (λ k. k)) }
     ensures none { IfNone result (AllHold (SwitchLands (map insn insns.now)) (length insns.now)) }
 {
     for k in 0..insns.len() {

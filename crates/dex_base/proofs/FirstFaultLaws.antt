@@ -1,5 +1,5 @@
--- A list of rules and a row of numbers have one first fault, and none where all hold.
-use Rattle.std.proofs.Common.{◌≡◌, ◌⊎◌, ℕ, zero, suc, ◌<◌, ◌≤◌, List, [], ◌∷◌, length, Some, inl, inr, refl, ap, sym, ◌∙◌, subst, arith, slice_get}
+-- A list of rules, or of numbers, has one first fault, and none if all hold.
+use Rattle.std.proofs.Common.{◌≡◌, ◌⊎◌, ℕ, zero, suc, ◌<◌, ◌≤◌, List, [], ◌∷◌, length, Some, inl, inr, refl, sym, ◌∙◌, subst, arith, slice_get}
 use Rattle.std.proofs.lemmas.Bool.{cases_lt}
 use Rattle.std.proofs.lemmas.Option.{same_Some, slice_get_within}
 use Rattle.dex_base.specs.FirstFault.{or_later, or_else, AllBelow, First, or_first, FirstBroken, or_broken, EntryHolds, EntryFails, FirstEntry}
@@ -7,12 +7,12 @@ use Rattle.dex_base.specs.FirstFault.{or_later, or_else, AllBelow, First, or_fir
 -- ---- lists of rules
 
 module _ {F : Type 0} {wanted : F} {Rule : Type 0} where
-  -- none is broken where this one holds, and none that comes after is broken
+  -- no fault, if the rule is satisfied and the rest of the list has none
   pub else_clear : {e : F} {After : Type 0} → Rule → (After → ⊥) → or_else wanted e Rule After → ⊥
   else_clear kept after (inl x) = x.0 kept
   else_clear kept after (inr x) = after x.1
 
-  -- the first that is broken is one; what comes after may need the rule
+  -- one fault; the rest of the list may need the rule
   pub else_with : {e f : F} {A B : Type 0} → (Rule → A → B → e ≡ f) → or_else wanted e Rule A → or_else wanted f Rule B → e ≡ f
   else_with after (inl x) (inl y) = x.1 ∙ sym y.1
   else_with after (inl x) (inr y) = absurd (x.0 y.0)
@@ -73,7 +73,7 @@ module _ {F : Type 0} {n : ℕ} {Holds : ℕ → Type 0} {Breaks : ℕ → F →
     | inr first ↦ inr first
   ]
 
-  -- all hold, or there is a first that doesn't
+  -- all numbers satisfy the rules, or there is a first that doesn't
   pub first_decided : ((i : ℕ) → i < n → Holds i ⊎ ((e : F) × Breaks i e)) → AllBelow n Holds ⊎ ((e : F) × First n Holds Breaks e)
   first_decided = first_up_to n (omega arith)
 
@@ -93,10 +93,6 @@ module _ {F : Type 0} {n : ℕ} {Holds : ℕ → Type 0} {wanted : ℕ → F} wh
   pub broken_decided : ((i : ℕ) → Holds i ⊎ (Holds i → ⊥)) → AllBelow n Holds ⊎ ((e : F) × FirstBroken n Holds wanted e)
   broken_decided each = first_decided (λ i lt. elim (each i) [ inl hold ↦ inl hold | inr not ↦ inr (wanted i, record { broken = not; is = refl }) ])
 
--- what is found at the number of another search for the same
-pub broken_as : {F : Type 0} {n k : ℕ} {Holds : ℕ → Type 0} (wanted : ℕ → F) → FirstBroken n Holds (λ i. i) k → FirstBroken n Holds wanted (wanted k)
-broken_as wanted x = record { number = x.number; within = x.within; breaks = record { broken = x.breaks.broken; is = ap wanted x.breaks.is }; before = x.before }
-
 -- ---- entries of a list
 
 module _ {A F : Type 0} (xs : List A) (Holds : ℕ → A → Type 0) (Breaks : ℕ → A → F → Type 0) (clear : (i : ℕ) (a : A) (x : F) → Holds i a → Breaks i a x → ⊥) where
@@ -113,7 +109,7 @@ some_entry [] k lt = absurd (omega (arith, lt))
 some_entry (x ∷ xs) zero lt = (x, refl)
 some_entry (x ∷ xs) (suc k) lt = some_entry xs k (omega (arith, lt))
 
--- all entries hold, or there is a first that doesn't
+-- all entries satisfy the rules, or there is a first that doesn't
 pub entries_decided : {A F : Type 0} (xs : List A) (Holds : ℕ → A → Type 0) (Breaks : ℕ → A → F → Type 0) → ((i : ℕ) (a : A) → slice_get xs i ≡ Some a → Holds i a ⊎ ((e : F) × Breaks i a e))
     → ((i : ℕ) (a : A) → slice_get xs i ≡ Some a → Holds i a) ⊎ ((e : F) × FirstEntry xs Holds Breaks e)
 entries_decided {A} {F} xs Holds Breaks each = all (first_decided entry)

@@ -34,7 +34,8 @@ payload_units us = if field us 0 8 8 == 1 then packed_units (number us 1 1)
 abbrev pub HasFormat : List ℕ → Format → Type 0
 HasFormat us format = (¬ IsPayload us) × (format_at us ≡ Some format)
 
--- The rule that a payload at the front of the bytes breaks. Its first unit is unit `at` of the code.
+-- The number of the first rule that a payload at the front of the bytes violates: an even unit, the whole head, the
+-- width, the whole payload, the order of keys. Its first unit is unit `at` of the code.
 unfoldable pub PayloadBreaks : ℕ → List ℕ → ℕ → Type 0
 PayloadBreaks at us code =
     or_else 67 code (IsPayload us → at % 2 ≡ 0) (
@@ -43,8 +44,9 @@ PayloadBreaks at us code =
     or_else 63 code (IsPayload us → 2 * payload_units us ≤ length us) (
     or_else 67 code (number us 0 1 ≡ 0x0200 → SwitchKeysRise (slice_range us 4 (4 + 4 * number us 1 1)) (number us 1 1)) ⊥))))
 
--- The rule that the instruction at the front of the bytes breaks: the first, a unit, an opcode, its length, zeros and count, or one
--- of a payload.
+-- The number of the first rule that the instruction at the front of the bytes violates: a whole unit, the opcode, the
+-- whole instruction, zero bits, the register count, then the rules of payloads. A rule says of which instructions it
+-- speaks.
 unfoldable pub InsnBreaks : ℕ → List ℕ → ℕ → Type 0
 InsnBreaks at us code =
     or_else 63 code (2 ≤ length us) (
@@ -67,7 +69,7 @@ pub record KeepsRules (at : ℕ) (us : List ℕ) : Type 0 where
   pub payload : IsPayload us → 2 * payload_units us ≤ length us
   pub keys : number us 0 1 ≡ 0x0200 → SwitchKeysRise (slice_range us 4 (4 + 4 * number us 1 1)) (number us 1 1)
 
--- the fault names the rule that the instruction at unit `at` breaks
+-- the fault of the instruction at unit `at`
 pub record IsFaultAt (bytes : List ℕ) (at : ℕ) (fault : Fault) : Type 0 where
   pub place : fault.place ≡ at
   pub broken : InsnBreaks at (drop (2 * at) bytes) fault.code

@@ -1,4 +1,4 @@
--- By which number a fault names a flaw.
+-- The number of the fault for each flaw.
 use Rattle.std.specs.Prelude.{ℕ}
 use Rattle.dex_insn.specs.declared.flaw.Flaw.{Flaw}
 use Rattle.dex_insn.specs.declared.flaw.Flaw.TheVariants.{Missing, Opcode, Cut, NonZero, RegisterCount, OddPayload, CutHead, Width, CutPayload, KeyOrder}
