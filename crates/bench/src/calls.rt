@@ -15,7 +15,7 @@ use listing_print::print;
 use std::alloc::Global;
 use std::io;
 
-/// Bytes for which the writer of a run has room from the beginning.
+/// The capacity in bytes that the writer of a run has from the beginning.
 const ROOM: usize = 1 << 16;
 
 /// What the call gave, as a number.
@@ -61,7 +61,7 @@ fn program_printed(alloc: Global, bytes: &[u8]) -> Result<u64, Fault> {
     Ok(sum_of(&print(alloc, &program)?))
 }
 
-/// What a run writes into a writer that has room, so that nothing but the run asks for memory.
+/// The output of a run into a writer with enough capacity, so that only the run requests memory.
 pub fn output_of(alloc: Global, job: Job, bytes: &[u8]) -> Result<Vec<u8>, Fault> {
     let mut output = Watched::new(Vec::with_capacity(alloc, ROOM)?);
     match run_job(alloc, job, &mut Watched::new(bytes), &mut output) {
@@ -77,7 +77,7 @@ fn job_run(alloc: Global, job: Job, bytes: &[u8]) -> Result<u64, Fault> {
     Ok(sum_of(&output_of(alloc, job, bytes)?))
 }
 
-/// What the words ask for.
+/// Runs the command of these words.
 pub fn run(rt: &(impl Print + Alloc<A = Global>), words: &[&str], bytes: &[u8]) -> io::Result<()> {
     let name = word(words, 0);
     match called(rt.alloc(), name, bytes) {

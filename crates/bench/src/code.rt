@@ -1,5 +1,5 @@
 //! Reads each code item of a file, each of which takes 256 bytes: `code TIMES` does so that many times, and prints the
-//! sum of what they say. bench/code/run times it beside bench/code/plain.rs.
+//! sum over their operands. bench/code/run times it beside bench/code/plain.rs.
 
 use crate::words::number;
 use bumpalo::Bump;
@@ -11,7 +11,7 @@ use std::alloc::Global;
 use std::io;
 use tables_rows::Tables;
 
-/// Where an instruction leads, or what its operands add up to.
+/// The target of an instruction, or the sum of its operands.
 fn weight(one: &Insn<'_>) -> u64 {
     match one {
         Insn::I10t { to, .. } | Insn::I21t { to, .. } | Insn::I31t { to, .. } => u64::from(*to),
@@ -79,7 +79,7 @@ fn read_often(alloc: Global, bytes: &[u8], times: u32) -> Result<u64, Fault> {
     Ok(sum)
 }
 
-/// What the words ask for.
+/// Runs the command of these words.
 pub fn run(rt: &(impl Print + Alloc<A = Global>), words: &[&str], bytes: &[u8]) -> io::Result<()> {
     match read_often(rt.alloc(), bytes, number(words, 0)) {
         Ok(sum) => println!(rt; "{sum}"),

@@ -48,7 +48,7 @@ fn texts(alloc: Global) -> Result<Vec<u8>, AllocError> {
     Ok(bytes)
 }
 
-/// The sum of the numbers that stand end to end at the front.
+/// The sum of the numbers that are end to end at the front.
 fn sum_of_numbers(bytes: &[u8]) -> u64 {
     let mut sum: u64 = 0;
     let mut rest = bytes;
@@ -60,7 +60,7 @@ fn sum_of_numbers(bytes: &[u8]) -> u64 {
     sum
 }
 
-/// The sum of the lengths and last units of the texts that stand end to end at the front.
+/// The sum of the lengths and last units of the texts that are end to end at the front.
 fn sum_of_texts(alloc: Global, bytes: &[u8]) -> Result<u64, Fault> {
     let arena = Bump::new(alloc);
     let mut sum: u64 = 0;
@@ -113,7 +113,7 @@ fn run_mutf8(alloc: Global, rounds: u32) -> Result<u64, Fault> {
     Ok(sum)
 }
 
-/// What the words ask for, if it is done.
+/// Runs the command of these words, if there is one.
 pub fn run(rt: &(impl Print + Alloc<A = Global>), words: &[&str]) -> io::Result<()> {
     let (work, rounds) = (word(words, 0), number(words, 1));
     let all = work == "all";

@@ -1,5 +1,5 @@
-//! Walks generated code: reads each instruction, and goes on by its size. `insns MEGABYTES WALKS` prints the sum over all
-//! walks of what the operands add up to, and the number of instructions. bench/insns/run times it beside
+//! Walks generated code: reads each instruction, and continues after it. `insns MEGABYTES WALKS` prints the sum of all operands
+//! over all walks, and the number of instructions. bench/insns/run times it beside
 //! bench/insns/plain.rs.
 
 ghost use Rattle.std.specs.Prelude.{◌≤◌};
@@ -23,7 +23,7 @@ fn next(state: u64) -> u64 {
         .wrapping_add(1442695040888963407)
 }
 
-/// How many bytes stand after the first unit of an instruction of the format.
+/// How many bytes follow the first unit of an instruction of the format.
 fn bytes_after(format: Format) -> usize
     ensures { result ≤ 8 }
 {
@@ -50,7 +50,7 @@ fn high_byte(format: Format, byte: u8) -> u8 {
     }
 }
 
-/// Appends an instruction made from random numbers, or a payload where that can stand here.
+/// Appends an instruction made from random numbers, or a payload if it is allowed here.
 fn put_random(out: &mut Vec<u8>, random: u64) -> Result<(), AllocError> {
     let op = (random / 0x100000000000000) as u8;
     match format_of(op) {
@@ -96,7 +96,7 @@ fn walk(units: &[u8]) -> (u64, u64) {
     (sum, count)
 }
 
-/// What the words ask for.
+/// Runs the command of these words.
 pub fn run(rt: &(impl Print + Alloc<A = Global>), words: &[&str]) -> io::Result<()> {
     let (megabytes, walks) = (u64::from(number(words, 0)), u64::from(number(words, 1)));
     let mut units = Vec::new(rt.alloc());

@@ -11,7 +11,7 @@ use program_types::Program;
 use std::alloc::{AllocError, Global};
 use std::io;
 
-/// How many classes the listing has where no word says it.
+/// The default number of classes of the listing.
 const CLASSES: u32 = 2000;
 
 /// A class: fields with values, a method with a loop and a call, and one with a sum.
@@ -92,7 +92,7 @@ fn tell(rt: &impl Print, work: &str, sum: Result<u64, Fault>) -> io::Result<()> 
     }
 }
 
-/// What the words ask for.
+/// Runs the command of these words.
 pub fn run(rt: &(impl Print + Alloc<A = Global>), words: &[&str]) -> io::Result<()> {
     let (work, rounds) = (word(words, 0), number(words, 1));
     let classes = if words.len() > 2 {

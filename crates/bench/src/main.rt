@@ -3,7 +3,7 @@
 //! memory tools/try memory refuses; and `bench example`, which runs crates/example. `bench all` does each but `calls` once, on little;
 //! `tables`, `code`, `calls` and `example` read the file on standard input.
 //!
-//! docs/MAP.md says where this crate stands among the others.
+//! docs/MAP.md has this crate's place among the others.
 #![tactic(auto)]
 
 mod calls;

@@ -167,7 +167,7 @@ fn work(alloc: Global, kind: Kind, count: u32, order: Order) -> Result<u64, Faul
     frozen(needed)
 }
 
-/// What the words ask for.
+/// Runs the command of these words.
 pub fn run(rt: &(impl Print + Alloc<A = Global>), words: &[&str]) -> io::Result<()> {
     let kind = match word(words, 0) {
         "field" => Kind::Field,

@@ -1,5 +1,5 @@
-//! Calls each function that appends what is public once, on a Vec that has no room left: `puts` prints for each the sum of what the Vec holds
-//! then, or the fault, and whether the Vec is as it was. tools/try memory refuses each of their requests in turn.
+//! Calls each public function that appends, once, on a Vec without spare capacity: `puts` prints for each the sum of the Vec's bytes
+//! afterwards, or the fault, and whether the Vec is as it was. tools/try memory refuses each of their requests in turn.
 
 use dex_base::{Fault, adler32, put_mutf8, put_sleb, put_uleb};
 use dex_insn::{RawInsn, put_insn};
@@ -94,7 +94,7 @@ fn put(out: &mut Vec<u8>, what: Call) -> Result<(), Fault> {
     }
 }
 
-/// Makes the call on a full Vec, and tells what has become of it.
+/// Makes the call on a full Vec, and prints the result.
 fn tell(rt: &(impl Print + Alloc<A = Global>), what: Call) -> io::Result<()> {
     let name = name_of(what);
     let Ok(mut out) = full(rt.alloc()) else {

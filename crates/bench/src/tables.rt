@@ -47,7 +47,7 @@ fn read_often(alloc: Global, bytes: &[u8], times: u32) -> Result<u64, Fault> {
     Ok(sum)
 }
 
-/// What the words ask for.
+/// Runs the command of these words.
 pub fn run(rt: &(impl Print + Alloc<A = Global>), words: &[&str], bytes: &[u8]) -> io::Result<()> {
     match read_often(rt.alloc(), bytes, number(words, 0)) {
         Ok(sum) => println!(rt; "{sum}"),

@@ -15,11 +15,11 @@ use dex_base::Fault;
 use program_types::Code;
 use std::alloc::Global;
 
-/// The code with a nop before each payload that would stand at an odd address, walking forwards. Targets, tries and handlers move
-/// with the instructions; the number past the last one moves by all nops. The result is well formed. An error is 90, where more than 2147483647 instructions
-/// would result, or out of memory.
+/// Returns the code with a nop before each payload that would be at an odd address, walking forwards. Targets, tries and handlers
+/// move with the instructions; the number past the last one moves by all nops. The result is well formed. An error is 90, if more
+/// than 2147483647 instructions would result, or out of memory.
 ///
-/// Page: "Dalvik bytecode": payloads stand at even addresses.
+/// Page: "Dalvik bytecode": payloads are at even addresses.
 ///
 /// ```
 /// use bumpalo::Bump;

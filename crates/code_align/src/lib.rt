@@ -5,7 +5,7 @@
 //! let program = align_all(alloc, &arena, &program)?; // so that `write` can't refuse it with 86
 //! ```
 //!
-//! docs/MAP.md says where this crate stands among the others.
+//! docs/MAP.md has this crate's place among the others.
 #![tactic(auto)]
 
 // One code.

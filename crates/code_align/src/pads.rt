@@ -38,7 +38,7 @@ fn after(at: u64, nop: bool, one: &Insn<'_>) -> u64
     at + units_of(one)
 }
 
-/// Which instructions get a nop before them: walking forwards, each payload that would stand at an odd address.
+/// Which instructions get a nop before them: walking forwards, each payload that would be at an odd address.
 pub(crate) fn pads_of(alloc: Global, insns: &[Insn<'_>]) -> Result<Vec<bool>, AllocError>
     requires few { length insns.now ≤ 2147483647 }
     requires operands { (k : ℕ) → k < length insns.now → IsOperand (length insns.now) (insn_at (map insn insns.now) k) }

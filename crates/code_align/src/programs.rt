@@ -113,8 +113,8 @@ fn aligned_classes<'a>(
     Ok(into_bump_slice(classes))
 }
 
-/// A well-formed program with each body aligned: a nop before each payload that would stand at an odd address, and the numbers of
-/// instructions moved with it. All else is as it was, and the program is well formed again. What is new lies in the arena.
+/// Returns a well-formed program with each body aligned: a nop before each payload that would be at an odd address, and the numbers
+/// of instructions moved with it. All else is unchanged, and the program is well formed again. New parts lie in the arena.
 ///
 /// An error is 90, where a body would have more than 2147483647 instructions, or out of memory.
 ///

@@ -1,4 +1,4 @@
-//! The instructions of a code, looked at and not kept.
+//! The instructions of a code, checked and not kept.
 
 ghost use Rattle.std.specs.Prelude.{◌≡◌, ◌≢◌, ◌^◌, ◌<◌, ◌≤◌, ◌%◌, length, IfOk, IfErr, IfSome};
 ghost use Rattle.dex_base.specs.Fault.{memory};
@@ -42,8 +42,8 @@ fn check_plain(
     Ok(Some(Checked { starts, past: None }))
 }
 
-/// Looks at the instructions of a code of so many registers, whose first unit is at the place `base`: where there are no payloads,
-/// nothing is kept but where each begins. Where that comes to nothing they are read into the arena, which says the rule that is broken.
+/// Checks the instructions of a code with so many registers, whose first unit is at byte `base`. Without payloads only the units where
+/// instructions begin are kept; otherwise, and if a rule is violated, the instructions are read into the arena, which finds the rule.
 pub(crate) fn check_insns(
     alloc: Global,
     arena: &Bump,

@@ -45,7 +45,7 @@ pub fn read_signed(bytes: &[u8]) -> Option<(i32, &[u8])>
     Some((n, rest))
 }
 
-/// The number of the instruction whose address stands at the front, and what follows it.
+/// The number of the instruction whose address is at the front, and the bytes after it.
 fn read_address<'b>(tables: &Tables<'_>, starts: &[u32], bytes: &'b [u8]) -> Option<(u32, &'b [u8])>
     requires rises { Rises starts.now }
     requires few { length starts.now ≤ 4294967295 }
@@ -59,7 +59,7 @@ fn read_address<'b>(tables: &Tables<'_>, starts: &[u32], bytes: &'b [u8]) -> Opt
     Some((n, rest))
 }
 
-/// The type whose index stands at the front, and what follows it.
+/// The type whose index is at the front, and the bytes after it.
 fn read_type<'a, 'b>(
     tables: &Tables<'a>,
     starts: &[u32],

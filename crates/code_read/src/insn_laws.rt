@@ -12,8 +12,8 @@ ghost use Rattle.code_read.specs.InsnFaults.{InsnsBreak};
 ghost use Rattle.code_read.specs.Linked.{SpellsInsns};
 ghost use Rattle.code_read.specs.Symbols.{linked};
 
-/// A raw instruction names the registers that the instruction names for which it stands: so the rule of registers is one, of files
-/// and of programs.
+/// A raw instruction names the registers that the linked instruction names: so the rule of registers is the same for files and for
+/// programs.
 pub fn registers_are_said()
     ensures { (T : ℤ → ℕ) (name : Name) (r : Raw) → named_registers r ≡ insn_registers (linked T name r) }
 {}
@@ -23,15 +23,15 @@ pub fn insns_break_one_rule()
     ensures { (names : Names) (us : List ℕ) (base : ℕ) → length us ≡ 2 * (length us / 2) → (e f : Fault) → InsnsBreak (NameIsAt names) us base e → InsnsBreak (NameIsAt names) us base f → e ≡ f }
 {}
 
-/// By address, as the page says: where a code is spelled, each branch, each target of a switch and each reference to a payload leads to
-/// the instruction whose address is the sum, and to no other. An offset counts from its instruction, a switch's target from the switch.
+/// By address, as on the page: in a code of a file each branch, each target of a switch and each reference to a payload refers to the
+/// instruction whose address is the sum, and to no other. An offset counts from its instruction, a switch's target from the switch.
 pub fn offsets_lead_by_address()
     ensures { (names : Names) (bytes : List ℕ) (c : Code) (s : SpellsCode (NameIsAt names) bytes c) (k : ℕ) → k < length c.insns → LeadsByAddress s.body.raws c.insns k }
 {}
 
-/// The same as a definition: units are instructions exactly if they are by address, where each is the raw instruction with a name for
-/// its index and, for each offset, the number of the instruction whose address is the sum, and the rules of branches, switches and
-/// payloads hold. So the definition can be read without the number that stands for no instruction, and without a last switch.
+/// The same as a definition: units are instructions if and only if they are by address. There each is the raw instruction with a name
+/// for its index and, for each offset, the number of the instruction whose address is the sum, and the rules of branches, switches
+/// and payloads are satisfied. So the definition can be read without the number for "no instruction", and without a last switch.
 pub fn insns_are_spelled_by_address()
     ensures { (names : Names) (us : List ℕ) (rs : List Raw) (is : List Insn) → SpellsInsns (NameIsAt names) us rs is ↔ SpellsInsnsByAddress (NameIsAt names) us rs is }
 {}

@@ -41,7 +41,7 @@ pub(crate) struct Insns<'a> {
     pub past: Option<u32>,
 }
 
-/// Instruction `k`, linked from its own address; in place of a payload stands an empty one. None where its index has no row.
+/// Returns instruction `k`, linked from its own address, with an empty payload in place of a payload. `None` if its index has no row.
 fn half_linked<'a>(
     tables: &Tables<'a>,
     insns: &[RawInsn<'_>],
@@ -194,8 +194,8 @@ fn past_registers(insns: &[Insn<'_>], starts: &[u32], count: u16) -> Option<u32>
     Some(starts[first_past(count, insns)?])
 }
 
-/// Reads the instructions of a code of so many registers, whose first unit is at the place `base`: at once where there are no payloads;
-/// where that comes to nothing, linked in turn, which says the rule that is broken.
+/// Reads the instructions of a code with so many registers, whose first unit is at byte `base`: in one walk if there are no payloads and
+/// no rule is violated; otherwise they are linked in turn, which finds the rule.
 pub(crate) fn read_insns<'a>(
     alloc: Global,
     arena: &'a Bump,

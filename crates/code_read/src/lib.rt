@@ -1,6 +1,6 @@
-//! Code items, read or only looked at: a method's instructions and tries, at a byte offset of a file. The units of the instructions are
-//! walked once, end to end, and linked: an index becomes a name, and an offset the number of the instruction to which it leads. Then
-//! branches, payloads and switches are asked for the rules of programs. Tries and their handlers follow, and registers come last.
+//! Code items, read or only checked: a method's instructions and tries, at a byte offset of a file. The units of the instructions are
+//! walked once, end to end, and linked: an index becomes a name, and an offset the number of its target instruction. Then branches,
+//! payloads and switches are checked for the rules of programs. Tries and their handlers follow, and registers come last.
 //!
 //! ```text
 //! let tables = Tables::read(alloc, &arena, &sections)?;
@@ -8,7 +8,7 @@
 //! let first = code.insns[0]; // const/4 v0, -1 is `I11n { op: 0x12, a: 0, b: -1 }`
 //! ```
 //!
-//! docs/MAP.md says where this crate stands among the others.
+//! docs/MAP.md has this crate's place among the others.
 #![tactic(auto)]
 
 // The instructions, end to end, and from their addresses to their numbers.

@@ -1,5 +1,5 @@
-//! The instructions of a code that has neither tries nor anything to do with payloads, looked at in one walk and not kept. Where branches lead
-//! is asked when all instructions are known: of each unit it is marked whether an instruction begins there and whether a branch leads to it.
+//! The instructions of a code without tries and payloads, checked in one walk and not kept. Branch targets are checked once all
+//! instruction boundaries are known: each unit is marked if an instruction begins there, and if a branch targets it.
 
 ghost use Rattle.std.specs.Prelude.{◌≡◌, ◌≢◌, pos, ◌+ℤ◌, ◌<◌, ◌≤◌, ◌*◌, ◌%◌, ℕ, length, slice_index, slice_set, replicate, IfOk, IfSome, IsTrue};
 ghost use Rattle.std.specs.Int.RustNames.{bit_or};
@@ -22,17 +22,17 @@ use tables_rows::Tables;
 /// An instruction begins at the unit.
 const BEGINS: u8 = 1;
 
-/// A branch leads to the unit.
+/// A branch targets the unit.
 const LED_TO: u8 = 2;
 
-/// How many units an instruction has, and how far it leads if it is a branch.
+/// The number of units of an instruction, and the offset if it is a branch.
 #[derive(Clone, Copy)]
 struct Looked {
     units: u64,
     leads: Option<i32>,
 }
 
-/// How far a branch leads, in units.
+/// The branch offset, in 16-bit code units.
 #[inline(always)]
 #[tactic(auto, unfolding(crate::specs::inner::Looking::branch_offset, dex_insn::specs::Raw::raw))]
 fn branch_offset(one: &RawInsn<'_>) -> Option<i32>
@@ -48,8 +48,8 @@ fn branch_offset(one: &RawInsn<'_>) -> Option<i32>
     }
 }
 
-/// Looks at an instruction of a code of so many registers. Nothing comes of one that has to do with payloads, whose index has no row, or
-/// that names another register.
+/// Checks one instruction of a method with `registers` registers. Returns `None` for payload instructions, for an index out of range and
+/// for a register out of range.
 #[derive(Clone, Copy)]
 struct Look<'t, 'a> {
     tables: &'t Tables<'a>,
@@ -78,7 +78,7 @@ impl<'b> Take<'b> for Look<'_, '_> {
     }
 }
 
-/// What comes of the instruction at a unit; None where there is none.
+/// The result for the instruction at a unit; `None` if there is no instruction.
 #[inline(always)]
 fn looked_at(look: Look<'_, '_>, units: &[u8], at: u32) -> Option<Looked>
     ensures { IfSome result (λ s. (r : Raw) × InsnStands units.now at r × IsLooked (NameIsAt look.entry.tables.now) look.entry.registers r s.units s.leads) }
@@ -110,8 +110,8 @@ fn other_unit(count: usize, at: u32, offset: i32) -> Option<usize>
     Some(unit as usize)
 }
 
-/// Looks at the instruction at a unit, marks where it begins and where it leads, and answers how many units it has. None where nothing comes
-/// of it, and where it leads to itself or to none of the units.
+/// Checks the instruction at a unit, marks its unit and its target, and returns its number of units. `None` if it is refused, or
+/// branches to itself or to no unit of the code.
 #[inline(always)]
 fn pass(look: Look<'_, '_>, marks: &mut [u8], units: &[u8], at: u32) -> Option<u64>
     requires { at < length marks.old }
@@ -126,7 +126,7 @@ fn pass(look: Look<'_, '_>, marks: &mut [u8], units: &[u8], at: u32) -> Option<u
     Some(looked.units)
 }
 
-/// Whether an instruction begins wherever a branch leads to.
+/// Whether an instruction begins at every target of a branch.
 fn all_begin(marks: &[u8]) -> bool
     ensures { IsTrue result → (unit : ℕ) → unit < length marks.now → slice_index marks.now unit ≢ 2 }
 {
@@ -162,8 +162,8 @@ fn no_marks(arena: &Bump, count: usize) -> Result<Vec<u8, &Bump>, AllocError>
     vec![in arena; 0u8; count]
 }
 
-/// Whether the units are instructions of a code of so many registers that have nothing to do with payloads and break no rule. No of others
-/// that may break none: a goto/32 to itself isn't looked into here.
+/// Whether the units are instructions, none of them about payloads, of a code with so many registers, and no rule is violated. It may be
+/// false without a violation: a goto/32 to itself is left to the other reader.
 pub(crate) fn are_clear(
     arena: &Bump,
     tables: &Tables<'_>,

@@ -10,7 +10,7 @@ use dex_insn::index_kind_of;
 use program_types::Name;
 use tables_rows::Tables;
 
-/// The name that an index in an instruction of this opcode stands for. None where its table has no such row.
+/// The name that an index in an instruction of this opcode denotes. `None` if its table has no such row.
 #[inline(always)]
 pub(crate) fn named<'a>(tables: &Tables<'a>, op: u8, index: u32) -> Option<Name<'a>>
     ensures some { IfSome result (λ n. IndexStandsFor (NameIsAt tables.now) op index (name n)) }

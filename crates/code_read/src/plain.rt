@@ -41,8 +41,8 @@ pub(crate) fn is_plain(one: &RawInsn<'_>) -> bool
     )
 }
 
-/// Makes the symbolic instruction of the one read at the unit `at`, which is number `k` of a code of so many registers whose instructions
-/// begin at these units. None comes of one that has to do with payloads or breaks a rule.
+/// Makes the symbolic instruction from the one read at the unit `at`, which is number `k` of a code with so many registers whose
+/// instructions begin at these units. `None` for payload instructions and if a rule is violated.
 #[derive(Clone, Copy)]
 struct Link<'t, 'a, 's> {
     tables: &'t Tables<'a>,
@@ -166,7 +166,7 @@ pub(crate) fn insns_at<'a>(
     Ok(Some(into_bump_slice(found)))
 }
 
-/// Whether instructions that break no rule begin at these units, as `insns_at` answers them.
+/// Whether instructions that violate no rule begin at these units, as `insns_at` returns them.
 pub(crate) fn are_plain(tables: &Tables<'_>, starts: &[u32], units: &[u8], registers: u16) -> bool
     requires even { length units.now % 2 ≡ 0 }
     requires short { length units.now ≤ 8589934590 }

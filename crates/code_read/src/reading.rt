@@ -28,7 +28,7 @@ use tables_rows::Tables;
 /// The kind of the section of code items (TYPE_CODE_ITEM).
 const CODE_ITEMS: u16 = 0x2001;
 
-/// A code as its item spells it, and what is wrong with its registers, if anything is.
+/// A code as in its item, and the fault of its registers, if there is one.
 #[derive(Clone, Copy)]
 pub struct Body<'a> {
     pub code: Code<'a>,
@@ -51,7 +51,7 @@ fn register_fault(off: u32, registers: u16, ins: u16, past: Option<u32>) -> Opti
     }
 }
 
-/// The instructions of an item: read into the arena, or only looked at, and then none are answered.
+/// The instructions of an item: read into the arena, or only checked, and then none are returned.
 #[inline(always)]
 fn insns_of<'a>(
     alloc: Global,
@@ -94,7 +94,7 @@ fn code_of<'a>(item: &Item<'_>, insns: &'a [Insn<'a>], tries: &'a [Try<'a>]) -> 
     }
 }
 
-/// Whether nothing but the ins of an item has to be looked at any more: it has no tries, and its instructions break no rule.
+/// Whether only the ins of an item are left to be checked: it has no tries, and its instructions violate no rule.
 fn is_clear(arena: &Bump, tables: &Tables<'_>, item: &Item<'_>) -> Result<bool, AllocError>
     requires even { length item.now.units.now % 2 ≡ 0 }
     requires short { length item.now.units.now ≤ 8589934590 }
@@ -175,8 +175,8 @@ fn body_at<'a>(
     read_item(alloc, arena, tables, off, bytes, keep)
 }
 
-/// The code of the code item at this byte offset of the file, and what is wrong with its registers, if anything is: a caller that
-/// reads many codes looks at that when all of them are read.
+/// Returns the code of the code item at this byte offset of the file, and the fault of its registers, if there is one: a caller that
+/// reads many codes reports that once all of them are read.
 pub fn read_body<'a>(
     alloc: Global,
     arena: &'a Bump,
@@ -196,8 +196,8 @@ pub fn read_body<'a>(
     body_at(alloc, arena, tables, sections, off, true)
 }
 
-/// What is wrong with the registers of the code item at this byte offset of the file, if anything is: refuses what `read_body` refuses,
-/// with a fault that stands there as well. Instructions of a code without payloads aren't kept; what is lies in the arena.
+/// Returns the fault of the registers of the code item at this byte offset of the file, if there is one. It refuses what `read_body`
+/// refuses, with a fault of that item. Instructions of a code without payloads are not kept; others are read into the arena.
 pub fn check_body(
     alloc: Global,
     arena: &Bump,
@@ -214,8 +214,8 @@ pub fn check_body(
     Ok(body.past)
 }
 
-/// The code of the code item at this byte offset of the file. Its registers are looked at last (73). No code stands at
-/// offset 0 (`no_code_stands_at_zero`), so that is refused.
+/// Returns the code of the code item at this byte offset of the file. Its registers are checked last (73). No code is at
+/// offset 0 (`no_code_stands_at_zero`), so it is refused.
 ///
 /// ```
 /// use bumpalo::Bump;

@@ -18,7 +18,7 @@ use dex_insn::RawInsn;
 use program_types::{Insn, Name};
 use tables_rows::Tables;
 
-/// The instruction whose offset leads to instruction `to`.
+/// The instruction whose offset targets instruction `to`.
 #[inline(always)]
 #[rattlefmt::skip]
 #[tactic(auto, unfolding(crate::specs::Symbols::linked, crate::specs::inner::Symbols::has_offset, dex_insn::specs::Raw::raw))]
@@ -37,7 +37,7 @@ fn leading<'a>(one: &RawInsn<'_>, to: u32) -> Insn<'a>
     }
 }
 
-/// The instruction whose index stands for the name.
+/// The instruction whose index denotes the name.
 #[inline(always)]
 #[rattlefmt::skip]
 #[tactic(auto, unfolding(crate::specs::Symbols::linked, crate::specs::inner::Symbols::has_index, dex_insn::specs::Raw::raw))]

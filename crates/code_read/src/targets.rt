@@ -39,7 +39,7 @@ pub(crate) fn int_at(bytes: &[u8], i: usize) -> i32
     LittleEndian::read_u32(&bytes[4 * i..]).cast_signed()
 }
 
-/// The numbers of the instructions that the offsets lead to.
+/// The numbers of the target instructions of the offsets.
 fn read_targets<'a>(
     arena: &'a Bump,
     starts: &[u32],

@@ -136,7 +136,7 @@ fn read_list<'a>(
     Ok(List { offsets, handlers })
 }
 
-/// The try that try_item `i` stands for. None where no handler begins at its offset.
+/// The try of try_item `i`. `None` if no handler begins at its offset.
 fn take_try<'a>(starts: &[u32], items: &[u8], all: &List<'a>, i: usize) -> Option<Try<'a>>
     requires rises { Rises starts.now }
     requires few { length starts.now ≤ 4294967295 }

@@ -17,7 +17,7 @@ pub(crate) struct Walked<'b> {
     pub starts: Vec<u32>,
 }
 
-/// For how many instructions room is taken before the first is read.
+/// For how many instructions memory is reserved before the first is read.
 pub(crate) const MOST_AT_ONCE: usize = 256;
 
 /// Reads the units as instructions end to end. The first unit is at the place `base`.

@@ -1,12 +1,12 @@
-//! The rules that the code of a program keeps, by the numbers of its instructions (`specs/CodeRules.antt`). The code of a file is asked for
-//! those of branches, payloads, switches and registers too, once it is linked.
+//! The rules of a program's code, by the numbers of its instructions (`specs/CodeRules.antt`). The code of a file is checked for those of
+//! branches, payloads, switches and registers too, once it is linked.
 //!
 //! ```text
-//! code_holds(CodeRule::Target, code) // whether all branches and switches lead to instructions
+//! code_holds(CodeRule::Target, code) // whether all branches and switches target instructions
 //! payloads_hold_in(alloc, code)? // the rule of payloads, in time that grows with the code
 //! ```
 //!
-//! docs/MAP.md says where this crate stands among the others.
+//! docs/MAP.md has this crate's place among the others.
 #![tactic(auto)]
 
 mod operands;

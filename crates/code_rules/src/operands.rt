@@ -38,7 +38,7 @@ fn are_low(op: u8, format: Format, a: u8, b: u8) -> bool
     is_of(op, format) && a < 16 && b < 16
 }
 
-/// Whether the name is of the kind that the opcode's index stands for.
+/// Whether the name is of the kind that the opcode's index denotes.
 fn is_named(op: u8, name: Name<'_>) -> bool
     ensures { IsTrue result ↔ IsOfIndexKind (index_kind_of op) (view.name name.entry) }
 {
@@ -148,7 +148,7 @@ fn is_data(width: u16, bytes: &[u8]) -> bool
     bytes.len() <= 4294967295
 }
 
-/// Whether each operand of the instruction fits its format, wherever it leads.
+/// Whether each operand of the instruction fits its format, whatever its targets.
 fn fits_fields(one: &Insn<'_>) -> bool
     ensures { IsTrue result ↔ FitsFields (insn one.now) }
 {

@@ -228,7 +228,7 @@ pub fn first_bad_use(alloc: Global, insns: &[Insn<'_>]) -> Result<Option<usize>,
     Ok(None)
 }
 
-/// Whether all payloads of a code are used as they have to be, as `code_holds` of `PayloadUse` says it.
+/// Whether all payloads of a code are used as required: the result of `code_holds` for `PayloadUse`.
 pub fn payloads_hold_in(alloc: Global, one: &Code<'_>) -> Result<bool, AllocError>
     ensures { IfOk result (λ hold. IsTrue hold ↔ PayloadsHold (code one.now)) }
 {

@@ -16,7 +16,7 @@ use program_types::Code;
 pub enum CodeRule {
     /// 114: there are instructions, not too many, and each has operands that its format has.
     Operand,
-    /// 115: branches and switches lead to instructions that are no payloads.
+    /// 115: branches and switches target instructions that are no payloads.
     Target,
     /// 116: what refers to a payload finds one of its kind, and each switch's payload has one switch.
     PayloadUse,
@@ -26,7 +26,7 @@ pub enum CodeRule {
     Register,
 }
 
-/// Whether the code keeps the rule. Takes no memory; `PayloadUse` looks through all instructions for each switch's payload.
+/// Whether the code keeps the rule. Needs no memory; `PayloadUse` searches all instructions for each switch's payload.
 pub fn code_holds(rule: CodeRule, one: &Code<'_>) -> bool
     ensures { IsTrue result ↔ KeepsRule rule (code one.now) }
 {

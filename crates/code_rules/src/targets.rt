@@ -1,4 +1,4 @@
-//! Where branches and switches lead to.
+//! The targets of branches and switches.
 
 ghost use Rattle.std.specs.Prelude.{◌≡◌, ◌↔◌, ◌<◌, length, map, IsTrue, IfSome, IfNone};
 ghost use Rattle.std.specs.List.{AllByRecursion};
@@ -28,7 +28,7 @@ fn branch_of(one: &Insn<'_>) -> Option<u32>
     }
 }
 
-/// The target of a branch that may not lead to itself: of all but goto/32.
+/// The target of a branch that must not be itself: of all but goto/32.
 #[inline(always)]
 #[tactic(auto, unfolding(program_types::specs::Formed::insn_branch, program_types::specs::Formed::insn_short_branch))]
 fn short_branch_of(one: &Insn<'_>) -> Option<u32>
@@ -66,7 +66,7 @@ fn are_targets(insns: &[Insn<'_>], targets: &[u32]) -> bool
     true
 }
 
-/// Whether the branch of instruction `k`, if it is one, leads to an instruction that is no payload.
+/// Whether the branch of instruction `k`, if it is one, targets an instruction that is no payload.
 pub fn branch_lands(insns: &[Insn<'_>], k: usize) -> bool
     requires inside { k < length insns.now }
     ensures { IsTrue result ↔ BranchLands (map insn insns.now) k }
@@ -78,7 +78,7 @@ pub fn branch_lands(insns: &[Insn<'_>], k: usize) -> bool
     }
 }
 
-/// Whether a branch that has to lead elsewhere than to itself does.
+/// Whether a branch that must not target itself targets another instruction.
 fn branch_moves(insns: &[Insn<'_>], k: usize) -> bool
     requires inside { k < length insns.now }
     ensures { IsTrue result ↔ BranchMoves (map insn insns.now) k }
@@ -90,7 +90,7 @@ fn branch_moves(insns: &[Insn<'_>], k: usize) -> bool
     }
 }
 
-/// Whether a branch leads to one of `count` instructions, and elsewhere than to itself, number `k`, where it has to.
+/// Whether a branch targets one of `count` instructions, and not itself, number `k`, if it must not.
 #[inline(always)]
 #[tactic(auto, unfolding(program_types::specs::Formed::insn_branch, program_types::specs::Formed::insn_short_branch))]
 pub fn branch_stays(one: &Insn<'_>, count: usize, k: usize) -> bool
@@ -106,7 +106,7 @@ pub fn branch_stays(one: &Insn<'_>, count: usize, k: usize) -> bool
     }
 }
 
-/// Whether a branch leads to an instruction that is no payload, and elsewhere than to itself where it has to.
+/// Whether a branch targets an instruction that is no payload, and not itself if it must not.
 fn branch_holds(insns: &[Insn<'_>], k: usize) -> bool
     requires inside { k < length insns.now }
     ensures { IsTrue result ↔ BranchHolds (map insn insns.now) k }
@@ -126,7 +126,7 @@ fn switch_lands(insns: &[Insn<'_>], k: usize) -> bool
     are_targets(insns, targets_of(one))
 }
 
-/// The first branch that leads to no instruction, to a payload, or to itself where it may not.
+/// The first branch that targets no instruction, a payload, or itself if it must not.
 pub fn first_bad_branch(insns: &[Insn<'_>]) -> Option<usize>
     ensures some { IfSome result (FirstBroken (length insns.now) (BranchHolds (map insn insns.now)) (λ k. k)) }
     ensures none { IfNone result (AllHold (BranchHolds (map insn insns.now)) (length insns.now)) }

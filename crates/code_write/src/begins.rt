@@ -5,7 +5,7 @@ ghost use Rattle.code_read.specs.Places.{Rises};
 
 use std::marker::Model;
 
-/// The addresses of instructions, in units: they rise and fit 32 bits. It stands for these addresses.
+/// The addresses of instructions, in units: they rise and fit 32 bits. Its model is the list of these addresses.
 #[derive(Drop)]
 pub(crate) struct Begins<'a> {
     pub list: &'a [u64],

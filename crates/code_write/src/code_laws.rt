@@ -17,14 +17,14 @@ ghost use Rattle.code_read.specs.Code.{SpellsCode};
 ghost use Rattle.code_write.specs.Fits.{TryFits, FitsCode, wide_code};
 ghost use Rattle.code_write.specs.Packs.{AreLowered, joined, items_bytes, PacksHandlersOf, PacksCode};
 
-/// What is written of well formed instructions spells them.
+/// The bytes that are written for well-formed instructions encode them.
 pub fn lowered_is_spelled()
     ensures { (ranks : Five) (is : List Insn) (rs : List Raw) → AreLowered (NameRanks ranks) is (addresses_of is) rs
         → ((k : ℕ) → k < length is → TargetHolds is k) → ((k : ℕ) → k < length is → PayloadHolds is k)
         → SpellsInsns (NameRanks ranks) (joined rs) rs is }
 {}
 
-/// What is written of well formed tries that fit spells them.
+/// The bytes that are written for well-formed tries that fit encode them.
 pub fn packed_tries_are_spelled()
     ensures { (ranks : Five) (is : List Insn) (ts : List Try) (list offs : List ℕ) → ((i : ℕ) → i < length ts → TryFormed (length is) ts i)
         → ((i : ℕ) → i < length ts → TryFits (addresses_of is) ts i) → PacksHandlersOf (NameRanks ranks) (addresses_of is) ts list offs

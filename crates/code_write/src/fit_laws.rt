@@ -2,7 +2,7 @@
 
 ghost use Rattle.code_write.specs.inner.Laws.{CodeLimitsAreDecided};
 
-/// A code fits, by the ranks of names, exactly if it breaks none of the limits of a code.
+/// A code fits, by the ranks of names, if and only if it violates no limit of a code.
 pub fn code_limits_are_decided()
     ensures { CodeLimitsAreDecided }
 {}

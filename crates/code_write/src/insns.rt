@@ -106,7 +106,7 @@ fn put_plain(
     put_insn(out, &raw)
 }
 
-/// Appends an instruction, whose targets count from the address `at`. The index of what it names, if it names anything, is given.
+/// Appends an instruction, whose targets count from the address `at`. `index` is that of its name, if it has one.
 #[tactic(auto, unfolding(program_types::specs::Formed::insn_payload, program_types::specs::Formed::insn_targets))]
 fn put_one(
     out: &mut Vec<u8>,

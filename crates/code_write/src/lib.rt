@@ -6,7 +6,7 @@
 //! put_code(&mut out, &ranks, &code)?; // appends the code item
 //! ```
 //!
-//! docs/MAP.md says where this crate stands among the others.
+//! docs/MAP.md has this crate's place among the others.
 #![tactic(auto)]
 
 // Where the instructions begin.

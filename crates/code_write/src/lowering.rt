@@ -54,7 +54,7 @@ pub(crate) fn distance(starts: &Begins<'_>, at: u32, to: u32) -> i32
     gap(starts.at(to), at)
 }
 
-/// The raw instruction of an instruction that is no payload. The index of what it names, if it names anything, is given.
+/// The raw instruction of an instruction that is no payload. `index` is that of its name, if it has one.
 #[rattlefmt::skip]
 #[tactic(auto, unfolding(code_read::specs::Symbols::linked, code_read::specs::Linked::payload_of, program_types::specs::Formed::insn_payload, program_types::specs::Sizes::insn_units, dex_insn::specs::Raw::raw, dex_insn::specs::Raw::units))]
 pub(crate) fn lower(ranks: &Ranks<'_>, indices: &[usize], starts: &Begins<'_>, at: u32, one: &Insn<'_>) -> RawInsn<'static>

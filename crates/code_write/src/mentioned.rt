@@ -63,7 +63,7 @@ fn put_index(indices: &mut Vec<usize>, ranks: &Ranks<'_>, one: &Insn<'_>) -> Res
     }
 }
 
-/// The indices of what instructions name, one by one, each looked up.
+/// The indices of the names of instructions, one by one, each looked up.
 pub(crate) fn indices_of(
     alloc: Global,
     ranks: &Ranks<'_>,

@@ -12,7 +12,7 @@ use dex_base::Fault;
 use program_types::{Code, Insn};
 use std::alloc::{AllocError, Global};
 
-/// How many units an instruction takes: the first digit of its format's ID, or what the payload's format says.
+/// The number of units of an instruction: the first digit of its format's ID, or the size of the payload.
 ///
 /// Pages: "Dalvik Executable instruction formats", "Format IDs"; "Dalvik bytecode", the formats of the payloads.
 #[tactic(auto, unfolding(program_types::specs::Sizes::insn_units))]

@@ -16,7 +16,7 @@ use program_types::Try;
 use std::alloc::Global;
 use tables_names::Ranks;
 
-/// Whether a try covers no more than its count can tell.
+/// Whether the units that a try covers fit its count.
 fn try_fits(starts: &[u64], tries: &[Try<'_>], i: usize) -> bool
     requires low { (k : ℕ) → k < length starts.now → slice_index starts.now k ≤ 2 ^ 63 }
     requires inside { i < length tries.now }
@@ -27,7 +27,7 @@ fn try_fits(starts: &[u64], tries: &[Try<'_>], i: usize) -> bool
     starts[one.to as usize - 1] + 1 <= starts[one.from as usize] + 65535
 }
 
-/// Whether all tries cover no more than their counts can tell.
+/// Whether the units that each try covers fit its count.
 pub(crate) fn tries_fit(starts: &[u64], tries: &[Try<'_>]) -> bool
     requires low { (k : ℕ) → k < length starts.now → slice_index starts.now k ≤ 2 ^ 63 }
     requires formed { (i : ℕ) → i < length tries.now → TryFormed (length starts.now) (map try tries.now) i }

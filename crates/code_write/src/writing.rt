@@ -53,7 +53,7 @@ pub fn make_item(
     Ok(item)
 }
 
-/// Appends the code item of a code that is well formed and fits, as [`fits`](crate::fits) says: no padding before it,
+/// Appends the code item of a code that is well formed and fits (see [`fits`](crate::fits)): no padding before it,
 /// the shortest LEB128 numbers, debug_info_off 0, and each handler once, in the order of first use by the tries. It fails only when out of
 /// memory, and leaves the Vec as it was.
 ///

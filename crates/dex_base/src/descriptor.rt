@@ -1,5 +1,5 @@
 //! Type descriptors ("Dalvik Executable format", section "String syntax"): one scan finds the descriptor at the front of
-//! units, and the tests ask whether it is all of them.
+//! units, and the tests check whether it is all of them.
 
 ghost use Rattle.std.specs.Prelude.{◌≡◌, ℕ, ◌<◌, ◌≤◌, ◌++◌, ◌↔◌, List, length, take, IsTrue, IfSome, IfNone};
 ghost use Rattle.dex_base.specs.Descriptor.{IsClass, IsPrimitive, IsElement, IsFieldType, IsDescriptor, IsArray, NoFront};

@@ -1,4 +1,4 @@
-//! What refusals say, and the numbers of the faults by name: `fault_name` has the same names.
+//! Faults, and their numbers by name: `fault_name` has the same names.
 ghost use Rattle.std.specs.Prelude.{◌≡◌};
 ghost use Rattle.dex_base.specs.Fault.{memory};
 
@@ -180,7 +180,7 @@ pub const PROGRAM_REGISTER: u16 = 118;
 // This library itself.
 pub const NOT_YET: u16 = 200;
 
-/// Why a file, a program or a listing is refused: the number of the fault, and the place where it stands.
+/// Why a file, a program or a listing is refused: the number of the fault, and its place.
 ///
 /// In a file the place is a byte offset, in a program the number of a class, in a listing the number of a line.
 #[derive(Clone, Copy, Debug, PartialEq, Eq)]
@@ -190,7 +190,7 @@ pub struct Fault {
 }
 
 impl Fault {
-    /// Out of memory, which is answered only where a growth was refused.
+    /// Out of memory: returned only if a request for memory was refused.
     pub const MEMORY: Fault = Fault {
         code: 255,
         place: 0,

@@ -7,7 +7,7 @@ use crate::fault;
 use crate::fault::Fault;
 use std::fmt;
 
-/// A number with its name, and with what is wrong where it stands.
+/// A number, its name, and what is wrong at its place.
 #[derive(Clone, Copy)]
 pub struct Row<T> {
     pub number: u16,
@@ -127,7 +127,7 @@ pub static FAULTS: [Row<&str>; 85] = [
     row!(255, "Memory", "out of memory"),
 ];
 
-/// The row of a number; where it has none, one that says so.
+/// The row of a number, or a row for unknown numbers.
 fn row_in<'a>(table: &[Row<&'a str>], number: u16) -> Row<&'a str>
     ensures name { result.name.now ≡ column_text (map row_number table.now) (map row_name table.now) unknown number }
     ensures says { result.says.now ≡ column_text (map row_number table.now) (map row_sentence table.now) no_fault number }
@@ -165,7 +165,7 @@ pub fn fault_name(number: u16) -> &'static str
     row_of(number).name
 }
 
-/// What is wrong where the fault of this number stands, in a few words.
+/// What is wrong at the place of a fault with this number, in a few words.
 ///
 /// ```
 /// use dex_base::fault_sentence;

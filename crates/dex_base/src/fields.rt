@@ -5,7 +5,7 @@ ghost use Rattle.dex_base.specs.Fields.{AreBytes, u16_at, u32_at, u16_bytes, u32
 
 use byteorder::{ByteOrder, LittleEndian};
 
-/// What the type of a slice of bytes says of its items, for proofs: each is below 256. Does nothing.
+/// A law for proofs: each item of a slice of bytes is below 256. Does nothing.
 pub fn are_bytes(bytes: &[u8])
     ensures each { AreBytes bytes.now }
     ensures all { AllByRecursion (λ byte. byte < 256) bytes.now }

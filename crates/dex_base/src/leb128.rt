@@ -9,7 +9,7 @@ ghost use Rattle.dex_base.specs.inner.Sequence.{IsWhole, NoSequence, IsWidth, Is
 use crate::fault::Fault;
 use std::alloc::AllocError;
 
-/// The bytes of a number before its range and its sign are looked at.
+/// The bytes of a number, before its range and its sign are checked.
 #[derive(Clone, Copy)]
 struct Sequence {
     /// The sum of the low seven bits.
@@ -47,7 +47,7 @@ fn read_sequence(bytes: &[u8]) -> Option<Sequence>
 /// The unsigned number (uleb128) at the front, and how many bytes it takes, 1 to 5. A longer spelling than need be is
 /// read too.
 ///
-/// None where no front of the bytes spells a number of 32 bits.
+/// Returns `None` if the bytes do not begin with a number of 32 bits.
 ///
 /// ```
 /// use dex_base::read_uleb;
@@ -65,7 +65,7 @@ pub fn read_uleb(bytes: &[u8]) -> Option<(u32, usize)>
     Some((sequence.number as u32, sequence.length))
 }
 
-/// What a sequence stands for whose last byte has the sign.
+/// The value of a sequence whose last byte has the sign.
 fn signed_of(number: u64, scale: u64, last: u8) -> i64
     requires below { number < scale }
     requires small { scale ≤ 2 ^ 35 }
@@ -81,7 +81,7 @@ fn signed_of(number: u64, scale: u64, last: u8) -> i64
 /// The signed number (sleb128) at the front, and how many bytes it takes, 1 to 5. A longer spelling than need be is
 /// read too.
 ///
-/// None where no front of the bytes spells a signed number of 32 bits.
+/// Returns `None` if the bytes do not begin with a signed number of 32 bits.
 ///
 /// ```
 /// use dex_base::read_sleb;
@@ -132,7 +132,7 @@ fn put_sequence(out: &mut Vec<u8>, length: usize, n: u64) -> Result<(), AllocErr
     Ok(())
 }
 
-/// The fewest bytes that spell the number.
+/// The shortest encoding of the number.
 fn uleb_length(n: u32) -> usize
     ensures { IsWidth result n }
 {
@@ -171,7 +171,7 @@ pub fn put_uleb(out: &mut Vec<u8>, n: u32) -> Result<(), Fault>
     Ok(put_sequence(out, uleb_length(n), n as u64)?)
 }
 
-/// A length, and the number whose bits stand in so many bytes, seven a byte.
+/// A length in bytes, and the number whose bits they have, seven a byte.
 #[derive(Clone, Copy)]
 struct Width {
     length: usize,
@@ -192,7 +192,7 @@ fn wrapped(n: i32, scale: i64) -> u64
     }
 }
 
-/// The fewest bytes that spell a signed number, and what they hold.
+/// The length of the shortest encoding of a signed number, and its bits.
 fn sleb_width(n: i32) -> Width
     ensures { IsSignedWidth result.length result.bits n }
 {

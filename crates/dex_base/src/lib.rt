@@ -1,6 +1,6 @@
 //! What all layers share: faults, and the seed that hashes begin with. Bytes: numbers at a place, LEB128 numbers, the checksum. Texts:
-//! MUTF-8 strings and their order, names of members, descriptors. `specs/Grammar.antt` has the words in which all crates say which
-//! bytes spell which value.
+//! MUTF-8 strings and their order, names of members, descriptors. `specs/Grammar.antt` defines how bytes encode a value, for all
+//! crates.
 //!
 //! ```
 //! let refusal = Fault::at(fault::MAP_PLACE, 52);
@@ -12,7 +12,7 @@
 //! let units = read_mutf8(alloc, &arena, &text)?; // Some(([0x56], 3))
 //! ```
 //!
-//! docs/MAP.md says where this crate stands among the others.
+//! docs/MAP.md has this crate's place among the others.
 #![tactic(auto)]
 
 // Refusals.

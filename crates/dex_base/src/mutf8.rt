@@ -111,7 +111,7 @@ fn read_units<'a>(
 ///
 /// None where no front of the bytes is one: the count is misspelled or above the units that follow, a unit is
 /// misspelled (overlong, or of four bytes), or no zero ends it. Lone surrogates are units like others. The only error
-/// is out of memory; the count is compared with the bytes that are left before memory is asked for it.
+/// is out of memory; the count is compared with the bytes that are left before memory is requested.
 ///
 /// ```
 /// use bumpalo::Bump;
@@ -146,7 +146,7 @@ pub fn read_mutf8<'a>(
     Ok(Some((into_bump_slice(units), length + 1)))
 }
 
-/// Appends a unit, where there is room.
+/// Appends a unit. The Vec needs the capacity for it.
 fn put_unit(out: &mut Vec<u8>, unit: u16)
     requires { vec_len out.old + 3 ≤ vec_capacity out.old }
     ensures ok { out.new.items ≡ out.old.items ++ unit_bytes unit }

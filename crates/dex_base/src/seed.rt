@@ -8,7 +8,7 @@ use std::hash::{BuildHasher, FoldHasher, Hasher};
 /// What each hash of a set or a map begins with, before the first unit of the key. Keys that were made to have one hash with a known
 /// seed don't have one with a seed that is drawn. The hasher isn't a cryptographic one.
 ///
-/// No answer depends on it: the sets and maps that take it keep their keys in an order of their own.
+/// No result depends on it: the sets and maps that use it keep the order of insertion.
 ///
 /// ```
 /// use dex_base::Seed;

@@ -8,7 +8,7 @@ ghost use Rattle.dex_base.specs.inner.Names.{HasPoint, SpellsPoint, AreLowPoints
 
 use std::simd::prelude::*;
 
-/// How many units are looked at at once.
+/// How many units are checked at once.
 const LANES: usize = 8;
 
 const LESS: u16 = b'<' as u16;
@@ -102,7 +102,7 @@ fn low_among(units: &[u16], at: usize) -> usize
     marks.trailing_zeros() as usize
 }
 
-/// How many units at the front are code points below 128 of names, looked at one by one.
+/// How many units at the front are code points below 128 that names may have, checked one by one.
 #[inline(always)]
 fn low_ones(units: &[u16]) -> usize
     ensures { (points : List ℕ) × Begins (Each SpellsPoint) units.now points result }

@@ -5,31 +5,31 @@ ghost use Rattle.dex_base.specs.Grammar.{Begins, NoneBegins, Takes, IsPrefixUniq
 ghost use Rattle.dex_base.specs.Deciding.{DecidedFront};
 ghost use Rattle.dex_base.specs.Leb128.{Spells, SpellsSigned, Shortest};
 
-/// No spelling of an unsigned number begins another one, and it spells one number.
+/// No encoding of an unsigned number is a prefix of another one, and it encodes one number.
 pub fn uleb_is_prefix_unique()
     ensures { IsPrefixUnique Spells }
 {}
 
-/// "The first bytes spell it" and "it stands at the front, and this follows" say the same.
+/// "A prefix encodes it" and "it is at the front, followed by these bytes" are equivalent.
 pub fn number_at_the_front_is_one()
     ensures takes { (bytes : List ℕ) (n len : ℕ) → Begins Spells bytes n len → Takes Spells bytes n (drop len bytes) }
     ensures one { (bytes r s : List ℕ) (m n : ℕ) → Takes Spells bytes m r → Takes Spells bytes n s → (m ≡ n) × (r ≡ s) }
     ensures none { (bytes rest : List ℕ) (n : ℕ) → NoneBegins Spells bytes → Takes Spells bytes n rest → ⊥ }
 {}
 
-/// No spelling of a signed number begins another one, and it spells one number.
+/// No encoding of a signed number is a prefix of another one, and it encodes one number.
 pub fn sleb_is_prefix_unique()
     ensures { IsPrefixUnique SpellsSigned }
 {}
 
-/// No pair of numbers begins another one, and it spells one pair; so too where a value stands for the pair, here the pair
-/// with its second number first.
+/// No encoding of a pair of numbers is a prefix of another one, and it encodes one pair; likewise for a value made from the
+/// pair, here the pair with its second number first.
 pub fn pair_is_prefix_unique()
     ensures pair { IsPrefixUnique (Pair Spells SpellsSigned) }
     ensures seen { IsPrefixUnique (Seen (λ (p : ℤ × ℕ). (p.1, p.0)) (Pair Spells SpellsSigned)) }
 {}
 
-/// No counted list of pairs of numbers begins another one, and it spells one list.
+/// No encoding of a counted list of pairs of numbers is a prefix of another one, and it encodes one list.
 pub fn counted_list_is_prefix_unique()
     ensures { IsPrefixUnique (Counted Spells (Pair Spells Spells)) }
 {}
@@ -46,7 +46,7 @@ pub fn places_of_numbers_are_decided()
     ensures one { (place : ℕ) (bytes : List ℕ) (a b : List (ℕ × ℕ)) → length a ≡ length b → Placed Spells place bytes a → Placed Spells place bytes b → a ≡ b }
 {}
 
-/// At the front of any bytes an unsigned number stands, or none does.
+/// Any bytes begin with an unsigned number, or with none: this is decided.
 pub fn numbers_are_decided()
     ensures { (bytes : List ℕ) → DecidedFront Spells bytes }
 {}

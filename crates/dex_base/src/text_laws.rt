@@ -6,7 +6,7 @@ ghost use Rattle.dex_base.specs.Mutf8.{SpellsUnit, SpellsText, PacksText, mutf8_
 ghost use Rattle.dex_base.specs.Descriptor.{IsDescriptor, IsClass, IsArray, IsMemberName, IsPrefixFree};
 ghost use Rattle.dex_base.specs.Deciding.{Decided, DecidedFront};
 
-/// No spelling of a unit begins another one, and it spells one unit.
+/// No encoding of a unit is a prefix of another one, and it encodes one unit.
 pub fn unit_is_prefix_unique()
     ensures { IsPrefixUnique SpellsUnit }
 {}
@@ -16,7 +16,7 @@ pub fn unit_has_one_spelling()
     ensures { (a b : List ℕ) (unit : ℕ) → SpellsUnit a unit → SpellsUnit b unit → a ≡ b }
 {}
 
-/// No string_data_item begins another one, and it spells one text.
+/// No string_data_item is a prefix of another one, and it encodes one text.
 pub fn text_is_prefix_unique()
     ensures { IsPrefixUnique SpellsText }
 {}
@@ -55,7 +55,7 @@ pub fn member_name_has_no_parenthesis()
     ensures { (units : List ℕ) → IsMemberName units → All (λ u. (33 ≤ u) × (u ≢ 40) × (u ≢ 41) × (u ≢ 58)) units }
 {}
 
-/// At the front of any bytes a text stands, or none does.
+/// Any bytes begin with a text, or with none: this is decided.
 pub fn texts_are_decided()
     ensures { (bytes : List ℕ) → DecidedFront SpellsText bytes }
 {}

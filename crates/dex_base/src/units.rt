@@ -7,7 +7,7 @@ ghost use Rattle.std.specs.Cmp.Lexicographic.{slice_cmp};
 use std::cmp::Ordering;
 
 /// The order of two strings by their UTF-16 units, the first difference deciding. So a supplementary code point, whose
-/// units are surrogates, stands before U+E000 to U+FFFF.
+/// units are surrogates, is less than U+E000 to U+FFFF.
 ///
 /// ```
 /// use dex_base::cmp_units;

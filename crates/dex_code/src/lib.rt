@@ -8,11 +8,11 @@
 //! put_code(&mut out, &ranks, &code)?;
 //! ```
 //!
-//! The law `packed_is_spelled` says that what `put_code` appends is a code item of that code, which `read_code` reads back.
+//! By the law `packed_is_spelled`, `put_code` appends a code item of that code, which `read_code` reads back.
 //!
 //! Its parts: `code_read`, `code_write` (written, and whether a code fits), `code_align`.
 //!
-//! docs/MAP.md says where this crate stands among the others.
+//! docs/MAP.md has this crate's place among the others.
 #![tactic(auto)]
 
 pub use code_align::align;

@@ -7,7 +7,7 @@ use crate::header_item::{CHECKSUM, FILE_SIZE, SIGNATURE};
 use dex_base::{adler32, put_u32_at};
 use sha1::Sha1;
 
-/// The signature stands before the checksum, which covers it.
+/// The signature is computed before the checksum, which covers it.
 fn put_signature(bytes: &mut [u8])
     requires { 32 ≤ length bytes.old }
     ensures { bytes.new ≡ take 12 bytes.old ++ with_signature bytes.old }

@@ -20,7 +20,7 @@ fn is_kind(kind: u16) -> bool
         || kind == 0xf000
 }
 
-/// At most nineteen entries are asked: with the twentieth a kind stands twice, or is unknown.
+/// At most nineteen entries are checked: with the twentieth a kind occurs twice or is unknown.
 fn is_new(bytes: &[u8], i: usize) -> bool
     requires map { MapIsReadable bytes.now }
     requires entry { i < entry_count bytes.now }

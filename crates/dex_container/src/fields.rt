@@ -1,4 +1,4 @@
-//! The fields of the header and of the entries of the map, each where Layout says.
+//! The fields of the header and of the entries of the map, each at its offset in Layout.antt.
 ghost use Rattle.std.specs.Prelude.{◌≡◌, ◌+◌, ◌<◌, ◌≤◌, length};
 ghost use Rattle.dex_container.specs.Layout.{row_bytes, size_field, size_of, offset_of, data_begin, map_place, entry_place, entry_count, kind_at, items_at, place_at};
 ghost use Rattle.dex_container.specs.inner.Frame.{MapIsReadable};
@@ -54,7 +54,7 @@ pub(crate) fn data_begin(bytes: &[u8]) -> u32
     offset_of(bytes, DATA)
 }
 
-/// Where the map stands.
+/// The offset of the map.
 #[tactic(auto, unfolding(crate::specs::Layout::map_place))]
 pub(crate) fn map_place(bytes: &[u8]) -> u32
     requires { 112 ≤ length bytes.now }
@@ -73,7 +73,7 @@ pub(crate) fn entry_count(bytes: &[u8]) -> u32
     u32_at(bytes, map_place(bytes) as usize)
 }
 
-/// Where entry i of the map stands.
+/// The offset of entry i of the map.
 pub(crate) fn entry_place(bytes: &[u8], i: usize) -> usize
     requires map { MapIsReadable bytes.now }
     requires entry { i < entry_count bytes.now }

@@ -1,4 +1,4 @@
-//! The header by the page's names: where its fields stand, in bytes, and the numbers of the sections that it names.
+//! The header by the page's names: the byte offsets of its fields, and the numbers of the sections that it names.
 //! Page: "Dalvik Executable format", "header_item".
 
 /// How many bytes the header takes.

@@ -7,7 +7,7 @@ ghost use Rattle.dex_base.specs.declared.fault.Fault.{Fault};
 
 use crate::opening::open;
 
-/// Bytes are framed exactly if no fault of header, map and checksums stands.
+/// Bytes are framed if and only if header, map and checksums have no fault.
 pub fn framed_without_fault(bytes: &[u8])
     ensures { IsFramed bytes.now ↔ ((code place : ℕ) → ¬ FrameBreaks bytes.now code place) }
 {

@@ -1,8 +1,8 @@
 //! The frame of a file: header, map and checksums.
 //!
-//! `open(bytes)` tests it and answers its `Sections`; `close(&mut bytes)` fills in signature and checksum.
+//! `open(bytes)` checks it and returns its `Sections`; `close(&mut bytes)` fills in signature and checksum.
 //!
-//! docs/MAP.md says where this crate stands among the others.
+//! docs/MAP.md has this crate's place among the others.
 #![tactic(auto)]
 
 mod closing;

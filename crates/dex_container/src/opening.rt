@@ -1,4 +1,4 @@
-//! A file whose frame holds, and what its header and its map say.
+//! A file whose header, map and checksums are valid, and its sections.
 ghost use Rattle.std.specs.Prelude.{◌≡◌, ◌+◌, ◌<◌, ◌≤◌, ℕ, length, IfOk, IfErr, IfSome, IsOk, MatchOption};
 ghost use Rattle.dex_container.specs.Frame.{IsFramed, HasKind, IsSection, table_of, end_at};
 ghost use Rattle.dex_container.specs.Layout.{entry_count};
@@ -107,8 +107,8 @@ impl<'a> Sections<'a> {
     }
 }
 
-/// The sections of a file whose header, map and checksums keep all rules (Dalvik Executable format), else the lowest
-/// number of their faults that stands, at its lowest place, a byte offset. Takes no memory.
+/// Returns the sections of a file whose header, map and checksums keep all rules (Dalvik Executable format). Otherwise the
+/// error is the lowest-numbered fault, at its lowest place, a byte offset. Needs no memory.
 ///
 /// ```
 /// use dex_container::open;

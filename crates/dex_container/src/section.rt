@@ -1,4 +1,4 @@
-//! The section of one kind of data item, looked up once, and what it has from a place on.
+//! The section of one kind of data item, and its bytes from an offset on.
 ghost use Rattle.std.specs.Prelude.{◌≡◌, ◌-◌, ◌+◌, ◌<◌, ◌≤◌, IfSome, IfNone, take, drop, length};
 ghost use Rattle.dex_container.specs.Frame.{IsFramed};
 ghost use Rattle.dex_container.specs.Where.{IsSectionOf, IsInSection};

@@ -1,4 +1,4 @@
-//! Where the header says that tables and data stand: faults 10 and 11.
+//! The places of tables and data by the header: faults 10 and 11.
 ghost use Rattle.std.specs.Prelude.{◌≡◌, ◌<◌, ◌≤◌, ◌↔◌, length, IsTrue, OnOk, IfErr};
 ghost use Rattle.dex_container.specs.Frame.{HeaderHolds, SumsHold, SectionsHold, SectionHolds};
 ghost use Rattle.dex_container.specs.Faults.{IsFrameFault};

@@ -8,13 +8,13 @@
 //! let packed = write(alloc, &program)?; // read gives the same program again
 //! ```
 //!
-//! Its rooms: `file_classes` and `file_read` (read), `file_needed`, `file_layout`, `file_limits` and `file_put` (written),
+//! Its parts: `file_classes` and `file_read` (read), `file_needed`, `file_layout`, `file_limits` and `file_put` (written),
 //! `file_renumber` and `file_strip` (stripped), `file_write` (both, with their theorems), `code_align`.
 //!
 //! Its theorems are laws, functions without code that a proof calls: `written_is_read`, `one_file`, `one_program`. The definitions that
 //! all of this rests on are handed on too, so `ghost use Rattle.dex_file.specs.Means.{Means}` needs no other crate.
 //!
-//! docs/MAP.md says where this crate stands among the others.
+//! docs/MAP.md has this crate's place among the others.
 #![tactic(auto)]
 
 pub use code_align::align_all;

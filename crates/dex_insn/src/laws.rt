@@ -1,4 +1,4 @@
-//! Laws of what stands at a unit. None has code: each says of the definitions what its contract says.
+//! Laws of the instruction at a unit. None has code: its contract is the law.
 
 ghost use Rattle.std.specs.Prelude.{ℕ, List, ◌≡◌, ◌≤◌, ◌<◌, ◌+◌, ◌*◌, ◌%◌, ◌++◌, ◌⊎◌, length, drop, true, false};
 ghost use Rattle.dex_base.specs.declared.fault.Fault.{Fault};
@@ -8,22 +8,22 @@ ghost use Rattle.dex_insn.specs.Flaws.{IsFaultAt, KeepsRules};
 ghost use Rattle.dex_base.specs.Fields.{AreBytes};
 ghost use Rattle.dex_insn.specs.Written.{IsRaw, written};
 
-/// At a unit stands one instruction at most.
+/// At most one instruction is at a unit.
 pub fn one_stands()
     ensures { (bytes : List ℕ) (at : ℕ) (x y : Raw) → InsnStands bytes at x → InsnStands bytes at y → x ≡ y }
 {}
 
-/// An instruction that stands has units, and they are all there.
+/// An instruction at a unit has units, all within the code.
 pub fn whole_where_one_stands()
     ensures { (bytes : List ℕ) (at : ℕ) (r : Raw) → InsnStands bytes at r → (0 < units r) × (2 * at + 2 * units r ≤ length bytes) }
 {}
 
-/// Where an instruction stands, no rule is broken.
+/// At a unit with an instruction no rule is violated.
 pub fn clear_where_one_stands()
     ensures { (bytes : List ℕ) (at : ℕ) (r : Raw) (fault : Fault) → InsnStands bytes at r → IsFaultAt bytes at fault → ⊥ }
 {}
 
-/// Where an instruction stands, each rule is kept, also asked alone.
+/// At a unit with an instruction each rule is kept, also by itself.
 pub fn rules_are_kept()
     ensures { (bytes : List ℕ) (at : ℕ) (r : Raw) → InsnStands bytes at r → KeepsRules at (drop (2 * at) bytes) }
 {}
@@ -33,12 +33,12 @@ pub fn one_fault()
     ensures { (bytes : List ℕ) (at : ℕ) (e f : Fault) → IsFaultAt bytes at e → IsFaultAt bytes at f → e ≡ f }
 {}
 
-/// At a unit that is there an instruction stands, or a rule is broken.
+/// At each unit of the code there is an instruction, or a rule is violated.
 pub fn one_stands_or_none()
     ensures { (bytes : List ℕ) (at : ℕ) → AreBytes bytes → 2 * at + 2 ≤ length bytes → ((r : Raw) × InsnStands bytes at r) ⊎ ((fault : Fault) × IsFaultAt bytes at fault) }
 {}
 
-/// What stands after an instruction doesn't change its reading.
+/// The units after an instruction do not change how it is read.
 pub fn after_is_free()
     ensures more { (bytes after : List ℕ) (at : ℕ) (r : Raw) → InsnStands bytes at r → InsnStands (bytes ++ after) at r }
     ensures less { (bytes after : List ℕ) (at : ℕ) (r : Raw) → 2 * at + 2 * units r ≤ length bytes → InsnStands (bytes ++ after) at r → InsnStands bytes at r }
@@ -56,13 +56,13 @@ pub fn two_bytes_a_unit()
     ensures { (r : Raw) → IsRaw r → length (written r) ≡ 2 * units r }
 {}
 
-/// What is written stands where it was written, a payload where that is an even unit.
+/// A written instruction is at the unit where it was written; a payload, if the unit is even.
 pub fn written_stands()
     ensures { (before after : List ℕ) (at : ℕ) (r : Raw) → IsRaw r → length before ≡ 2 * at → (is_payload r ≡ true → at % 2 ≡ 0)
         → InsnStands (before ++ (written r ++ after)) at r }
 {}
 
-/// What stands in bytes can be written: its operands fit their fields.
+/// An instruction in bytes can be written: its operands fit their fields.
 #[tactic(auto, using(crate::proofs::Fits::stands_fits))]
 pub fn what_stands_can_be_written()
     ensures { (bytes : List ℕ) (at : ℕ) (r : Raw) → AreBytes bytes → InsnStands bytes at r → IsRaw r }

@@ -6,7 +6,7 @@
 //! put_insn(&mut out, &RawInsn::I11n { op: 0x12, a: 0, b: -1 })?; // appends 12 f0
 //! ```
 //!
-//! docs/MAP.md says where this crate stands among the others.
+//! docs/MAP.md has this crate's place among the others.
 #![tactic(auto)]
 
 // The opcode table, and what an instruction is.

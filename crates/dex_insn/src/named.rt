@@ -1,5 +1,5 @@
-//! The opcode of a mnemonic: a table of one slot a mnemonic, found by a hash of its text. `tools/generate` writes the two tables,
-//! and says how.
+//! The opcode of a mnemonic: a table of one slot a mnemonic, found by a hash of its text. `tools/generate` writes the two
+//! tables and describes how.
 
 ghost use Rattle.std.specs.Prelude.{ℕ, ◌≡◌, ◌≤◌, IfSome, IfNone, length};
 ghost use Rattle.dex_insn.specs.Mnemonics.{IsNamed};

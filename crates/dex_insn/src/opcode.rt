@@ -1,11 +1,11 @@
-//! What an opcode says: the format of its instructions, the table that their index is in, and its mnemonic.
+//! What an opcode determines: the format of its instructions, the table of their index, and its mnemonic.
 //! Pages: "Dalvik bytecode", "Dalvik Executable instruction formats".
 
 ghost use Rattle.std.specs.Prelude.{◌≡◌};
 
 /// An instruction format, by its ID on the page "Dalvik Executable instruction formats".
 ///
-/// The digits are the number of 16-bit units and the greatest number of registers, the letter says what else it holds.
+/// The digits are the number of 16-bit units and the greatest number of registers; the letter is the kind of the other operand.
 #[rattlefmt::skip]
 #[derive(Clone, Copy, PartialEq, Eq)]
 pub enum Format {

@@ -13,7 +13,7 @@ macro_rules! row {
     };
 }
 
-/// What each opcode stands for: nothing where it is unused.
+/// Each opcode's row: `None` if it is unused.
 #[rattlefmt::skip]
 pub static OPCODES: [Option<Opcode<&str>>; 256] = [
     row!("nop" F10x), // 00

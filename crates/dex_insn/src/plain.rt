@@ -13,7 +13,7 @@ use crate::raw::RawInsn;
 use crate::take::{Take, made};
 use crate::units::{four_units, high_byte, low_byte, signed_nibble, signed_unit, two_units, unit};
 
-/// Reads the instruction at the front of the bytes, which isn't a payload, and answers what is made of it.
+/// Reads the instruction at the front of the bytes, which is no payload, and returns what `v` makes of it.
 #[inline(always)]
 #[rattlefmt::skip]
 #[tactic(auto, using(crate::proofs::Flaws::unused, crate::proofs::Flaws::count), unfolding(crate::specs::Raw::raw))]

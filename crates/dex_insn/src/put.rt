@@ -70,13 +70,13 @@ fn put_raw(out: &mut Vec<u8>, insn: RawInsn<'_>) -> Result<(), AllocError>
     }
 }
 
-/// Appends the units that spell an instruction or payload, as bytes, two to a unit, the low byte first. The formats are those
+/// Appends the units of an instruction or payload, as bytes, two to a unit, the low byte first. The formats are those
 /// of the page "Dalvik Executable instruction formats", the payloads those of the page "Dalvik bytecode"; the nibbles of
 /// registers that format 35c doesn't name are 0, and so is the byte that pads an array payload.
 ///
 /// The opcode has to be one of the variant's format, each operand has to fit its field, registers that 35c doesn't name have to be
-/// 0, and a payload has to keep its rules. It fails only when out of memory, and then leaves the Vec as it was; where there is
-/// room for the units, there is none.
+/// 0, and a payload has to keep its rules. It fails only when out of memory, and then leaves the Vec as it was; a Vec with the
+/// capacity for the units never fails.
 ///
 /// ```
 /// use dex_insn::{RawInsn, put_insn};

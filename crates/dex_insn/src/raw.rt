@@ -1,4 +1,4 @@
-//! Raw instructions: operands as numbers, indices and branch offsets as they stand in the units.
+//! Raw instructions: operands as numbers, indices and branch offsets as they are in the units.
 
 /// An instruction, a variant for each format, or a payload.
 ///

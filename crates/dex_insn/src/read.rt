@@ -14,7 +14,7 @@ use crate::take::{Take, Whole, made};
 use crate::units::unit;
 use dex_base::Fault;
 
-/// Reads the instruction or payload at the front of the bytes, whose first unit is unit `at`, and answers what is made of it.
+/// Reads the instruction or payload at the front of the bytes, whose first unit is unit `at`, and returns what `v` makes of it.
 #[inline(always)]
 #[tactic(auto, using(crate::proofs::Flaws::odd_payload, crate::proofs::Flaws::payload))]
 fn take_front<'b, V: Take<'b>>(front: &'b [u8], at: u32, v: V) -> Result<V::Out, Flaw>
@@ -41,7 +41,7 @@ fn fault(flaw: Flaw, at: u32) -> Fault
     Fault::at(flaw.code(), u64::from(at))
 }
 
-/// Reads the instruction or payload at unit `at` as `read_insn` does, with its errors, and answers what `v` makes of it.
+/// Reads the instruction or payload at unit `at` as `read_insn` does, with its errors, and returns what `v` makes of it.
 ///
 /// ```
 /// let units = take_insn(&[0x12, 0xf0], 0, Size)?; // 1, where `Size` makes `size_of` of each: see `Take`
@@ -71,8 +71,8 @@ pub fn take_insn<'b, V: Take<'b>>(units: &'b [u8], at: u32, v: V) -> Result<V::O
 ///
 /// An error has the place `at`, in units, and one of the codes 62 (unused opcode), 63 (it goes past the units, or `at` does),
 /// 64 (a bit that has to be 0 is set), 66 (format 35c with more than five registers) and 67 (a payload at an odd unit, an element
-/// width other than 1, 2, 4 and 8, or keys that don't rise strictly). Where several rules are broken, the first in the order
-/// 62, 63, 64, 66 is answered, and for payloads in the order odd unit, head past the units, width, length past the units, keys.
+/// width other than 1, 2, 4 and 8, or keys that do not rise strictly). If several rules are violated, the first in the order
+/// 62, 63, 64, 66 is returned, and for payloads in the order odd unit, head past the units, width, length past the units, keys.
 ///
 /// ```
 /// use dex_insn::{RawInsn, read_insn};

@@ -5,7 +5,7 @@ ghost use Rattle.dex_insn.specs.Raw.{raw, units};
 
 use crate::raw::RawInsn;
 
-/// How many 16-bit units spell the instruction or payload.
+/// The number of 16-bit units of the instruction or payload.
 ///
 /// ```
 /// use dex_insn::{RawInsn, size_of};

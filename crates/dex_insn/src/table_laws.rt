@@ -1,4 +1,4 @@
-//! Laws of the opcode table. None has code: each says of the table what its contract says.
+//! Laws of the opcode table. None has code: its contract is the law.
 
 ghost use Rattle.std.specs.Prelude.{ℕ, List, ◌≡◌, ◌≢◌, [], Some, true};
 ghost use Rattle.std.specs.List.{list_all};
@@ -24,7 +24,7 @@ pub fn mnemonics_are_plain()
     ensures { (op : ℕ) → list_all is_mnemonic_byte (mnemonic_of op) ≡ true }
 {}
 
-/// The instructions of a used opcode have an index exactly if the opcode names a table.
+/// The instructions of a used opcode have an index if and only if the opcode names a table.
 #[tactic(auto, using(crate::proofs::Rows::kind_agrees))]
 pub fn indices_have_a_kind()
     ensures { (op : ℕ) (f : Format) → format_of op ≡ Some f → format_has_index f ≡ names_table (index_kind_of op) }

@@ -6,7 +6,7 @@ ghost use Rattle.dex_insn.specs.RawInsns.{SpellsInsn};
 
 use crate::raw::RawInsn;
 
-/// Makes something of an instruction where it is read: its format is known there, so nothing has to ask for it again.
+/// Makes something of an instruction when it is read: its format is known then, so it is not looked up again.
 ///
 /// ```
 /// ghost use Rattle.std.specs.Prelude.{◌≡◌};

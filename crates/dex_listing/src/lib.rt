@@ -8,10 +8,10 @@
 //! let text = print(alloc, &program)?; // parse gives the same program again
 //! ```
 //!
-//! Its rooms: `listing_words`, `listing_slots`, and `listing_lines` (a line), `listing_parse` (read), `listing_print`
+//! Its parts: `listing_words`, `listing_slots` and `listing_lines` (a line), `listing_parse` (read), `listing_print`
 //! (printed), `listing_laws` (what is printed is read again).
 //!
-//! docs/MAP.md says where this crate stands among the others.
+//! docs/MAP.md has this crate's place among the others.
 #![tactic(auto)]
 
 pub use listing_parse::{a_listing_is_its_lines, parse, parse_seeded};

@@ -1,7 +1,7 @@
 //! Names made from a text, placed in the caller's arena.
 //!
-//! A text spells a name as a listing writes it: `\uXXXX` stands for one UTF-16 unit, any other ASCII character for itself. What
-//! spells no name is answered with `None`; an error means out of memory.
+//! A text denotes a name as in a listing: `\uXXXX` is one UTF-16 unit, any other ASCII character is itself. A text that denotes
+//! no name gives `None`; an error means out of memory.
 //!
 //! ```
 //! use bumpalo::Bump;
@@ -13,7 +13,7 @@
 //! let none = ty(&arena, "java.lang.Object")?; // None: no descriptor
 //! ```
 //!
-//! docs/MAP.md says where this crate stands among the others.
+//! docs/MAP.md has this crate's place among the others.
 #![tactic(auto)]
 
 mod laws;

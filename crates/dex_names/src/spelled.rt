@@ -11,7 +11,7 @@ use dex_base::{Fault, is_descriptor};
 use listing_words::{read_field, read_method, read_name, read_proto};
 use program_types::{Desc, FieldRef, MethodRef, Proto, Str};
 
-/// The units that a text spells, in the arena.
+/// The units that a text denotes, in the arena.
 fn units_of<'a>(arena: &'a Bump, said: &str) -> Result<Option<&'a [u16]>, Fault>
     ensures found { IfOk result (λ r. IfSome r (λ units. SpellsInAscii said.now units.now)) }
     ensures none { IfOk result (λ r. IfNone r ((units : List ℕ) → SpellsInAscii said.now units → ⊥)) }
@@ -24,7 +24,7 @@ fn units_of<'a>(arena: &'a Bump, said: &str) -> Result<Option<&'a [u16]>, Fault>
     }
 }
 
-/// The string that a text spells; none where a backslash begins no `\uXXXX` or a character isn't ASCII.
+/// Returns the string that a text denotes; `None` if a backslash begins no `\uXXXX` or a character is not ASCII.
 ///
 /// ```
 /// use bumpalo::Bump;
@@ -44,7 +44,7 @@ pub fn text<'a>(arena: &'a Bump, said: &str) -> Result<Option<Str<'a>>, Fault>
     }
 }
 
-/// The type that a text spells, by its descriptor; none where it is no descriptor.
+/// Returns the type of a descriptor; `None` if the text is no descriptor.
 ///
 /// ```
 /// use bumpalo::Bump;
@@ -69,7 +69,7 @@ pub fn ty<'a>(arena: &'a Bump, said: &str) -> Result<Option<Desc<'a>>, Fault>
     }))
 }
 
-/// The prototype that a text spells: `(P..)R`; none where it is of another form or one of its types is no descriptor.
+/// Returns the prototype `(P..)R`; `None` if the text has another form or one of its types is no descriptor.
 ///
 /// ```
 /// use bumpalo::Bump;
@@ -89,8 +89,8 @@ pub fn proto<'a>(arena: &'a Bump, said: &str) -> Result<Option<Proto<'a>>, Fault
     }
 }
 
-/// The field that a text spells: `C->n:T`; none where it is of another form or one of its parts isn't well formed. It may still be one
-/// that no file has, as `V->n:V`: `well_formed` tells (110).
+/// Returns the field `C->n:T`; `None` if the text has another form or one of its parts is malformed. It may still be a field that no
+/// file has, as `V->n:V`: `well_formed` refuses it (110).
 ///
 /// ```
 /// use bumpalo::Bump;
@@ -110,8 +110,8 @@ pub fn field<'a>(arena: &'a Bump, said: &str) -> Result<Option<FieldRef<'a>>, Fa
     }
 }
 
-/// The method that a text spells: `C->n(P..)R`; none where it is of another form or one of its parts isn't well formed. It may still be
-/// one that no file has, as `V->n()V`: `well_formed` tells (110).
+/// Returns the method `C->n(P..)R`; `None` if the text has another form or one of its parts is malformed. It may still be a method that
+/// no file has, as `V->n()V`: `well_formed` refuses it (110).
 ///
 /// ```
 /// use bumpalo::Bump;

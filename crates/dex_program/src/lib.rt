@@ -8,10 +8,10 @@
 //! well_formed(&Program { classes: &[class] })?;
 //! ```
 //!
-//! Its rooms: `program_types` (the types, their content, comparisons and shorties), `program_rules` over `code_rules` (what
-//! a program has to keep, and their faults).
+//! Its parts: `program_types` (the types, their content, comparisons and shorties), `program_rules` over `code_rules` (the
+//! rules of a program, and their faults).
 //!
-//! docs/MAP.md says where this crate stands among the others.
+//! docs/MAP.md has this crate's place among the others.
 #![tactic(auto)]
 
 pub use program_rules::{well_formed, well_formed_in};

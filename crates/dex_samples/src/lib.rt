@@ -23,7 +23,7 @@
 //! }
 //! ```
 //!
-//! docs/MAP.md says where this crate stands among the others.
+//! docs/MAP.md has this crate's place among the others.
 #![tactic(auto)]
 
 // How a test is told.

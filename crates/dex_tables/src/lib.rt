@@ -14,7 +14,7 @@
 //!
 //! Its parts: `tables_rows` (a file's tables), `tables_names` (needed names and ranks), `tables_laws`.
 //!
-//! docs/MAP.md says where this crate stands among the others.
+//! docs/MAP.md has this crate's place among the others.
 #![tactic(auto)]
 
 pub use tables_laws::names_compare_as_rows;

@@ -11,8 +11,8 @@ use dex_base::Fault;
 use dex_container::Sections;
 use tables_rows::Tables;
 
-/// How many values the encoded_array at this byte offset of the file has: refuses what `read_array` refuses, with a fault that stands
-/// there too, and takes no memory, since no value is kept.
+/// Returns the number of values of the encoded_array at this byte offset of the file. It refuses what `read_array` refuses, with a fault
+/// of that array, and needs no memory, since no value is kept.
 ///
 /// ```
 /// use bumpalo::Bump;

@@ -18,30 +18,30 @@ ghost use Rattle.dex_base.specs.Fields.{AreBytes};
 ghost use Rattle.dex_value.specs.FileArrays.{ArrayIsDecided};
 ghost use Rattle.dex_value.specs.Once.{ShortestArrayIsOne};
 
-/// With the tables of a file, an array or a fault stands by their names exactly if it does by the file's.
+/// With the tables of a file, an array or a fault is at an offset by their names if and only if it is by the file's.
 pub fn arrays_carry_over()
     ensures stands { (b : List ℕ) (names : Names) → IsFramed b → AreNamesOf b names → (off most : ℕ) (vs : List Value) → ArrayStands (NameIsAt names) b off most vs ↔ ArrayStands (NameStands b) b off most vs }
     ensures breaks { (b : List ℕ) (names : Names) → IsFramed b → AreNamesOf b names → (off most : ℕ) (e : Fault) → ArrayBreaksAt (NameIsAt names) b off most e ↔ ArrayBreaksAt (NameStands b) b off most e }
     ensures one { (b : List ℕ) → IsFramed b → IsPrefixUnique (SpellsArray (NameStands b)) }
 {}
 
-/// No array stands at offset 0, so `read_array` refuses it.
+/// No array is at offset 0, so `read_array` refuses it.
 pub fn no_array_stands_at_zero()
     ensures { (b : List ℕ) (names : Names) → IsFramed b → (most : ℕ) (vs : List Value) → ¬ ArrayStands (NameIsAt names) b 0 most vs }
 {}
 
-/// Where the tables hold, at each place an array stands or a fault does.
+/// If the tables are valid, at each place there is an array or a fault.
 pub fn arrays_are_decided()
     ensures { (b : List ℕ) → AreBytes b → IsFramed b → TablesHold b → (off most : ℕ) → ArrayIsDecided b off most }
 {}
 
-/// A fault stands exactly where no array does.
+/// There is a fault at a place if and only if there is no array.
 pub fn faults_are_where_no_array_stands()
     ensures clear { (b : List ℕ) → IsFramed b → (off most : ℕ) (vs : List Value) → ArrayStands (NameStands b) b off most vs → (e : Fault) → ¬ ArrayBreaksAt (NameStands b) b off most e }
     ensures stands { (b : List ℕ) → AreBytes b → IsFramed b → TablesHold b → (off most : ℕ) → ((e : Fault) → ¬ ArrayBreaksAt (NameStands b) b off most e) → (vs : List Value) × ArrayStands (NameStands b) b off most vs }
 {}
 
-/// The names in an array that stands have rows.
+/// The names in an array of a file have rows.
 pub fn names_of_arrays_have_rows()
     ensures { (b : List ℕ) (off most : ℕ) (vs : List Value) → ArrayStands (NameStands b) b off most vs → AllByRecursion (HasRow b) (flat_map names_of_value vs) }
 {}

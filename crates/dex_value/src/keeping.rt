@@ -16,7 +16,7 @@ use program_types::Value;
 use std::alloc::Global;
 use tables_rows::Tables;
 
-/// Reads values that are no arrays, and keeps of values what is asked for.
+/// Reads values that are no arrays, and keeps the part of them that the caller needs.
 pub(crate) trait Keep: Copy {
     /// What is kept of one value.
     type One: Copy;

@@ -1,4 +1,4 @@
-//! Laws over the definitions, for the proofs of crates above. Those that take any naming stand in `proofs/`: `SpellsArray-weaker`
+//! Laws over the definitions, for the proofs of crates above. Those for any naming are in `proofs/`: `SpellsArray-weaker`
 //! carries a spelling over to a naming that the first implies.
 ghost use Rattle.std.specs.Prelude.{◌≡◌, ℕ, List, length, ◌<◌, ◌≤◌};
 ghost use Rattle.dex_base.specs.Grammar.{IsPrefixUnique};
@@ -15,7 +15,7 @@ ghost use Rattle.program_types.specs.Mentions.{AllNamesHold};
 ghost use Rattle.dex_value.specs.Named.{IsRanked};
 ghost use Rattle.dex_value.specs.Counts.{ArrayFits};
 
-/// In a file an index stands for one name of its kind. So no encoded_array begins another one, and it spells one list of
+/// In a file an index denotes one name of its kind. So no encoded_array is a prefix of another one, and it encodes one list of
 /// values.
 pub fn array_is_prefix_unique()
     ensures index { (names : Names) → IsFunctionalByType (NameIsAt names) }
@@ -28,7 +28,7 @@ pub fn array_is_short()
     ensures wide { (ranks : Five) (bytes : List ℕ) (vs : List Value) → SpellsArray (NameRanks ranks) bytes vs → length bytes ≤ wide_array vs }
 {}
 
-/// What `put_array` asks of values holds of all that any bytes spell. Counts fit also where the plain sum has 32 bits.
+/// Values that are encoded by any bytes satisfy what `put_array` requires. Counts fit also if the plain sum has 32 bits.
 pub fn spelled_array_can_be_put()
     ensures named { (ranks : Five) (bytes : List ℕ) (vs : List Value) → SpellsArray (NameRanks ranks) bytes vs → AllNamesHold (IsRanked ranks) (values vs) }
     ensures counts { (ranks : Five) (bytes : List ℕ) (vs : List Value) → SpellsArray (NameRanks ranks) bytes vs → ArrayFits vs }
@@ -42,7 +42,7 @@ pub fn array_carries_over()
         (bytes : List ℕ) (vs : List Value) → SpellsArray (NameRanks ranks) bytes vs → SpellsArray (NameIsAt names) bytes vs }
 {}
 
-/// What stands at an offset in place of an encoded_array has one fault: one number, at one place.
+/// An offset without an encoded_array has one fault: one number, at one place.
 pub fn one_fault()
     ensures { (names : Names) (b : List ℕ) → IsFramed b → (off most : ℕ) (e f : Fault) → ArrayBreaksAt (NameIsAt names) b off most e → ArrayBreaksAt (NameIsAt names) b off most f → e ≡ f }
 {}

@@ -1,10 +1,10 @@
 //! Encoded values: the initial values of static fields ("Dalvik Executable format": encoded_value, encoded_array).
 //!
-//! `read_array` reads the encoded_array at an offset of a file, `check_array` looks at it and keeps nothing; `put_array` appends one, in
-//! the fewest bytes. All meet one relation, `specs/Spelling.antt`, in which the names that indices stand for are a parameter: for a file those of its
-//! tables, for a writer the names by rank.
+//! `read_array` reads the encoded_array at an offset of a file, `check_array` checks it and keeps nothing; `put_array` appends one, in
+//! the fewest bytes. All satisfy one relation, `specs/Spelling.antt`, in which the names that indices denote are a parameter: for a
+//! file those of its tables, for a writer the names by rank.
 //!
-//! docs/MAP.md says where this crate stands among the others.
+//! docs/MAP.md has this crate's place among the others.
 #![tactic(auto)]
 
 // The bytes of one value: its head, its number or its name.

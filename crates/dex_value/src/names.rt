@@ -31,7 +31,7 @@ fn name_value<'a>(ty: NameType, name: Name<'a>) -> Value<'a>
     }
 }
 
-/// The name that the bytes after a head of this type stand for. None where its table has no such row.
+/// The name that the bytes after a head of this type denote. `None` if its table has no such row.
 pub(crate) fn named<'a>(tables: &Tables<'a>, ty: NameType, low: &[u8]) -> Option<Value<'a>>
     requires some { 0 < length low.now }
     requires few { length low.now ≤ 4 }

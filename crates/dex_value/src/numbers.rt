@@ -47,7 +47,7 @@ fn high(bytes: &[u8], width: usize) -> u64
     unsigned(bytes) * 256u64.pow((width - bytes.len()) as u32)
 }
 
-/// The number that the bytes after a head of this type stand for.
+/// The number that the bytes after a head of this type encode.
 pub fn number<'a>(ty: NumberType, low: &[u8]) -> Value<'a>
     requires some { 0 < length low.now }
     requires few { length low.now ≤ widest_of (number_code ty) }

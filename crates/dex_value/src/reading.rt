@@ -229,9 +229,9 @@ pub(crate) fn read_at<K: Keep>(
 /// Refused are: an offset outside the section of encoded arrays, a count that is misspelled, and bytes that run past the
 /// section (48, at `off`); a count above `most` (49, at `off`); a value of a wrong type, argument or index (50, at the
 /// value's first byte); an array value inside 64 others (51, at its first byte). In one value the type and the argument
-/// are looked at first, then the depth, its bytes and its index; values are looked at in the order of their bytes. The
-/// only other error is out of memory: memory is asked for as values come, never for a count. No array stands at offset 0
-/// (`no_array_stands_at_zero`), so that is refused.
+/// are checked first, then the depth, its bytes and its index; values are checked in the order of their bytes. The only
+/// other error is out of memory: memory is requested as values come, never for a count. No array is at offset 0
+/// (`no_array_stands_at_zero`), so it is refused.
 ///
 /// ```
 /// use bumpalo::Bump;

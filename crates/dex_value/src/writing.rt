@@ -203,14 +203,14 @@ pub fn make_array(alloc: Global, ranks: &Ranks<'_>, values: &[Value<'_>]) -> Res
     Ok(array)
 }
 
-/// Appends the encoded_array of these values: their number as uleb128, then each in the fewest bytes that spell it, its
-/// names by their ranks ("Dalvik Executable format", "encoded_array format").
+/// Appends the encoded_array of these values: their number as uleb128, then each in the fewest bytes, its names by their
+/// ranks ("Dalvik Executable format", "encoded_array format").
 ///
 /// Every name in the values has to have a rank of at most 4294967295, and no array may have more than 4294967295 values.
-/// All that some bytes spell is so (`spelled_array_can_be_put`), so nothing that can be written is kept out.
+/// All values that some bytes encode are so (`spelled_array_can_be_put`), so nothing that can be written is refused.
 ///
-/// It fails only when out of memory, and then `out` holds what it held. The stack holds a call for each array that a value is
-/// in: at most 64 in what `read_array` answers. A value made by hand that is much deeper may end the stack.
+/// It fails only when out of memory, and then `out` is as it was. The stack has a call for each array that a value is in: at
+/// most 64 in what `read_array` returns. A much deeper value made by hand may overflow the stack.
 ///
 /// ```
 /// use dex_program::Value;

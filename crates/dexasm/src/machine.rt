@@ -25,7 +25,7 @@ impl<'r> Machine<'r> {
         }
     }
 
-    /// What the system answers. Its error is kept, for people.
+    /// The result of the system call. Its error is kept for the second line of a message.
     fn noted<T>(&self, answer: io::Result<T>) -> io::Result<T>
         ensures { result ≡ answer }
     {

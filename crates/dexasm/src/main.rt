@@ -1,11 +1,11 @@
 //! `dexasm check|list|assemble|strip [FILE] [--output OUT]`: the words of the command line, carried out.
 //!
-//! Without FILE standard input is read, without `--output` the answer goes to standard output; a failure is one line on
-//! standard error, and a second one where that is a terminal. The exit status is 0 where the answer was written or help
-//! was asked for, 1 for a refused file or listing, 2 for wrong words, 3 where reading or writing failed, and 4 when out
-//! of memory.
+//! Without FILE standard input is read, without `--output` the output goes to standard output; a failure is one line on
+//! standard error, and a second one if that is a terminal. The exit status is 0 if the output was written or help was
+//! requested, 1 for a refused file or listing, 2 for a usage error, 3 if reading or writing failed, and 4 when out of
+//! memory.
 //!
-//! docs/MAP.md says where this crate stands among the others.
+//! docs/MAP.md has this crate's place among the others.
 #![tactic(auto)]
 
 mod machine;
@@ -21,7 +21,7 @@ fn main(rt: HostRuntime) -> ExitCode {
     ExitCode::from(run(&rt))
 }
 
-/// Reads the words and does what they ask for. The standard streams and files are unbuffered here: big pieces are moved.
+/// Reads the command line and carries it out. The standard streams and files are unbuffered here: large pieces are moved.
 fn run(rt: &HostRuntime) -> u8 {
     let mut errors = Watched::new(rt.stderr());
     let args = match env::args(rt) {
@@ -56,7 +56,7 @@ fn run(rt: &HostRuntime) -> u8 {
     )
 }
 
-/// A seed that nobody can know beforehand; where the system gives none, the fixed one, with which all is answered just so.
+/// A seed that cannot be known beforehand; if the system provides none, the fixed one, with the same results.
 fn drawn(rt: &HostRuntime) -> Seed {
     let mut bytes = [0; 8];
     match rt.fill_bytes(&mut bytes) {

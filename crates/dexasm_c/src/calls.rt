@@ -17,7 +17,7 @@ const MEMORY: CFault = CFault {
     place: 0,
 };
 
-/// The answer to a job, put into the buffer.
+/// The output of a job, put into the buffer.
 pub(crate) fn answer_into(
     alloc: Global,
     job: Job,

@@ -1,17 +1,17 @@
-//! How a call ends, and the fault that it tells of.
+//! The status of a call, and its fault.
 ghost use Rattle.std.specs.Prelude.{◌≡◌};
 ghost use Rattle.dexasm_c.specs.Status.{status_of};
 
 /// How a call ends.
 #[derive(Clone, Copy)]
 pub(crate) enum Ending {
-    /// The answer is in the caller's memory.
+    /// The output is in the caller's memory.
     Answered,
     /// The bytes are refused.
     Refused,
     /// Out of memory.
     Memory,
-    /// The caller's memory is too small for the answer.
+    /// The caller's memory is too small for the output.
     TooSmall,
 }
 
@@ -23,7 +23,7 @@ pub struct CFault {
     pub place: u64,
 }
 
-/// The number that stands for an ending: those of the command's exit status, and one that the command can't have.
+/// The number of a status: those of the command's exit status, and one that the command cannot have.
 pub(crate) fn status(ending: Ending) -> u32
     ensures { result ≡ status_of ending }
 {

@@ -8,7 +8,7 @@
 //!
 //! A call reads the caller's bytes and writes into the caller's memory. It keeps nothing, and what it takes of the heap it gives back.
 //!
-//! docs/MAP.md says where this crate stands among the others.
+//! docs/MAP.md has this crate's place among the others.
 #![tactic(auto)]
 
 ghost use Rattle.std.specs.Prelude.{◌≡◌, codes};

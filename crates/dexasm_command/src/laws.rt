@@ -1,7 +1,7 @@
-//! What the exit status says of a command: laws of the definitions, each the contract of a function that does nothing else.
+//! The meaning of the exit status: laws of the definitions, each the contract of a function that does nothing else.
 ghost use Rattle.dexasm_command.specs.Statuses.{FourTells, NoOther, OneTells, OutIsNeverLost, ThreeTells, TwoTells, ZeroTells};
 
-/// What each status says.
+/// The meaning of each status.
 pub fn statuses_tell()
     ensures zero { ZeroTells }
     ensures one { OneTells }

@@ -20,12 +20,12 @@ use dexasm_world::World;
 use std::alloc::Global;
 use std::io;
 
-/// What is said where a .dex file would go to a terminal.
+/// The message if a .dex file would go to a terminal.
 const TERMINAL_LINE: &[u8] =
     b"dexasm: a .dex file isn't for a terminal: use --output FILE or a pipe\n";
 
-/// Carries out the words of a command line, of which the first is the program's name, and answers the exit status. Hashes begin with
-/// the seed, on which nothing else depends.
+/// Carries out a command line, whose first word is the program's name, and returns the exit status. Hashes begin with the seed, on
+/// which nothing else depends.
 pub fn serve<W: World, I: Source, O: Sink, E: Sink>(
     alloc: Global,
     seed: Seed,
@@ -64,7 +64,7 @@ pub fn serve<W: World, I: Source, O: Sink, E: Sink>(
     }
 }
 
-/// Says that a .dex file isn't for a terminal.
+/// Reports that a .dex file is not for a terminal.
 fn hold_back<E: Sink>(errors: &mut E) -> u8
     ensures told { PutsLine (E.contents errors.old) (E.contents errors.new) (E.failed errors.new) terminal_line }
     ensures status { result ≡ 2 }
@@ -74,7 +74,7 @@ fn hold_back<E: Sink>(errors: &mut E) -> u8
     2
 }
 
-/// What the system says of a failure: of a file's where that was read or written, else of the stream's.
+/// The system's error for a failure: that of the file if one was read or written, otherwise that of the stream.
 fn error_of<W: World, I: Source, O: Sink>(
     done: &Result<(), RunFault>,
     file: Option<&str>,
@@ -91,7 +91,7 @@ fn error_of<W: World, I: Source, O: Sink>(
     }
 }
 
-/// Tells of a failure.
+/// Reports a failure.
 fn end<E: Sink>(
     alloc: Global,
     done: Result<(), RunFault>,
@@ -107,7 +107,7 @@ fn end<E: Sink>(
     }
 }
 
-/// Wrong words, or words that ask for help or for the version, which go to the output; all else goes to the errors.
+/// A usage error, or a request for help or for the version, which go to standard output; all else goes to standard error.
 fn misuse<O: Sink, E: Sink>(
     alloc: Global,
     error: &Error,

@@ -2,7 +2,7 @@
 
 use std::alloc::{AllocError, Global};
 
-/// The text without what a terminal obeys: in place of a control character, a line feed aside, stands its escape, as `\u{1b}`.
+/// The text without control characters: each, except a line feed, is replaced by its escape, as `\u{1b}`.
 pub(crate) fn shown(alloc: Global, text: &str) -> Result<String, AllocError> {
     let mut out = String::new(alloc);
     for c in text.chars() {

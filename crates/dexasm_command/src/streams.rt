@@ -1,4 +1,4 @@
-//! What words of a command line stand for standard input and standard output.
+//! The words of a command line that mean standard input and standard output.
 ghost use Rattle.std.specs.Prelude.{◌≡◌};
 ghost use Rattle.dexasm_command.specs.Streams.{makes_file, path_of, puts_file};
 
@@ -21,7 +21,7 @@ pub(crate) fn puts_file(job: Job, out: Option<&str>) -> bool
     out.is_none() && makes_file(job)
 }
 
-/// Whether the job's answer is a .dex file.
+/// Whether the job's output is a .dex file.
 fn makes_file(job: Job) -> bool
     ensures { result ≡ makes_file job }
 {

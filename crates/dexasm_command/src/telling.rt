@@ -1,4 +1,4 @@
-//! A failure, told.
+//! The report of a failure.
 ghost use Rattle.std.specs.Prelude.{◌≡◌, ◌⊎◌, ◌++◌, List, ℕ, IfOk, OnOk, string_bytes};
 ghost use Rattle.dexasm_run.specs.declared.error.RunFault.TheVariants.{Memory};
 ghost use Rattle.dexasm_command.specs.Told.{IsText, TellsFault, more_line};
@@ -9,8 +9,8 @@ use dexasm_run::{RunFault, Sink, line_text, status, write_all};
 use std::alloc::{AllocError, Global};
 use std::io;
 
-/// Tells of a failure in one line, and answers its exit status. A terminal is told in one line more what rule is broken, or the system's
-/// error, where there is one. Where there is no memory for the text, that is the failure.
+/// Reports a failure in one line, and returns its exit status. On a terminal a second line has the violated rule, or the system's error,
+/// if there is one. If there is no memory for the text, that is the failure.
 pub fn tell<E: Sink>(
     alloc: Global,
     fault: &RunFault,
@@ -33,7 +33,7 @@ pub fn tell<E: Sink>(
     }
 }
 
-/// The line with its end, and what a terminal is told below it.
+/// The line with its end, and the second line for a terminal.
 fn text_of(
     alloc: Global,
     fault: &RunFault,
@@ -50,7 +50,7 @@ fn text_of(
     Ok(text)
 }
 
-/// What a terminal is told below the line.
+/// The second line for a terminal.
 fn push_more(
     alloc: Global,
     text: &mut String,

@@ -1,4 +1,4 @@
-//! A law of the command line: some lines are taken, so that what `plan` says of lines that are taken speaks.
+//! A law of the command line: some lines are accepted, so that the clauses of `plan` about accepted lines are not empty.
 ghost use Rattle.std.specs.Prelude.{◌≡◌, ◌∷◌, [], codes, true};
 ghost use Rattle.clap.specs.Words.{takes};
 ghost use Rattle.dexasm_plan.specs.Commands.{dexasm};

@@ -1,11 +1,11 @@
-//! The words of a command line, as what they ask for.
+//! The words of a command line, parsed to the job that they request.
 //!
 //! ```text
 //! plan(alloc, &["dexasm", "assemble", "a.txt", "--align", "--output", "a.dex"])?
 //! // Plan { job: Job::Assemble { align: true }, file: Some("a.txt"), output: Some("a.dex") }
 //! ```
 //!
-//! docs/MAP.md says where this crate stands among the others.
+//! docs/MAP.md has this crate's place among the others.
 #![tactic(auto)]
 
 mod command;

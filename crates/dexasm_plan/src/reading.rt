@@ -1,4 +1,4 @@
-//! The plan that the words ask for.
+//! The plan of a command line.
 ghost use Rattle.std.specs.Prelude.{◌≡◌, ◌≢◌, IfOk, IfErr, codes, false, true};
 ghost use Rattle.std.specs.Option.{option_map_or};
 ghost use Rattle.std.specs.Str.{bytes_eq};
@@ -77,7 +77,7 @@ fn job_of(name: &str, align: bool) -> Option<Job>
     }
 }
 
-/// The exit status that tells of wrong words.
+/// The exit status for a usage error.
 ///
 /// ```
 /// use dexasm_plan::{plan, usage_status};

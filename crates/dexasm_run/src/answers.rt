@@ -1,4 +1,4 @@
-//! The answer to each job.
+//! The output of each job.
 ghost use Rattle.std.specs.Prelude.{◌≡◌, ◌≢◌, ◌++◌, IfOk, IfErr, OnOk};
 ghost use Rattle.dex_base.specs.Fault.{memory};
 ghost use Rattle.program_types.specs.View.{program, class};
@@ -19,7 +19,7 @@ use listing_print::{put_class, put_opening};
 use program_types::{Class, Program};
 use std::alloc::{AllocError, Global};
 
-/// The whole answer to a job on these bytes, or the fault of the call that refused them.
+/// Returns the complete output of a job on these bytes, or the fault of the call that refused them.
 ///
 /// Check and List refuse what `read` refuses, Strip what `read` or `write` does, Assemble what `parse`, `align_all` (with
 /// align) or `write` does; the fault is theirs, with its place: a byte of a file, a line of a listing, a class of the program,
@@ -42,8 +42,8 @@ pub fn answer(alloc: Global, job: Job, given: &[u8]) -> Result<Vec<u8>, Fault>
     answer_seeded(alloc, Seed::fixed(), job, given)
 }
 
-/// The whole answer to a job on these bytes, as `answer` gives it. Hashes begin with this seed, on which no answer depends: one that
-/// is drawn for bytes of strangers, so that what they name can't be made to collide with a seed that is known.
+/// Returns the complete output of a job on these bytes, as `answer` does. Hashes begin with this seed, on which no output depends: a
+/// random one for untrusted bytes, whose names could be chosen to collide with a known seed.
 ///
 /// ```
 /// use dex_base::Seed;
@@ -65,8 +65,8 @@ pub fn answer_seeded(alloc: Global, seed: Seed, job: Job, given: &[u8]) -> Resul
     }
 }
 
-/// The answer to a job on bytes that are given away, as `answer_seeded` gives it. A listing is let go before its file is written, so
-/// that both are never held.
+/// Returns the output of a job on bytes that it owns, as `answer_seeded` does. A listing is freed before its file is written, so that both
+/// are never in memory.
 pub(crate) fn answer_owned(
     alloc: Global,
     seed: Seed,
@@ -117,7 +117,7 @@ fn put_listed(alloc: Global, text: &mut Vec<u8>, one: &Class<'_>) -> Result<(), 
     put_class(alloc, text, Form::Two, one)
 }
 
-/// The file of the listed program, with each code aligned if that is asked.
+/// The file of the listed program, with each code aligned if `align` is set.
 fn assemble(alloc: Global, seed: Seed, align: bool, given: &[u8]) -> Result<Vec<u8>, Fault>
     ensures answered { IfOk result (λ made. Answer (Job.Assemble align) given.now made.items) }
     ensures refused { IfErr result (λ fault. fault ≢ memory → Refusal (Job.Assemble align) given.now fault) }
@@ -127,7 +127,7 @@ fn assemble(alloc: Global, seed: Seed, align: bool, given: &[u8]) -> Result<Vec<
     file_of(alloc, seed, &arena, &listed, align)
 }
 
-/// The file of the listed program, as `assemble` answers it. The listing is let go before the file is written.
+/// The file of the listed program, as `assemble` returns it. The listing is freed before the file is written.
 fn assemble_owned(alloc: Global, seed: Seed, align: bool, given: Vec<u8>) -> Result<Vec<u8>, Fault>
     ensures answered { IfOk result (λ made. Answer (Job.Assemble align) given.items made.items) }
     ensures refused { IfErr result (λ fault. fault ≢ memory → Refusal (Job.Assemble align) given.items fault) }
@@ -138,7 +138,7 @@ fn assemble_owned(alloc: Global, seed: Seed, align: bool, given: Vec<u8>) -> Res
     file_of(alloc, seed, &arena, &listed, align)
 }
 
-/// The file of a program, with each code aligned if that is asked.
+/// The file of a program, with each code aligned if `align` is set.
 fn file_of<'a>(
     alloc: Global,
     seed: Seed,

@@ -7,7 +7,7 @@ use std::alloc::{AllocError, Global};
 use std::fmt;
 use thiserror::Error;
 
-/// Why a run has no answer. Its text is the line that the program prints.
+/// Why a run has no output. Its text is the line that the program prints.
 #[derive(Debug, Drop, Error)]
 #[error("{}", Line(self))]
 pub enum RunFault {
@@ -54,7 +54,7 @@ pub fn status(fault: &RunFault) -> u8
     }
 }
 
-/// The line that tells of a fault, as a clause can know it: the derived `Display` shows it, and has no clause.
+/// The line of a fault, for clauses: the derived `Display` shows it, and has no clause.
 #[derive(Clone, Copy)]
 pub struct Line<'a>(pub &'a RunFault);
 
@@ -76,7 +76,7 @@ impl fmt::Display for Line<'_> {
     }
 }
 
-/// The line that tells of a failed run, as a text.
+/// The line of a failed run, as a text.
 pub fn line_text(alloc: Global, fault: &RunFault) -> Result<String, AllocError>
     ensures { IfOk result (λ text. string_bytes text ≡ error_line fault.now) }
 {

@@ -1,4 +1,4 @@
-//! A sink in memory, for whoever wants an answer as it was made.
+//! A sink in memory, for callers that need the output itself.
 ghost use Rattle.std.specs.Prelude.{◌≡◌, ◌||◌, [], Some, false};
 ghost use Rattle.std.specs.Io.{WritesAtMost};
 ghost use Rattle.std.specs.Io.KnownBytes.{WriteAppends};
@@ -60,7 +60,7 @@ impl Sink for InMemory {
         self.kept.put(piece)
     }
 
-    /// Keeps the answer itself, without a copy, where nothing was put before.
+    /// Keeps the output itself, without a copy, if nothing was put before.
     fn put_answer(&mut self, answer: Vec<u8>) -> Result<(), RunFault> {
         if self.kept.inner.is_empty() {
             self.kept.inner = answer;

@@ -1,8 +1,8 @@
-//! Laws of answers and outcomes, each the contract of a function that does nothing else.
+//! Laws of outputs and outcomes, each the contract of a function that does nothing else.
 ghost use Rattle.dexasm_run.specs.Once.{OneAnswer, OneOutcome};
 ghost use Rattle.dexasm_run.specs.inner.Once.{ListedAndAssembledIsStripped};
 
-/// A job has one answer to the bytes that it is given.
+/// A job has one output for its input bytes.
 pub fn one_answer()
     ensures { OneAnswer }
 {}
@@ -12,7 +12,7 @@ pub fn listed_and_assembled_is_stripped()
     ensures { ListedAndAssembledIsStripped }
 {}
 
-/// A job has one outcome on the bytes that it is given, unless memory runs out: an answer, or a refusal with its number and its place.
+/// A job has one outcome for its input bytes, unless memory runs out: an output, or a refusal with its number and its place.
 pub fn one_outcome()
     ensures { OneOutcome }
 {}

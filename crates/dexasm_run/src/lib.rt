@@ -1,4 +1,4 @@
-//! The whole answer to each job, and a job run over any reader and any writer: all is read, the answer is made, and then it is written.
+//! The complete output of each job, and a job run over any reader and any writer: all is read, the output is made, then it is written.
 //!
 //! ```text
 //! answer(alloc, Job::Check, bytes)?                     // `ok` and a line feed, where the bytes are a file
@@ -6,7 +6,7 @@
 //! answer(alloc, Job::Assemble { align: false }, text)?  // the file of the listed program
 //! ```
 //!
-//! docs/MAP.md says where this crate stands among the others.
+//! docs/MAP.md has this crate's place among the others.
 #![tactic(auto)]
 
 // The answer to each job, and what holds of answers.

@@ -1,4 +1,4 @@
-//! One run of a job: read all, answer, write all.
+//! One run of a job: read all, compute, write all.
 ghost use Rattle.std.specs.Prelude.{◌≡◌, ◌<◌, vec_len, true, false, ⊤, IfOk, length, take};
 ghost use Rattle.std.specs.Io.KnownBytes.{Keeps};
 ghost use Rattle.dexasm_run.specs.Runs.{Answers, BeginsAnswer, MatchRun, Refuses, WritesAll};
@@ -15,11 +15,11 @@ use std::alloc::{AllocError, Global};
 /// How many bytes one `take` may give.
 const PIECE: usize = 64 * 1024;
 
-/// Takes from the source until it has ended, answers the job on all that it gave, and puts the whole answer.
+/// Reads the source to its end, runs the job on all of its bytes, and writes the complete output.
 ///
-/// `Refused` carries a fault of the call that the job stands for, `Input` comes only where the source failed in
-/// this run, `Output` only where the sink did, and `Memory` stands for the fault 255. After `Refused`, `Input` and
-/// `Memory` nothing was put, after `Output` a beginning of the answer. An endless source ends in `Memory` or
+/// `Refused` carries a fault of the job's call, `Input` is returned only if the source failed in this run, `Output`
+/// only if the sink did, and `Memory` is the fault 255. After `Refused`, `Input` and `Memory` nothing was written,
+/// after `Output` a beginning of the output. An endless source ends in `Memory` or
 /// `Input`, since each `take` adds a byte, fails or ends the source, and a vector's length is bounded.
 ///
 /// ```
@@ -100,7 +100,7 @@ pub fn run_seeded<R: Source, W: Sink>(
     output.put_answer(made)
 }
 
-/// Room for one `take`.
+/// The buffer of one `take`.
 fn new_piece(alloc: Global) -> Result<Vec<u8>, AllocError>
     ensures { IfOk result (λ piece. 0 < vec_len piece) }
 {

@@ -1,4 +1,4 @@
-//! What a run writes to: a sink, which says whether it failed, and any writer as one.
+//! The destination of a run: a sink, which knows whether it failed, and any writer as one.
 ghost use Rattle.std.specs.Prelude.{◌≡◌, ◌||◌, ℕ, Bool, List, Option, ⊤};
 ghost use Rattle.std.specs.Io.{WritesAtMost};
 ghost use Rattle.std.specs.Io.KnownBytes.{WriteAppends};
@@ -11,7 +11,7 @@ use crate::watched::Watched;
 use std::io;
 use std::io::Write;
 
-/// A writer that says whether it failed. It tells its bytes as `Write` does.
+/// A writer that knows whether it failed. Its bytes are those of `Write`.
 pub trait Sink {
     // The bytes that it holds, where they are known.
     ghost contents: { Self → Option (List ℕ) };
@@ -19,7 +19,7 @@ pub trait Sink {
     // A call on it failed.
     ghost failed: { Self → Bool };
 
-    /// Writes a front of the piece, and tells how many bytes. An error turns `failed` true, and so does a call that
+    /// Writes a front of the piece, and returns how many bytes. An error turns `failed` true, and so does a call that
     /// takes no byte of a nonempty piece; nothing else does.
     fn put(&mut self, piece: &[u8]) -> io::Result<usize>
         ensures bound { WritesAtMost result piece.now }
@@ -40,18 +40,18 @@ pub trait Sink {
         Ok(())
     }
 
-    /// Puts a whole answer, which is given away, so that a sink in memory can keep it as it is.
+    /// Writes the complete output, which it owns, so that a sink in memory can keep it as it is.
     fn put_answer(&mut self, answer: Vec<u8>) -> Result<(), RunFault>
         ensures { WritesAll (contents self.old) (contents self.new) (failed self.new) answer.items result }
     {
         self.put_all(answer.as_slice())
     }
 
-    /// Whether a `put` has answered an error, or taken no byte of a nonempty piece.
+    /// Whether a `put` has returned an error, or taken no byte of a nonempty piece.
     fn failed(&self) -> bool
         ensures { result ≡ failed self.now };
 
-    /// The error that a `put` has answered last, if the sink keeps it. It is for people: no clause speaks of it.
+    /// The last error of a `put`, if the sink keeps it. It is for messages: no clause is about it.
     fn error(&self) -> Option<io::Error> {
         None
     }

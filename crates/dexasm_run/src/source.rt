@@ -1,4 +1,4 @@
-//! What a run reads from: a source, which says whether it failed and whether it ended, and any reader as one.
+//! The input of a run: a source, which knows whether it failed and whether it ended, and any reader as one.
 ghost use Rattle.std.specs.Prelude.{◌≡◌, ◌||◌, ℕ, Bool, List, Option, ⊤, IfErr, OnOk};
 ghost use Rattle.std.specs.Io.{ReadsAtMost};
 ghost use Rattle.std.specs.Io.KnownBytes.{ReadConsumes};
@@ -9,7 +9,7 @@ use crate::watched::Watched;
 use std::io;
 use std::io::Read;
 
-/// A reader that says whether it failed and whether it ended. It tells its bytes as `Read` does.
+/// A reader that knows whether it failed and whether it ended. Its bytes are those of `Read`.
 pub trait Source {
     // The bytes that are left, where they are known.
     ghost remaining: { Self → Option (List ℕ) };
@@ -23,7 +23,7 @@ pub trait Source {
     // What it says of a call that failed, as it was before and as it is: nothing, unless an `impl` says why.
     ghost blames: { Self → Self → Type 0 } = { λ _ _. ⊤ };
 
-    /// Reads bytes into the piece, and tells how many. An error, an interruption too, turns `failed` true; no byte
+    /// Reads bytes into the piece, and returns how many. An error, an interruption too, turns `failed` true; no byte
     /// for a nonempty piece turns `ended` true; nothing else does.
     fn take(&mut self, piece: &mut [u8]) -> io::Result<usize>
         ensures bound { ReadsAtMost result piece.new }
@@ -33,7 +33,7 @@ pub trait Source {
         ensures blames { IfErr result (λ _. blames self.old self.new) }
         ensures passes { OnOk result ((later : Self) → blames self.new later → blames self.old later) };
 
-    /// Whether a `take` has answered an error.
+    /// Whether a `take` has returned an error.
     fn failed(&self) -> bool
         ensures { result ≡ failed self.now };
 
@@ -41,7 +41,7 @@ pub trait Source {
     fn ended(&self) -> bool
         ensures { result ≡ ended self.now };
 
-    /// The error that a `take` has answered last, if the source keeps it. It is for people: no clause speaks of it.
+    /// The last error of a `take`, if the source keeps it. It is for messages: no clause is about it.
     fn error(&self) -> Option<io::Error> {
         None
     }

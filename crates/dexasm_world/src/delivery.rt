@@ -1,4 +1,4 @@
-//! An answer on its way to OUT: it is written beside OUT, and takes its place only when it is whole.
+//! The delivery of the output to OUT: it is written beside OUT, and replaces it only when it is complete.
 ghost use Rattle.std.specs.Prelude.{◌≡◌, true, false, [], Ok, IfOk, IsSome, OnOk, string_bytes, ⊤};
 ghost use Rattle.dexasm_world.specs.State.{Passes, place_of};
 ghost use Rattle.dexasm_world.specs.Steps.{private_mode};
@@ -11,7 +11,7 @@ use crate::put::put_all;
 use crate::world::{Dress, Handle, Look, NotMade, NotReplaced, Refusal, World};
 use std::alloc::{AllocError, Global};
 
-/// Delivers the answer to OUT.
+/// Delivers the output to OUT.
 pub fn deliver<W: World>(
     alloc: Global,
     world: &mut W,
@@ -41,7 +41,7 @@ pub fn deliver<W: World>(
     }
 }
 
-/// To what stands at this path, which is no link.
+/// Delivers to the file at this path, which is no link.
 fn deliver_over<W: World>(
     alloc: Global,
     world: &mut W,
@@ -76,7 +76,7 @@ fn deliver_over<W: World>(
     }
 }
 
-/// By way of a file beside, whose name is free. Where it is to have OUT's mode, nobody else may open it until it has.
+/// Delivers by a new file beside OUT. If it is to have OUT's mode, no other user may open it until it has.
 fn deliver_beside<W: World>(
     alloc: Global,
     world: &mut W,
@@ -151,7 +151,7 @@ fn deliver_by<W: World>(
     }
 }
 
-/// The whole answer, in a new file, for good where it is to replace another.
+/// Writes the complete output to a new file, and syncs it if it is to replace another.
 fn store<W: World>(
     world: &mut W,
     file: &mut W::File,
@@ -197,7 +197,7 @@ fn install<W: World>(world: &mut W, part: &str, path: &str, answer: &[u8]) -> Re
     }
 }
 
-/// The bytes of the file beside, in OUT. Where they don't fit there, the file beside stays, and has the whole answer.
+/// Copies the file beside to OUT. If it does not fit there, the file beside stays, with the complete output.
 fn copy_over<W: World>(world: &mut W, part: &str, path: &str, answer: &[u8]) -> Result<(), Refusal>
     requires { W.is_known ≡ true → HasFullPart (W.files world.old) part.now path.now answer.now }
     ensures moments { W.is_known ≡ true → Passes (W.files world.old) (W.files world.new)
@@ -217,7 +217,7 @@ fn copy_over<W: World>(world: &mut W, part: &str, path: &str, answer: &[u8]) -> 
     }
 }
 
-/// Writes the answer over what the path leads to, or makes it.
+/// Writes the output over the file that the path resolves to, or creates it.
 fn overwrite<W: World>(world: &mut W, path: &str, answer: &[u8], keeps: bool) -> Result<(), Refusal>
     ensures moments { W.is_known ≡ true → Passes (W.files world.old) (W.files world.new)
         (Overwrites (place_of (W.files world.old) path.now) (W.files world.old).now) }

@@ -1,10 +1,10 @@
-//! What the tool is asked to do, and the files that it does it with, as a trait.
+//! The jobs of the tool, and the file system, as a trait.
 //!
 //! ```
 //! let job = Job::Assemble { align: true };
 //! ```
 //!
-//! docs/MAP.md says where this crate stands among the others.
+//! docs/MAP.md has this crate's place among the others.
 #![tactic(auto)]
 
 mod delivery;

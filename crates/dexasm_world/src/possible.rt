@@ -1,5 +1,5 @@
-//! A law of the trait `World`: what its clauses say of a call that is done, and of one that fails, can be so whatever files there are. So what
-//! is proved of all worlds isn't proved of none.
+//! A law of the trait `World`: its clauses about a successful and about a failed call can be satisfied whatever files there are. So the
+//! theorems about all worlds are not empty.
 ghost use Rattle.dexasm_world.specs.inner.Possible.{CanBegin, CanDress, CanFail, CanKeep, CanMake, CanMove, CanAppend, CanRemove};
 
 /// For each call there is an outcome that its clauses allow.

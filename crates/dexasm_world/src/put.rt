@@ -1,4 +1,4 @@
-//! All the bytes of an answer, at the end of a file.
+//! All bytes of the output, appended to a file.
 ghost use Rattle.std.specs.Prelude.{◌≡◌, ◌≤◌, ℕ, true, length, take, OnOk};
 ghost use Rattle.dexasm_world.specs.State.{Passes};
 ghost use Rattle.dexasm_world.specs.inner.Steps.{Wrote};

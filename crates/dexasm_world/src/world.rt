@@ -14,7 +14,7 @@ use std::io;
 /// Why a call on the files was refused.
 #[derive(Clone, Copy, Debug)]
 pub enum Refusal {
-    /// Nothing stands there.
+    /// There is nothing.
     Missing,
     /// Out of memory.
     Memory,
@@ -25,7 +25,7 @@ pub enum Refusal {
 /// Why no new file was made.
 #[derive(Clone, Copy, Debug)]
 pub enum NotMade {
-    /// Something stands there.
+    /// There is something.
     Taken,
     /// The folder takes no new file of this name.
     Closed,
@@ -36,7 +36,7 @@ pub enum NotMade {
 /// Why a file wasn't put in another's place.
 #[derive(Clone, Copy, Debug)]
 pub enum NotReplaced {
-    /// What stands there keeps its place.
+    /// The file there stays.
     Fixed,
     /// The call was refused.
     Failed(Refusal),
@@ -50,7 +50,7 @@ pub struct Dress {
     pub group: u32,
 }
 
-/// What a name stands for.
+/// The kind of file of a name.
 #[derive(Clone, Copy, Debug)]
 pub enum Look {
     /// A link.
@@ -92,7 +92,7 @@ pub trait World {
     // The files now, and at each moment so far.
     ghost files: { Self → Files };
 
-    /// What the name stands for, no link followed.
+    /// The kind of file of the name, without following a link.
     fn look(&self, path: &str) -> Result<Look, Refusal>
         ensures { is_known ≡ true → Looks (files self.now) path.now result };
 
@@ -104,18 +104,18 @@ pub trait World {
     fn may_write(&self, path: &str) -> bool
         ensures { is_known ≡ true → result ≡ false → (files self.now).paths.is_barred path.now ≡ true };
 
-    /// Opens what the path leads to for reading.
+    /// Opens the file that the path resolves to for reading.
     fn open(&self, path: &str) -> Result<Self::Reader, Refusal>
         ensures { is_known ≡ true → Opens Self.Reader.left Self.Reader.place (files self.now) path.now result };
 
-    /// Reads bytes into the piece, and tells how many: none where the piece has room is the end.
+    /// Reads bytes into the piece, and returns how many: 0 for a nonempty piece is the end.
     fn read(&self, reader: &mut Self::Reader, piece: &mut [u8]) -> Result<usize, Refusal>
         ensures bound { ReadsAtMost result piece.new }
         ensures place { is_known ≡ true → Self.Reader.place reader.new ≡ Self.Reader.place reader.old }
         ensures bytes { is_known ≡ true → ReadConsumes (Self.Reader.left reader.old) (Self.Reader.left reader.new) result piece.new }
         ensures cause { is_known ≡ true → Caused result (IsBarredAt (files self.now) (Self.Reader.place reader.old)) };
 
-    /// Makes a file where there is nothing, not even a link. If it is to be private, nobody but its owner may open it from the beginning.
+    /// Creates a file where there is nothing, not even a link. If it is to be private, only its owner may open it from the beginning.
     fn make(&mut self, path: &str, is_private: bool) -> Result<Self::File, NotMade>
         ensures moments { is_known ≡ true → Passes (files self.old) (files self.new)
             (λ t. Same (files self.old).now t ⊎ ((n : ℕ) × ((files self.old).paths.is_plain path.now ≡ true) × MadeAs is_private (place_of (files self.old) path.now) n (files self.old).now t)) }
@@ -132,7 +132,7 @@ pub trait World {
             (Dressed (Self.File.number file.now) dress.mode (files self.old).now (files self.new).now) }
         ensures cause { is_known ≡ true → HasCause (files self.old) (files self.new) result };
 
-    /// Writes a front of the piece at the end of the file, which this run has made or emptied, and tells how many bytes.
+    /// Writes a front of the piece at the end of the file, which this run has created or emptied, and returns how many bytes.
     fn put(&mut self, file: &mut Self::File, piece: &[u8]) -> Result<usize, Refusal>
         ensures bound { WritesAtMost result piece.now }
         ensures number { is_known ≡ true → Self.File.number file.new ≡ Self.File.number file.old }
@@ -151,7 +151,7 @@ pub trait World {
         ensures kept { is_known ≡ true → OnOk result (Kept (Self.File.number file.old) (files self.old).now (files self.new).now) }
         ensures cause { is_known ≡ true → HasCause (files self.old) (files self.new) result };
 
-    /// What stands at the first path stands at the second, at once. Neither is a link.
+    /// Moves the file at the first path to the second, atomically. Neither is a link.
     fn replace(&mut self, from: &str, to: &str) -> Result<(), NotReplaced>
         ensures moments { is_known ≡ true → CanReplace (files self.old) from.now to.now → Passes (files self.old) (files self.new)
             (λ t. Same (files self.old).now t
@@ -169,7 +169,7 @@ pub trait World {
         ensures cause { is_known ≡ true → HasCause (files self.old) (files self.new) result }
         ensures left { is_known ≡ true → OnErr result ((files self.old).leftovers < (files self.new).leftovers) };
 
-    /// What the path leads to, emptied, or a new file. A device is as new.
+    /// The file that the path resolves to, emptied, or a new file. A device is as new.
     fn begin(&mut self, path: &str) -> Result<Self::File, Refusal>
         ensures moments { is_known ≡ true → Passes (files self.old) (files self.new)
             (λ t. Same (files self.old).now t ⊎ ((n : ℕ) × Begun (place_of (files self.old) path.now) n (files self.old).now t)) }
@@ -177,10 +177,10 @@ pub trait World {
             Begun (place_of (files self.old) path.now) (Self.File.number f) (files self.old).now (files self.new).now) }
         ensures cause { is_known ≡ true → HasCause (files self.old) (files self.new) result };
 
-    /// The system's error, where the last call failed, a `remove` aside, and the system said one. It is for people: no clause speaks of it.
+    /// The system's error, if the last call failed, except a `remove`, and the system has one. It is for messages: no clause is about it.
     fn error(&self) -> Option<io::Error>;
 
-    /// A file beside another stands at a place of its own.
+    /// A file beside another has a path of its own.
     ghost apart: { (world : Self) (path : List ℕ) (n : ℕ) → is_known ≡ true → (files world).paths.is_plain path ≡ true
         → (files world).paths.is_plain (part_path path n) ≡ true → place_of (files world) (part_path path n) ≢ place_of (files world) path };
 }

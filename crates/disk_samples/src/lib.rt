@@ -4,7 +4,7 @@
 //! What a disk holds is what has happened to it: a log, whose room is set aside when it is made. A call that finds no room is out of memory
 //! and does nothing, but a name can always be taken away.
 //!
-//! docs/MAP.md says where this crate stands among the others.
+//! docs/MAP.md has this crate's place among the others.
 #![tactic(auto)]
 
 // What happened, and what that has led to.

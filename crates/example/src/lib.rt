@@ -1,7 +1,7 @@
 //! Three functions over the library, to copy from: `show` lists the classes of a program with the instruction count of each method, `patch`
 //! returns a program with one constant changed, and `rewritten` has a theorem of its own. `bench example` runs them.
 //!
-//! docs/MAP.md says where this crate stands among the others.
+//! docs/MAP.md has this crate's place among the others.
 #![tactic(auto)]
 
 mod patch;

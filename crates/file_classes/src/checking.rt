@@ -1,5 +1,4 @@
-//! The third pass over class_defs where no program is asked for: the faults of `read_classes`. Of a code that is read nothing is
-//! cached but what is wrong with its registers.
+//! The third pass over class_defs without a program: the faults of `read_classes`. Only the fault of its registers is cached of a code.
 ghost use Rattle.std.specs.Prelude.{◌≢◌, ◌⊎◌, IfOk, IfErr, IfSome, IfNone, OnOk, length};
 ghost use Rattle.dex_base.specs.Fault.{memory};
 ghost use Rattle.dex_container.specs.Layout.{size_of};
@@ -22,7 +21,7 @@ use indexmap::IndexMap;
 use std::alloc::Global;
 use tables_rows::Tables;
 
-/// What codes are looked at with.
+/// What codes are checked with.
 #[derive(Clone, Copy)]
 struct Checker<'c> {
     alloc: Global,
@@ -30,8 +29,7 @@ struct Checker<'c> {
     tables: &'c Tables<'c>,
 }
 
-/// What is wrong with the registers of each code that was looked at, by its offset, and an arena that is empty again after
-/// each code.
+/// The fault of the registers of each code that was checked, by its offset, and an arena that is emptied after each code.
 #[derive(Drop)]
 struct Known {
     scratch: Bump,
@@ -111,7 +109,7 @@ impl Checker<'_> {
         Ok(directs.or(virtuals))
     }
 
-    /// Looks at the code of all rows.
+    /// Checks the code of all rows.
     fn check_rows(&self, known: &mut Known, heads: &[Head<'_, '_>]) -> Result<(), Fault>
         requires names { AreNamesOf self.now.sections.now self.now.tables.now }
         requires cached { AreCached (IsChecked self.now.sections.now) known.old.cached }
@@ -135,7 +133,7 @@ impl Checker<'_> {
     }
 }
 
-/// Looks at the code of all rows, each code once: the first fault of a body, or where there is none, the first of registers.
+/// Checks the code of all rows, each code once: the first fault of a body or, if there is none, the first of registers.
 pub fn check_codes(
     alloc: Global,
     sections: &Sections<'_>,

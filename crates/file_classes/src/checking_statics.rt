@@ -1,5 +1,4 @@
-//! The second pass over class_defs where no program is asked for: the faults of `read_statics`. Of an array nothing is cached but how many
-//! values it has.
+//! The second pass over class_defs without a program: the faults of `read_statics`. Only the number of its values is cached of an array.
 ghost use Rattle.std.specs.Prelude.{◌≢◌, ◌<◌, List, IfErr, OnOk};
 ghost use Rattle.dex_base.specs.Fault.{memory};
 ghost use Rattle.dex_container.specs.Layout.{size_of};
@@ -25,7 +24,7 @@ use indexmap::IndexMap;
 use std::alloc::Global;
 use tables_rows::Tables;
 
-/// Looks at the values at an offset, at most so many: what is cached for them, or what is found now, and cached.
+/// Checks the values at an offset, at most so many: the cached result, or the one that is found now, and cached.
 fn check_array_at(
     sections: &Sections<'_>,
     tables: &Tables<'_>,
@@ -75,7 +74,7 @@ fn check_row(
     }
 }
 
-/// Looks at the static values of all rows, at each array once.
+/// Checks the static values of all rows, each array once.
 pub fn check_statics(
     alloc: Global,
     sections: &Sections<'_>,

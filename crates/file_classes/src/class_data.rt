@@ -1,4 +1,4 @@
-//! What a class defines, as numbers ("class_data_item"); where none is spelled, `heads.rt` answers 44.
+//! The members of a class, as numbers ("class_data_item"); if they are malformed, `heads.rt` returns 44.
 ghost use Rattle.std.specs.Prelude.{ℕ, List, IfOk, IfSome, IfNone, IsOkUnless, map};
 ghost use Rattle.dex_base.specs.Fault.{memory};
 ghost use Rattle.dex_base.specs.Grammar.{Takes, NoneBegins, Many};
@@ -106,7 +106,7 @@ fn take_counts(bytes: &[u8]) -> Option<(Counts, &[u8])>
     ))
 }
 
-/// So many entries of fields at the front of the bytes, and what follows them. Memory is asked for as they come.
+/// So many entries of fields at the front of the bytes, and the bytes after them. Memory is requested as they come.
 fn take_fields<'b>(
     alloc: Global,
     count: u32,
@@ -127,7 +127,7 @@ fn take_fields<'b>(
     Ok(Some((all, left)))
 }
 
-/// So many entries of methods at the front of the bytes, and what follows them. Memory is asked for as they come.
+/// So many entries of methods at the front of the bytes, and the bytes after them. Memory is requested as they come.
 fn take_methods<'b>(
     alloc: Global,
     count: u32,
@@ -176,7 +176,7 @@ fn take_entries(alloc: Global, bytes: &[u8]) -> Result<Option<Entries>, AllocErr
     }))
 }
 
-/// The class data at an offset, none of any at 0. None where none stands there.
+/// The class data at an offset; without members at 0. `None` if there is none.
 pub fn entries_at(
     alloc: Global,
     sections: &Sections<'_>,

@@ -34,7 +34,7 @@ pub fn class_count(sections: &Sections<'_>) -> u32
     sections.table(kind::CLASS_DEF_ITEM).0
 }
 
-/// Where row i stands.
+/// The byte offset of row i.
 pub(crate) fn class_place(sections: &Sections<'_>, i: u32) -> u64
     requires { i < size_of sections.now section.class_defs }
     ensures { result ≡ row_place sections.now section.class_defs i }

@@ -29,7 +29,7 @@ use program_types::{Desc, Member, Str};
 use std::alloc::Global;
 use tables_rows::Tables;
 
-/// A class before its static values and its code are looked at.
+/// A class before its static values and its code are read.
 #[derive(Clone, Copy)]
 pub struct Head<'a, 's> {
     pub ty: Desc<'a>,

@@ -45,7 +45,7 @@ fn is_new(types: &[Desc<'_>], n: usize) -> bool
     true
 }
 
-/// Whether none of a few types stands twice.
+/// Whether none of a few types occurs twice.
 fn are_few_distinct(types: &[Desc<'_>]) -> bool
     ensures { IsTrue result ↔ NoTypeTwice (map desc types.now) }
 {
@@ -57,7 +57,7 @@ fn are_few_distinct(types: &[Desc<'_>]) -> bool
     true
 }
 
-/// Whether none of many types stands twice, in time that grows with their number.
+/// Whether none of many types occurs twice, in time that grows with their number.
 fn are_many_distinct(alloc: Global, types: &[Desc<'_>]) -> Result<bool, AllocError>
     ensures ok { IfOk result (λ yes. IsTrue yes ↔ NoTypeTwice (map desc types.now)) }
 {
@@ -70,7 +70,7 @@ fn are_many_distinct(alloc: Global, types: &[Desc<'_>]) -> Result<bool, AllocErr
     Ok(true)
 }
 
-/// Whether no type stands twice.
+/// Whether no type occurs twice.
 fn are_distinct(alloc: Global, types: &[Desc<'_>]) -> Result<bool, AllocError>
     ensures ok { IfOk result (λ yes. IsTrue yes ↔ NoTypeTwice (map desc types.now)) }
 {
@@ -80,7 +80,7 @@ fn are_distinct(alloc: Global, types: &[Desc<'_>]) -> Result<bool, AllocError>
     are_many_distinct(alloc, types)
 }
 
-/// The interfaces at an offset, in the arena. None where no list of distinct class types stands there.
+/// The interfaces at an offset, in the arena. `None` if no list of distinct class types is there.
 fn read_interfaces<'a>(
     alloc: Global,
     arena: &'a Bump,
@@ -106,8 +106,8 @@ fn read_interfaces<'a>(
     Ok(Some(types))
 }
 
-/// The interfaces at an offset: the list that is cached for it, or the one that is read now, and cached. None where no list of distinct
-/// class types stands there.
+/// The interfaces at an offset: the cached list, or the one that is read now, and cached. `None` if no list of distinct class types is
+/// there.
 pub(crate) fn interfaces_at<'a>(
     alloc: Global,
     arena: &'a Bump,

@@ -8,7 +8,7 @@ ghost use Rattle.file_classes.specs.Classes.{SpellsClass};
 ghost use Rattle.dex_container.specs.Frame.{IsFramed};
 ghost use Rattle.program_types.specs.Content.{Class};
 
-/// A row of class_defs spells one class.
+/// A row of class_defs encodes one class.
 pub fn class_is_one()
     ensures { (b : List ℕ) → IsFramed b → (i : ℕ) (c d : Class) → SpellsClass b i c → SpellsClass b i d → c ≡ d }
 {}
@@ -21,7 +21,7 @@ pub fn classes_are_clear()
     ensures registers { (b : List ℕ) → IsFramed b → (i : ℕ) (e : Fault) → RowRegistersHold b i → ¬ RowRegistersBreak b i e }
 {}
 
-/// A row that holds keeps each rule of class rows, also asked alone.
+/// A valid row keeps each rule of class rows, also by itself.
 pub fn rows_that_hold_keep_the_rules()
     ensures { (b : List ℕ) → IsFramed b → (i : ℕ) → ClassRowHolds b i → ClassRowKeeps b i }
 {}

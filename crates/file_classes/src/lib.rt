@@ -1,4 +1,4 @@
-//! Classes of a file: what a row of class_defs spells, read in three passes over all rows: names and members, static values, code.
+//! Classes of a file: the class of a row of class_defs, read in three passes over all rows: names and members, static values, code.
 //!
 //! ```
 //! let heads = read_heads(alloc, &arena, &scratch, &sections, &tables)?; // faults of class rows
@@ -6,11 +6,11 @@
 //! let classes = read_classes(alloc, &arena, &sections, &tables, heads, statics)?; // faults of code items
 //! let found = read_class_at(alloc, &arena, &sections, &tables, heads, statics, 0)?; // one of these classes
 //!
-//! check_statics(alloc, &sections, &tables, heads)?; // faults of values, where no program is asked for
+//! check_statics(alloc, &sections, &tables, heads)?; // faults of values, without a program
 //! check_codes(alloc, &sections, &tables, heads)?; // faults of code items
 //! ```
 //!
-//! docs/MAP.md says where this crate stands among the others.
+//! docs/MAP.md has this crate's place among the others.
 #![tactic(auto)]
 
 // A row of class_defs and what it refers to, in the order in which it is checked.

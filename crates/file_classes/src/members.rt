@@ -25,7 +25,7 @@ use dex_container::{Sections, kind};
 use program_types::{Desc, FieldRef, Member, MethodRef};
 use tables_rows::{MemberTable, Tables};
 
-/// A method before its code is looked at.
+/// A method before its code is read.
 #[derive(Clone, Copy)]
 pub struct Bare<'a> {
     pub method: &'a MethodRef<'a>,
@@ -42,7 +42,7 @@ pub(crate) struct Members<'a, 's> {
     pub virtuals: &'s [Bare<'a>],
 }
 
-/// The class whose members are read: the index of its type, its name, and the place of its row, where their faults stand.
+/// The class whose members are read: the index of its type, its name, and the place of its row, which is that of their faults.
 #[derive(Clone, Copy)]
 struct Owner<'n> {
     row: u32,
@@ -110,7 +110,7 @@ fn method_at<'a>(
     Ok(method)
 }
 
-/// The fields of a list of entries, each of this class, in the arena. A fault stands at the class row.
+/// The fields of a list of entries, each of this class, in the arena. A fault is at the class row.
 fn read_fields<'a>(
     arena: &'a Bump,
     sections: &Sections<'_>,
@@ -141,7 +141,7 @@ fn read_fields<'a>(
     Ok(into_bump_slice(fields))
 }
 
-/// The methods of a list of entries, each of this class. A fault stands at the class row.
+/// The methods of a list of entries, each of this class. A fault is at the class row.
 fn read_bares<'a, 's>(
     scratch: &'s Bump,
     sections: &Sections<'_>,

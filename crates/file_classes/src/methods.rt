@@ -1,5 +1,5 @@
-//! The third pass over class_defs: the code of methods, which completes the classes. The first fault of registers is cached, and answered
-//! where there is no other.
+//! The third pass over class_defs: the code of methods, which completes the classes. The first fault of registers is kept, and returned
+//! if there is no other.
 ghost use Rattle.std.specs.Prelude.{◌≢◌, ◌<◌, ◌≡◌, ◌⊎◌, IfOk, IfErr, IfSome, IfNone, OnOk, Some, length, map, option_map};
 ghost use Rattle.dex_base.specs.Fault.{memory};
 ghost use Rattle.dex_container.specs.Layout.{size_of};

@@ -58,7 +58,7 @@ fn interfaces_are_before(sections: &Sections<'_>, places: &Places, i: u32) -> bo
     }
 }
 
-/// Whether row i defines a class that no earlier row defines, and what it stands on is defined neither here nor later.
+/// Whether row i defines a class that no earlier row defines, and its superclass and interfaces are defined neither here nor later.
 pub(crate) fn is_in_order(sections: &Sections<'_>, places: &Places, i: u32) -> bool
     requires places { ArePlaces sections.now (size_of sections.now section.class_defs) places.now.first.items places.now.last.items }
     requires row { i < size_of sections.now section.class_defs }

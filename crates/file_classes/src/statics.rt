@@ -59,7 +59,7 @@ fn array_at<'a>(
     Ok(values)
 }
 
-/// A fault of a row's array stands at the row, one of a value at the value.
+/// A fault of a row's array is at the row, one of a value at the value.
 pub(crate) fn at_row(place: u64, found: Fault) -> Fault
     ensures { result ≡ at_row place found }
 {

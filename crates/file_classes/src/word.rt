@@ -1,7 +1,7 @@
 //! The words of a class row, by the page's names.
 //! Page: "Dalvik Executable format", "class_def_item".
 
-/// The index of a superclass or a source file that stands for none.
+/// The index for no superclass and no source file.
 pub const NO_INDEX: u32 = 0xffffffff;
 
 pub const CLASS_IDX: u32 = 0;

@@ -1,4 +1,4 @@
-//! The end and the front of a file whose data stands: map, header, rows, signature and checksum.
+//! The end and the front of a file whose data is written: map, header, rows, signature and checksum.
 //! Page: "Dalvik Executable format", "header_item".
 ghost use Rattle.std.specs.Prelude.{◌≡◌, ℕ, ◌+◌, ◌*◌, ◌++◌, ◌≤◌, ◌<◌, ◌^◌, OnOk, OnErr, IsOkUnless, length, take, drop};
 ghost use Rattle.dex_base.specs.Fault.{memory};
@@ -106,7 +106,7 @@ fn put_front(bytes: &mut [u8], counts: Rows, map: u32, total: u32, rows: &[u8])
     are_bytes(bytes);
 }
 
-/// Finishes a file whose data stands in `out` after room for the header and the tables: puts the map after the data,
+/// Finishes a file whose data is in `out` after zeros for the header and the tables: puts the map after the data,
 /// the header and the rows of the tables in front, and fills in the signature and the checksum.
 ///
 /// `rows` has the bytes of all rows, table by table: 4 a row of `string_ids` and `type_ids`, 12 of `proto_ids`, 8 of

@@ -1,4 +1,4 @@
-//! The items of a part, each once, and where they stand.
+//! The items of a part, each once, and their offsets.
 //! Page: "Dalvik Executable format", "File layout".
 ghost use Rattle.std.specs.Prelude.{◌≡◌, ◌+◌, ◌<◌, ◌^◌, [], ◌++◌, IfOk, OnOk, IsOkUnless, length};
 ghost use Rattle.dex_base.specs.Fault.{memory};
@@ -12,7 +12,7 @@ use indexmap::map::Entry;
 use std::alloc::Global;
 use std::marker::Model;
 
-/// The items of a part, in the order in which they stand. It stands for the bytes of each, with its place.
+/// The items of a part, in the order of the file. Its model is the bytes of each, with its offset.
 pub struct Items {
     places: IndexMap<Item, u32, Seed>,
 }
@@ -52,7 +52,7 @@ impl Items {
         self.places.len() as u32
     }
 
-    /// Where the item of these bytes stands: where an equal one does, or else after `out`, to which it is appended.
+    /// Returns the offset of the item of these bytes: that of an equal one, otherwise the end of `out`, to which it is appended.
     ///
     /// It fails only when out of memory.
     pub fn put(&mut self, out: &mut Vec<u8>, bytes: Vec<u8>) -> Result<u32, Fault>
@@ -71,8 +71,8 @@ impl Items {
         }
     }
 
-    /// Where the item of these bytes stands, 4-aligned: where an equal one does, or else after `out`, to which zeros
-    /// are appended up to the next place that 4 divides, and then the item.
+    /// Returns the offset of the item of these bytes, 4-aligned: that of an equal one, otherwise after `out`, to which zeros are
+    /// appended up to the next offset that 4 divides, and then the item.
     ///
     /// It fails only when out of memory.
     pub fn put_aligned(&mut self, out: &mut Vec<u8>, bytes: Vec<u8>) -> Result<u32, Fault>
@@ -93,7 +93,7 @@ impl Items {
     }
 }
 
-/// Appends an item, and tells where it stands.
+/// Appends an item, and returns its offset.
 fn append(out: &mut Vec<u8>, bytes: &[u8]) -> Result<u32, Fault>
     requires room { length out.old.items < 2 ^ 32 }
     ensures place { IfOk result (λ place. place ≡ length out.old.items) }

@@ -12,7 +12,7 @@ ghost use Rattle.file_layout.specs.inner.Parts.{HasPart};
 ghost use Rattle.file_layout.specs.inner.Plan.{IsWritten};
 ghost use Rattle.file_layout.specs.inner.Sections.{IsItself, is_empty_list};
 
-/// What is written by a plan is framed, the header has the plan's fields, each part stands in the section of its kind, and the map
+/// A file that is written by a plan is framed, the header has the plan's fields, each part is in the section of its kind, and the map
 /// lists no other kinds than those that a written file has.
 pub fn written_is_framed()
     ensures framed { (b : List ℕ) (p : Plan) (map : ℕ) → IsWritten b p map → IsFramed b }
@@ -30,13 +30,13 @@ pub fn laid_items_stay()
     ensures { LaidItemsStay }
 {}
 
-/// With one more item after them, at the next place that 4 divides, items are laid as before; where the value takes
-/// none, the place 0 stands for it.
+/// With one more item after them, at the next offset that 4 divides, items are laid as before; a value without an item has
+/// offset 0.
 pub fn one_more_item_is_laid()
     ensures { OneMoreItemIsLaid }
 {}
 
-/// Items that are laid in a part stand in the section of its kind, 4-aligned, each at the place that refers to it.
+/// Items that are laid in a part are in the section of its kind, 4-aligned, each at the offset that refers to it.
 pub fn laid_items_stand()
     ensures { LaidItemsStand }
 {}

@@ -1,18 +1,18 @@
-//! The layout of a written file, whatever it says: items one after the other with zeros where alignment asks for them, equal items once,
-//! the map, the header, the rows of the tables.
+//! The layout of a written file, whatever its content: items one after the other with zeros for alignment, equal items once, the map, the
+//! header, the rows of the tables.
 //!
-//! Who writes a file puts zeros in place of header and tables, the parts of the data section after them, and keeps of each part how many
-//! items it has and where it stands.
+//! A writer appends zeros in place of header and tables, then the parts of the data section, and keeps for each part its number of items
+//! and its offset.
 //!
 //! ```
 //! let mut items = Items::new(alloc, seed);
-//! let place = items.put_aligned(&mut out, bytes)?; // appended here, 4-aligned, or where an equal item stands
+//! let place = items.put_aligned(&mut out, bytes)?; // appended here, 4-aligned, or the offset of an equal item
 //! let plan = Plan { rows, lists, codes, strings, arrays, datas };
-//! finish(alloc, &mut out, &plan, &table_rows)?; // the bytes of the tables, which stand after the header
+//! finish(alloc, &mut out, &plan, &table_rows)?; // the bytes of the tables, which follow the header
 //! let sections = open(&out)?; // what is finished is framed
 //! ```
 //!
-//! docs/MAP.md says where this crate stands among the others.
+//! docs/MAP.md has this crate's place among the others.
 #![tactic(auto)]
 
 // What a file holds, and where.

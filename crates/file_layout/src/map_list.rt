@@ -1,4 +1,4 @@
-//! The map, which stands at the end of the file.
+//! The map, which is at the end of the file.
 //! Page: "Dalvik Executable format", "map_list" and "map_item".
 ghost use Rattle.std.specs.Prelude.{◌≡◌, ℕ, ◌++◌, ◌≤◌, ◌<◌, ◌^◌, OnOk, IfOk, IsOkUnless, length, map, slice_index};
 ghost use Rattle.std.specs.List.{filter};
@@ -41,7 +41,7 @@ impl Entry {
     }
 }
 
-/// All kinds of items that a file of this plan may have, in the order in which they stand, with the map at `place`.
+/// All kinds of items that a file of this plan may have, in the order of the file, with the map at `place`.
 pub(crate) fn entries_of(plan: &Plan, place: u32) -> [Entry; 13]
     requires { tables_end plan.now.rows < 2 ^ 32 }
     ensures { result ≡ map entry_of (spans_of plan.now place 0) }
@@ -105,8 +105,8 @@ fn list_words(alloc: Global, entries: &[Entry]) -> Result<Vec<u32>, Fault>
     Ok(words)
 }
 
-/// What stands after the data of a file that so far ends at `end`: zeros up to the next place that 4 divides, and there
-/// the map of these entries.
+/// The bytes after the data of a file that so far ends at `end`: zeros up to the next offset that 4 divides, then the map of
+/// these entries.
 ///
 /// It fails only when out of memory.
 pub(crate) fn map_after(alloc: Global, end: usize, entries: &[Entry]) -> Result<Vec<u8>, Fault>

@@ -1,4 +1,4 @@
-//! Zeros where alignment asks for them.
+//! Zeros for alignment.
 //! Page: "Dalvik Executable format", "alignment" of each item.
 ghost use Rattle.std.specs.Prelude.{◌≡◌, ◌++◌, OnOk, OnErr, IsOkUnless, length};
 ghost use Rattle.dex_base.specs.Fault.{memory};

@@ -1,4 +1,4 @@
-//! What a file holds: how many rows each table has, and where the parts of the data section stand.
+//! The plan of a file: how many rows each table has, and the offsets of the parts of the data section.
 //! Page: "Dalvik Executable format", "File layout".
 ghost use Rattle.std.specs.Prelude.{◌≡◌, ◌<◌, ◌^◌};
 ghost use Rattle.file_layout.specs.inner.Plan.{type_ids_begin, proto_ids_begin, field_ids_begin, method_ids_begin, class_defs_begin, tables_end};
@@ -17,8 +17,8 @@ pub struct Rows {
     pub classes: u32,
 }
 
-/// The items of one kind in the data section: how many there are, and from which byte to which they stand. Of a part
-/// without items only `end` counts, which is the end of the part before it.
+/// The items of one kind in the data section: how many there are, and from which byte to which they extend. In a part without
+/// items only `end` counts, which is the end of the part before it.
 #[derive(Clone, Copy)]
 pub struct Part {
     pub items: u32,
@@ -26,7 +26,7 @@ pub struct Part {
     pub end: u32,
 }
 
-/// The tables and the parts of the data section, in the order in which they stand: `type_list`, `code_item`,
+/// The tables and the parts of the data section, in the order of the file: `type_list`, `code_item`,
 /// `string_data_item`, `encoded_array_item`, `class_data_item`.
 #[derive(Clone, Copy)]
 pub struct Plan {

@@ -1,4 +1,4 @@
-//! What the type of a slice says of its items, for proofs.
+//! Laws from the type of a slice, for proofs.
 ghost use Rattle.std.specs.Prelude.{ℕ, ◌<◌, ◌^◌, slice_index};
 
 /// Each number is below 2 to the power of 32.

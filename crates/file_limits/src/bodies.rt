@@ -95,7 +95,7 @@ fn class_number(alloc: Global, ranks: &Ranks<'_>, class: &Class<'_>) -> Result<O
     Ok(lower_of(directs, virtuals))
 }
 
-/// What is the lowest limit, where a body of this class, which stands after those before, breaks one of this number.
+/// The lowest limit, if a body of this class, after those before, exceeds one of this number.
 fn earlier_of(lowest: Option<Fault>, number: Option<u16>, class: usize) -> Option<Fault>
     ensures { result ≡ earlier lowest number class }
 {

@@ -10,7 +10,7 @@ pub fn wide_is_by_parts()
     ensures { WideIsByParts }
 {}
 
-/// A program fits exactly if it breaks none of the limits of a file.
+/// A program fits if and only if it exceeds no limit of a file.
 pub fn limits_are_decided()
     ensures { LimitsAreDecided }
 {}

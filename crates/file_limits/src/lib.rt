@@ -5,7 +5,7 @@
 //! check_limits(alloc, &ranks, &program)?; // refused where a limit is broken
 //! ```
 //!
-//! docs/MAP.md says where this crate stands among the others.
+//! docs/MAP.md has this crate's place among the others.
 #![tactic(auto)]
 
 // How many bytes a file takes at most.

@@ -26,9 +26,9 @@ fn too_big_or(broken: Option<Fault>) -> Fault
     }
 }
 
-/// Refuses a program that no file has room for: the fault of the lowest number that stands, at its place. 80 TooManyTypes and
-/// 81 TooManyProtos stand at how many are needed, 82 to 89 at the number of the first class of which a body breaks the limit, 90
-/// TooBig at 0. 255 is out of memory.
+/// Refuses a program that no file can hold: the lowest-numbered fault, at its place. The place of 80 TooManyTypes and 81
+/// TooManyProtos is how many are needed, that of 82 to 89 the number of the first class with a body that exceeds the limit, that of
+/// 90 TooBig is 0. 255 is out of memory.
 ///
 /// The bodies have to be well formed, and `ranks` to hold what the program needs.
 pub fn check_limits(alloc: Global, ranks: &Ranks<'_>, program: &Program<'_>) -> Result<(), Fault>

@@ -5,7 +5,7 @@
 //! let (ranks, indices) = needed_names(alloc, seed, &arena, &program)?; // indices: the ranks of what instructions name, then of members
 //! ```
 //!
-//! docs/MAP.md says where this crate stands among the others.
+//! docs/MAP.md has this crate's place among the others.
 #![tactic(auto)]
 
 // The names in a body.

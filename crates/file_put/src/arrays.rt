@@ -27,7 +27,7 @@ use program_types::{Program, Value};
 use std::alloc::Global;
 use tables_names::Ranks;
 
-/// The byte at which static values stand, to which they are appended unless equal ones stand already; 0 where there are none.
+/// Returns the offset of static values, which are appended unless equal ones are there; 0 if there are none.
 fn add_array(
     alloc: Global,
     out: &mut Vec<u8>,
@@ -48,7 +48,7 @@ fn add_array(
     Ok(items.put(out, bytes)?)
 }
 
-/// Appends the static values of each class that has some. Equal ones stand once.
+/// Appends the static values of each class that has some, equal ones once.
 ///
 /// It fails only when out of memory.
 pub(crate) fn put_arrays(

@@ -31,11 +31,10 @@ use program_types::Program;
 use std::alloc::Global;
 use tables_names::Ranks;
 
-/// The file of a program that is well formed, laid out as `Assembled` says: tables of exactly the needed names, type lists, code items,
-/// texts, static values, class data, map. Equal lists, bodies and arrays stand once.
+/// Returns the file of a well-formed program, laid out as in `Assembled`: tables of exactly the needed names, type lists, code items,
+/// texts, static values, class data, map. Equal lists, bodies and arrays are written once.
 ///
-/// Refused are programs that break a limit of the format, by the fault of the lowest number that stands, at its place. 255 is out of
-/// memory.
+/// Programs that exceed a limit of the format are refused, with the lowest-numbered fault, at its place. 255 is out of memory.
 pub fn assemble(alloc: Global, seed: Seed, program: &Program<'_>) -> Result<Vec<u8>, Fault>
     requires formed { WellFormed (view.program program.now) }
     ensures assembled { IfOk result (λ file. Assembled file.items (needed (view.program program.now)) (view.program program.now)) }
@@ -95,8 +94,8 @@ fn counts_of(ranks: &Ranks<'_>, program: &Program<'_>) -> Rows
     }
 }
 
-/// So many zeros, in the place of the header and the tables of a file, which `finish` of file_layout fills; memory for
-/// so many bytes is asked for at once.
+/// So many zeros, in the place of the header and the tables of a file, which `finish` of file_layout fills. Memory for
+/// `room` bytes is requested at once.
 ///
 /// It fails only when out of memory.
 ///
@@ -112,7 +111,7 @@ pub fn space(alloc: Global, end: u32, bytes: usize) -> Result<Vec<u8>, Fault>
     Ok(out)
 }
 
-/// The data, laid after header and tables: the plan, and where the items of each part stand.
+/// The data, laid after header and tables: the plan, and the offsets of the items of each part.
 pub struct Data {
     pub plan: Plan,
     pub lists: Vec<u32>,

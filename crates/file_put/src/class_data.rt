@@ -51,8 +51,7 @@ fn put_fields(
     Ok(())
 }
 
-/// Appends the entries of methods of a class, which have these indices, one by one, and whose bodies stand at these
-/// places.
+/// Appends the entries of methods of a class, which have these indices, one by one, and whose bodies are at these offsets.
 fn put_methods(
     out: &mut Vec<u8>,
     ranks: &Ranks<'_>,
@@ -118,7 +117,7 @@ fn put_members(
     put_methods(out, ranks, virtuals, class.virtuals, virtual_codes)
 }
 
-/// Appends the class data of a class, if it has members, and answers the byte at which it begins, or 0.
+/// Appends the class data of a class, if it has members, and returns its offset, or 0.
 fn add_data(
     out: &mut Vec<u8>,
     ranks: &Ranks<'_>,
@@ -147,8 +146,8 @@ fn add_data(
     Ok(place)
 }
 
-/// Appends the class data of each class that has members, where the members that the classes define have these indices,
-/// in this order, and the bodies of all methods stand at these places.
+/// Appends the class data of each class that has members. The members that the classes define have these indices, in this
+/// order, and the bodies of all methods are at these offsets.
 ///
 /// It fails only when out of memory.
 pub(crate) fn put_datas(

@@ -17,7 +17,7 @@ use file_classes::word;
 use program_types::{Class, Desc, Str};
 use tables_names::Ranks;
 
-/// Where the items of a class stand, 0 for none.
+/// The offsets of the items of a class, 0 for none.
 #[derive(Clone, Copy)]
 pub(crate) struct ClassPlaces {
     pub list: u32,
@@ -83,7 +83,7 @@ fn put_class(
     )
 }
 
-/// Appends the rows of all classes, whose interfaces, class data and static values stand at these places.
+/// Appends the rows of all classes, whose interfaces, class data and static values are at these offsets.
 ///
 /// It fails only when out of memory.
 pub(crate) fn put_classes(

@@ -36,8 +36,8 @@ fn named_in(body: Option<&Code<'_>>) -> usize
     }
 }
 
-/// The byte at which a body stands, 4-aligned, to which it is appended unless an equal one stands already; 0 where there is none.
-/// What its instructions name has these indices.
+/// Returns the offset of a body, 4-aligned, which is appended unless an equal one is there; 0 if there is none. The names of its
+/// instructions have these indices.
 fn add_body(
     alloc: Global,
     out: &mut Vec<u8>,
@@ -62,7 +62,7 @@ fn add_body(
     }
 }
 
-/// The places of the bodies of methods, after others. What they name has the first of these indices; it answers those after them.
+/// Returns the offsets of the bodies of methods, after others. Their names have the first of these indices; the others are returned.
 fn put_bodies<'r>(
     alloc: Global,
     out: &mut Vec<u8>,
@@ -91,9 +91,9 @@ fn put_bodies<'r>(
     Ok(rest)
 }
 
-/// Appends the bodies of all methods, each 4-aligned: by class, direct methods, then virtual ones. Equal bodies stand once.
-/// What their instructions name has the first of these indices, in this order, and the members that the classes define have
-/// those after them. It answers the place of each method's body, 0 for a method without one, and the indices of the members.
+/// Appends the bodies of all methods, each 4-aligned: by class, direct methods, then virtual ones, equal bodies once. The names of
+/// their instructions have the first of these indices, in this order, and the members that the classes define have those after
+/// them. Returns the offset of each method's body, 0 for a method without one, and the indices of the members.
 ///
 /// It fails only when out of memory.
 pub(crate) fn put_codes<'r>(

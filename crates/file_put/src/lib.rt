@@ -1,13 +1,13 @@
 //! The file of a program that keeps the rules and the limits: the parts of its data section one after the other, each with its items in
 //! their fewest bytes and nothing else; then the rows of its tables, from the ranks of the names and the places of the items; then map and
-//! header. What rows, type lists, codes, static values and class data look like is said here for `strip` too, which writes those of the
-//! kept rows of a file.
+//! header. The layout of rows, type lists, codes, static values and class data is defined here for `strip` too, which writes those of
+//! the kept rows of a file.
 //!
 //! ```
 //! let file = assemble(alloc, seed, &program)?; // refused where a limit is broken
 //! ```
 //!
-//! docs/MAP.md says where this crate stands among the others.
+//! docs/MAP.md has this crate's place among the others.
 #![tactic(auto)]
 
 // Where the items of a part stand, the entries of class data, and the indices of names that have one.

@@ -1,5 +1,5 @@
-//! Where the items of a part stand.
-//! Page: "Dalvik Executable format", where an offset of 0 stands for no item.
+//! The offsets of the items of a part.
+//! Page: "Dalvik Executable format", where an offset of 0 means no item.
 ghost use Rattle.std.specs.Prelude.{◌≡◌, ◌+◌, ◌<◌, ◌^◌, ◌∷◌, [], ◌++◌, OnOk, IsOkUnless};
 ghost use Rattle.dex_base.specs.Fault.{memory};
 ghost use Rattle.file_put.specs.inner.Placing.{items_with};

@@ -2,7 +2,7 @@
 ghost use Rattle.file_put.specs.inner.AtIndex.{TypeRowsStand, ProtoRowsStand, FieldRowsStand, MethodRowsStand};
 ghost use Rattle.file_put.specs.inner.Once.{ClassDataIsOne, ClassRowsAreOne, NameRowsAreOne, TypeListIsOne};
 
-/// In the rows of the tables each name's row stands at the name's index.
+/// In the tables each name's row is at the name's index.
 pub fn rows_stand_at_their_indices()
     ensures types { TypeRowsStand }
     ensures protos { ProtoRowsStand }

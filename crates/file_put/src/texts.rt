@@ -15,7 +15,7 @@ use program_types::Str;
 use std::alloc::Global;
 use tables_names::Ranks;
 
-/// Appends a text, and answers the byte at which it begins.
+/// Appends a text, and returns its offset.
 fn add_string(out: &mut Vec<u8>, text: Str<'_>) -> Result<u32, Fault>
     requires room { length out.old.items + wide_text (view.str text) < 2 ^ 32 }
     ensures ok { IfOk result (Adds PacksText 1 out.old.items out.new.items (view.str text.entry)) }
@@ -27,7 +27,7 @@ fn add_string(out: &mut Vec<u8>, text: Str<'_>) -> Result<u32, Fault>
     Ok(place)
 }
 
-/// Appends the texts of all strings, one after the other, and answers the byte at which each begins.
+/// Appends the texts of all strings, one after the other, and returns their offsets.
 ///
 /// It fails only when out of memory.
 pub(crate) fn put_strings(

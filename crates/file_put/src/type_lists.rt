@@ -62,8 +62,7 @@ fn list_bytes(alloc: Global, ranks: &Ranks<'_>, types: &[Desc<'_>]) -> Result<Ve
     Ok(bytes)
 }
 
-/// The byte at which the type list of these types stands, 4-aligned, to which it is appended unless an equal one stands already; for no
-/// type the answer is 0.
+/// Returns the offset of the type list of these types, 4-aligned, which is appended unless an equal one is there; 0 for no type.
 fn add_list(
     alloc: Global,
     out: &mut Vec<u8>,
@@ -84,8 +83,8 @@ fn add_list(
     Ok(items.put_aligned(out, bytes)?)
 }
 
-/// The byte at which the type list of this number stands, to which it is appended unless an equal one stands already; 0
-/// for no type. The lists are the parameters of each prototype, then the interfaces of each class.
+/// Returns the offset of the type list of this number, which is appended unless an equal one is there; 0 for no type. The
+/// lists are the parameters of each prototype, then the interfaces of each class.
 fn add_numbered(
     alloc: Global,
     out: &mut Vec<u8>,
@@ -115,8 +114,8 @@ fn add_numbered(
     }
 }
 
-/// Appends the type lists, each 4-aligned: the parameters of each prototype, then the interfaces of each class, where there are any.
-/// Equal lists stand once.
+/// Appends the type lists, each 4-aligned: the parameters of each prototype, then the interfaces of each class, if there are any, equal
+/// lists once.
 ///
 /// It fails only when out of memory.
 pub(crate) fn put_lists(

@@ -12,8 +12,8 @@ use file_classes::{check_codes, check_statics, read_heads};
 use std::alloc::Global;
 use tables_rows::Tables;
 
-/// Whether a file means a program: refuses what `read` refuses, with the same fault (`one_refusal`), and holds no program: static values
-/// are only looked at, and each code is let go when it is read.
+/// Checks whether a file means a program: refuses what `read` refuses, with the same fault (`one_refusal`), without a program in memory:
+/// static values are only checked, and each code is freed when it is read.
 ///
 /// ```
 /// use dex_file::{check, write};
@@ -33,7 +33,7 @@ pub fn check(alloc: Global, bytes: &[u8]) -> Result<(), Fault>
     check_framed(alloc, &sections)
 }
 
-/// Whether an opened file means a program, as `check` tells it of bytes.
+/// Checks whether an opened file means a program, as `check` does for bytes.
 ///
 /// ```
 /// use dex_container::open;

@@ -15,8 +15,8 @@ use program_types::Class;
 use std::alloc::Global;
 use tables_rows::Tables;
 
-/// A file whose classes are read one after the other, for whoever needs one at a time: names, members and static values of all of them
-/// lie in one arena, the code of each in an arena that its caller may empty before the next.
+/// A file whose classes are read one after the other, for callers that need one at a time: names, members and static values of all of
+/// them lie in one arena, the code of each in an arena that the caller may empty before the next.
 #[derive(Drop)]
 pub struct ClassReader<'a> {
     sections: Sections<'a>,
@@ -25,7 +25,7 @@ pub struct ClassReader<'a> {
     statics: &'a [Statics<'a>],
     /// The row of the next class.
     row: u32,
-    /// The first fault of registers before that row, which is answered where no code of a later row has another.
+    /// The first fault of registers before that row, which is returned if no code of a later row has another.
     past: Option<Fault>,
 }
 
@@ -64,9 +64,9 @@ impl<'a> ClassReader<'a> {
         })
     }
 
-    /// The next class, its code in the arena; none after the last, and then the file means the program of all that were answered.
-    /// Refuses what `read` refuses for its code, with the same fault: of registers after the last class, else at the class that has it.
-    /// The reader is as it was where nothing is answered.
+    /// Returns the next class, its code in the arena; `None` after the last, and then the file means the program of all returned classes.
+    /// Refuses what `read` refuses for its code, with the same fault: of registers after the last class, otherwise at the class that has
+    /// it. The reader is as it was if no class is returned.
     ///
     /// ```
     /// use bumpalo::Bump;

@@ -1,7 +1,7 @@
 //! Laws of whole files, for the proofs of crates above: functions that do nothing, whose contracts are the laws.
 //!
 //! ```text
-//! meaning_is_decided(bytes); // any bytes mean a program, or one of the faults of reading stands; never both
+//! meaning_is_decided(bytes); // any bytes mean a program, or have one of the faults of reading; never both
 //! ```
 
 ghost use Rattle.std.specs.Prelude.{ℕ, ◌<◌, ◌⊎◌, ◌↔◌, List};
@@ -22,13 +22,13 @@ ghost use Rattle.file_read.specs.inner.FileDeciding.{MeansOrRefused};
 use dex_base::are_bytes;
 use dex_container::open;
 
-/// Where the tables hold, the class rows hold, or a fault of class rows stands.
+/// If the tables are valid, the class rows are valid, or have a fault.
 pub fn classes_are_decided()
     ensures { (b : List ℕ) → IsFramed b → TablesHold b → ClassRowsHold b ⊎ ((e : Fault) × IsClassFault b e) }
 {}
 
-/// A row of class_defs keeps the rules of each pass of reading, or a fault of that pass stands: names and members, static
-/// values, code, and where its code does, its registers.
+/// A row of class_defs keeps the rules of each pass of reading, or has a fault of that pass: names and members, static values,
+/// code and, if its code is valid, its registers.
 pub fn rows_are_decided()
     ensures class { (b : List ℕ) → IsFramed b → TablesHold b → (i : ℕ) → i < size_of b section.class_defs → ClassRowHolds b i ⊎ ((code : ℕ) × ClassRowBreaks b i code) }
     ensures values { (b : List ℕ) → AreBytes b → IsFramed b → TablesHold b → (i : ℕ) → ClassRowHolds b i → ValuesHold b i ⊎ ((e : Fault) × ValuesBreak b i e) }
@@ -41,7 +41,7 @@ pub fn framed_files_are_decided()
     ensures { (b : List ℕ) → AreBytes b → IsFramed b → MeansOrRefused b }
 {}
 
-/// Any bytes mean a program, or a fault refuses them; no fault of reading stands exactly if a program is meant.
+/// Any bytes mean a program, or a fault refuses them; they have no fault of reading if and only if they mean a program.
 pub fn meaning_is_decided(bytes: &[u8])
     ensures decided { MeansOrRefused bytes.now }
     ensures meant { ((f : Fault) → ¬ Broken bytes.now f) ↔ ((p : Program) × Means bytes.now p) }

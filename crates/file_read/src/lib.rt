@@ -1,4 +1,4 @@
-//! Whole files, read: `read` answers the program that a file means, `check` whether it means one, and a `ClassReader` the classes of
+//! Whole files, read: `read` returns the program that a file means, `check` whether it means one, and a `ClassReader` the classes of
 //! the program, one by one.
 //!
 //! ```
@@ -8,7 +8,7 @@
 //! let class = reader.next_class(alloc, &codes)?; // the same fault, maybe later; of a class that was let go nothing is held
 //! ```
 //!
-//! docs/MAP.md says where this crate stands among the others.
+//! docs/MAP.md has this crate's place among the others.
 #![tactic(auto)]
 
 mod checking;

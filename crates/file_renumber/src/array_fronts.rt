@@ -30,7 +30,7 @@ pub(crate) fn take_number(bytes: &[u8]) -> (u32, &[u8])
     }
 }
 
-/// How many bytes stand after a head of a number or a name.
+/// How many bytes follow a head of a number or a name.
 pub(crate) fn width_of(head: u8) -> usize
     requires { ¬ IsLoneHead head }
     ensures value { result ≡ head / 32 + 1 }

@@ -27,10 +27,11 @@ use dex_base::{Fault, are_bytes};
 use dex_container::{Section, Sections};
 use std::alloc::Global;
 
-/// Marks the rows that the code at an offset names, and those of their parts, and answers how many bytes the code takes
-/// at most, in a file of any rows.
+/// Marks the rows that the code at an offset names, and those of their parts, and returns how many bytes the code needs at
+/// most, in a file of any rows.
 ///
-/// A code has to stand at the offset, and `codes` to be the section of the code items. It fails only when out of memory, and then some of the rows may be marked.
+/// A code has to be at the offset, and `codes` has to be the section of the code items. It fails only when out of memory, and then some
+/// of the rows may be marked.
 ///
 /// ```
 /// let mut marks = Marks::new(alloc, seed, &sections)?;
@@ -73,7 +74,7 @@ fn put_head(out: &mut Vec<u8>, item: &Item<'_>) -> Result<(), Fault>
     put_u32(out, item.size)
 }
 
-/// The unit at which each instruction of a code begins: none without tries, which alone ask for them.
+/// The unit at which each instruction of a code begins: empty without tries, which alone need them.
 fn starts_asked(alloc: Global, item: &Item<'_>) -> Result<Vec<u32>, Fault>
     requires even { length item.now.units.now % 2 ≡ 0 }
     requires short { length item.now.units.now ≤ 8589934590 }
@@ -92,7 +93,7 @@ fn starts_asked(alloc: Global, item: &Item<'_>) -> Result<Vec<u32>, Fault>
 /// bytes, each handler once, in the order of first use. Refused with 89, at 0, where a handler begins too far after the
 /// list's begin, and else only when out of memory.
 ///
-/// A code has to stand at the offset, `codes` to be the section of the code items, and each row that it names has to be kept, with a
+/// A code has to be at the offset, `codes` has to be the section of the code items, and each row that it names has to be kept, with a
 /// number that fits its field.
 ///
 /// ```

@@ -1,4 +1,4 @@
-//! The rows of one table: which are marked, or how many marked ones stand before each.
+//! The rows of one table: which are marked, or how many marked ones are before each.
 ghost use Rattle.std.specs.Prelude.{◌≡◌, ◌↔◌, ◌+◌, ◌<◌, ◌^◌, ℕ, IfOk, IsOkUnless, IsTrue, length, slice_index, set, replicate};
 ghost use Rattle.dex_base.specs.Fault.{memory};
 ghost use Rattle.file_renumber.specs.inner.Marked.{IsColumn};
@@ -32,7 +32,7 @@ pub(crate) fn is_marked(rows: &[u32], index: u32) -> bool
     rows[index as usize] == 1
 }
 
-/// Of each row how many marked ones stand before it, in place of whether it is marked.
+/// For each row, how many marked ones are before it, in place of whether it is marked.
 pub(crate) fn count_before(rows: &mut [u32])
     requires { (n : ℕ) × IsColumn n rows.old }
     ensures { Counts rows.old rows.new }

@@ -1,4 +1,4 @@
-//! One instruction with another index, which is put in place of the one that stands in its units.
+//! One instruction with another index, which replaces the one in its units.
 ghost use Rattle.std.specs.Prelude.{◌≡◌, ◌+◌, ◌*◌, ◌/◌, ◌%◌, ◌<◌, ◌≤◌, ◌^◌, length, set};
 ghost use Rattle.dex_base.specs.Fields.{u16_at, u32_at};
 ghost use Rattle.dex_insn.specs.Fields.{field};
@@ -13,7 +13,7 @@ use crate::shapes::{Shape, insn_at, opcode_at, shape_at};
 use dex_base::{are_bytes, put_u16_at, put_u32_at, u16_at, u32_at};
 use dex_insn::{RawInsn, index_kind_of, size_of};
 
-/// The number of the row that the index of an instruction of this opcode stands for.
+/// The number of the row that the index of an instruction of this opcode denotes.
 fn number_of(numbers: &Numbers, op: u8, index: u32) -> u32
     requires { HasNumber numbers.now op index }
     ensures { result ≡ number_in numbers.now (index_kind_of op) index }
@@ -88,14 +88,14 @@ fn payload_at(front: &[u8]) -> (u64, bool)
     (size_of(&one), is_padded(&one))
 }
 
-/// What the type of a slice says of its length, for proofs. Does nothing.
+/// A law from the type of a slice about its length, for proofs. Does nothing.
 fn has_length(bytes: &[u8])
     ensures { length bytes.now < 2 ^ 64 }
 {
     let _length = bytes.len();
 }
 
-/// Puts 0 in place of the byte that pads the payload at the front of the units, and answers how many units it has.
+/// Puts 0 in place of the byte that pads the payload at the front of the units, and returns how many units it has.
 fn clear_pad(front: &mut [u8]) -> u64
     requires { (r : Raw) × SpellsInsn front.old r }
     ensures { (r : Raw) → SpellsInsn front.old r → (result ≡ units r) × (front.new ≡ with_pad front.old (is_padded r) (units r)) }
@@ -109,8 +109,8 @@ fn clear_pad(front: &mut [u8]) -> u64
 }
 
 /// Puts the number of its row in place of the index of the instruction at the front of the units, if it has one, and 0
-/// where no reader looks: registers that format 35c doesn't name, and the byte that pads an array payload. Answers how
-/// many units the instruction has.
+/// in bits that no reader uses: registers that format 35c does not name, and the byte that pads an array payload. Returns
+/// how many units the instruction has.
 pub(crate) fn renumber_front(front: &mut [u8], numbers: &Numbers) -> u64
     requires { (r : Raw) × SpellsInsn front.old r × CanBeRenumbered numbers.now r }
     ensures { (r : Raw) → SpellsInsn front.old r → CanBeRenumbered numbers.now r → IsRenumbered numbers.now front.old front.new result r }

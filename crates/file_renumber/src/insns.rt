@@ -49,7 +49,7 @@ fn mark_insn(
     }
 }
 
-/// Marks the rows that the instructions name, which stand end to end.
+/// Marks the rows that the instructions name, which are end to end.
 pub(crate) fn mark_insns(
     marks: &mut Marks,
     sections: &Sections<'_>,
@@ -76,7 +76,7 @@ pub(crate) fn mark_insns(
 
 // ---- where they begin
 
-/// The unit at which each of the instructions begins, which stand end to end.
+/// The unit at which each of the instructions begins, which are end to end.
 pub(crate) fn starts_of(alloc: Global, units: &[u8]) -> Result<Vec<u32>, Fault>
     requires even { length units.now % 2 ≡ 0 }
     requires short { length units.now ≤ 8589934590 }
@@ -97,7 +97,7 @@ pub(crate) fn starts_of(alloc: Global, units: &[u8]) -> Result<Vec<u32>, Fault>
 
 // ---- with other indices
 
-/// Puts the numbers of the rows that the instructions name, which stand end to end, in place of their indices.
+/// Puts the numbers of the rows that the instructions name, which are end to end, in place of their indices.
 fn renumber_units(units: &mut [u8], numbers: &Numbers)
     requires even { length units.old % 2 ≡ 0 }
     requires short { length units.old ≤ 8589934590 }
@@ -112,8 +112,8 @@ fn renumber_units(units: &mut [u8], numbers: &Numbers)
     }
 }
 
-/// Appends the instructions, which stand end to end, with the numbers of the rows that they name: all units as they are,
-/// and then those that change in their places.
+/// Appends the instructions, which are end to end, with the numbers of the rows that they name: all units as they are, then
+/// those that change in their places.
 pub(crate) fn renumber_insns(
     out: &mut Vec<u8>,
     numbers: &Numbers,

@@ -1,6 +1,6 @@
-//! From the rows of a file's tables to their numbers in a file of the kept ones. A row is marked where something mentions it, and with it
-//! the rows of its parts; then each kept row has as its number how many kept rows stand before it. A table rises, so this is the rank of
-//! the row's name among the kept names, and no text is read. Arrays of values and code items are spelled anew with these numbers.
+//! From the rows of a file's tables to their numbers in a file of the kept ones. A row that is mentioned is marked, and with it the rows
+//! of its parts; then the number of a kept row is how many kept rows are before it. A table rises, so this is the rank of the row's name
+//! among the kept names, and no text is read. Arrays of values and code items are encoded again with these numbers.
 //!
 //! ```text
 //! let mut marks = Marks::new(alloc, seed, &sections)?;
@@ -13,7 +13,7 @@
 //! let code = renumber_code(alloc, &numbers, &sections, codes, 0x200)?; // the code's bytes there
 //! ```
 //!
-//! docs/MAP.md says where this crate stands among the others.
+//! docs/MAP.md has this crate's place among the others.
 #![tactic(auto)]
 
 // Which rows are kept, their numbers, and what holds of both.

@@ -18,7 +18,7 @@ use dex_base::Fault;
 use dex_container::Sections;
 use dex_value::{SizedType, name_kind, sized_type, unsigned};
 
-/// Marks the name that these bytes after a head stand for, if they stand for one.
+/// Marks the name that these bytes after a head denote, if they denote one.
 fn mark_low(marks: &mut Marks, sections: &Sections<'_>, head: u8, low: &[u8]) -> Result<(), Fault>
     requires marks { HasMarks sections.now marks.old }
     requires low { (v : Value) × IsLow sections.now (head % 32) low.now v }
@@ -97,10 +97,10 @@ fn mark_values<'b>(
     Ok((sum, left))
 }
 
-/// Marks the rows that the values of the array at an offset name, and those of their parts, and answers how many bytes
-/// the values take at most, in a file of any rows: nine each, and six for an array besides its values.
+/// Marks the rows that the values of the array at an offset name, and those of their parts, and returns how many bytes the
+/// values need at most, in a file of any rows: nine each, and six for an array besides its values.
 ///
-/// An array has to stand at the offset. It fails only when out of memory, and then some of the rows may be marked.
+/// An array has to be at the offset. It fails only when out of memory, and then some of the rows may be marked.
 ///
 /// ```
 /// let mut marks = Marks::new(alloc, seed, &sections)?;

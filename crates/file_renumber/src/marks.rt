@@ -20,8 +20,8 @@ use tables_rows::{
     proto_return, proto_shorty, type_string,
 };
 
-/// The marked rows of the five tables of a file: where a row is marked, the rows of its parts are. It stands for the
-/// marks and for the offsets of the lists whose types are marked (`specs/Marked.antt`).
+/// The marked rows of the five tables of a file: if a row is marked, the rows of its parts are. Its model is the marks and the
+/// offsets of the lists whose types are marked (`specs/Marked.antt`).
 ///
 /// A row for which memory ran out isn't marked, but some of its parts may be.
 pub struct Marks {
@@ -104,7 +104,7 @@ impl Marks {
         mark(&mut self.types, index);
     }
 
-    /// Marks the types of the list at an offset, 0 for none. A list that comes again is looked at once.
+    /// Marks the types of the list at an offset, 0 for none. Each list is read once.
     ///
     /// It fails only when out of memory; which of the types are marked then isn't promised.
     ///
@@ -221,7 +221,7 @@ impl Marks {
         }
     }
 
-    /// The numbers of the rows: how many marked ones stand before each. Takes no memory.
+    /// The numbers of the rows: how many marked ones are before each. Needs no memory.
     ///
     /// ```
     /// let numbers = marks.number();

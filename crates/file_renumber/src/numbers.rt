@@ -7,8 +7,8 @@ use dex_base::Seed;
 use dex_insn::IndexKind;
 use std::marker::Model;
 
-/// Of each row of the five tables how many kept ones stand before it, and after the last row of a table how many there
-/// are. It stands for these numbers.
+/// For each row of the five tables, how many kept ones are before it, and after the last row of a table how many there are.
+/// Its model is these numbers.
 pub struct Numbers {
     pub(crate) strings: Vec<u32>,
     pub(crate) types: Vec<u32>,
@@ -41,7 +41,7 @@ impl Model for Numbers {
 }
 
 impl Numbers {
-    /// What hashes begin with, for whoever hashes what is written by these numbers.
+    /// The seed of hashes, for callers that hash what is written by these numbers.
     ///
     /// ```
     /// let mut handlers = IndexSet::with_hasher(alloc, numbers.seed());

@@ -16,7 +16,7 @@ use dex_container::Sections;
 use dex_value::{SizedType, name_kind, number, put_plain, put_unsigned, sized_type, unsigned};
 use std::alloc::Global;
 
-/// Appends the value that these bytes after a head stand for.
+/// Appends the value that these bytes after a head encode.
 fn renumber_low(out: &mut Vec<u8>, numbers: &Numbers, head: u8, low: &[u8]) -> Result<(), Fault>
     requires { CarriedLow numbers.now (head % 32) low.now }
     ensures ok { OnOk result ((x : CarriedLow numbers.now (head % 32) low.now) → Appends (Shortest (SpellsValue (NameRanks x.names))) out.old.items out.new.items x.value) }
@@ -104,7 +104,7 @@ fn renumber_values<'b>(
 /// The bytes of the array at an offset in a file of the kept rows, each value in the fewest. No byte where the array
 /// has no value.
 ///
-/// An array has to stand at the offset, and each row that its values name has to be kept. It fails only when out of
+/// An array has to be at the offset, and each row that its values name has to be kept. It fails only when out of
 /// memory.
 ///
 /// ```

@@ -1,4 +1,4 @@
-//! What a walk over instructions knows of one by its first unit: its size, and where its index stands.
+//! The shape of an instruction by its first unit: its size, and the place of its index.
 ghost use Rattle.std.specs.Prelude.{◌≡◌, ◌≤◌, length, false, IfSome, IfNone};
 ghost use Rattle.dex_insn.specs.Fields.{field};
 ghost use Rattle.dex_insn.specs.Raw.{raw, Raw, units};
@@ -21,7 +21,7 @@ pub(crate) enum Shape {
     Long,
     /// Format 35c: an index in the second unit, and registers of which some aren't named.
     Five,
-    /// A payload, whose head says how many units it has.
+    /// A payload, whose head has its number of units.
     Payload,
 }
 

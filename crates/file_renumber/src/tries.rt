@@ -75,7 +75,7 @@ fn unseen(alloc: Global, count: usize) -> Result<Vec<u8>, Fault>
     Ok(vec![in alloc; 0u8; count]?)
 }
 
-/// Marks the types that the tries of the item catch, whose handlers are listed, and answers how many catches they have;
+/// Marks the types that the tries of the item catch, whose handlers are listed, and returns how many catches they have;
 /// none of the handlers was seen before.
 fn mark_each(
     marks: &mut Marks,
@@ -105,7 +105,7 @@ fn mark_each(
     Ok(catches)
 }
 
-/// Marks the types that tries catch, and answers how many catches they have.
+/// Marks the types that tries catch, and returns how many catches they have.
 pub(crate) fn mark_tries(
     alloc: Global,
     marks: &mut Marks,
@@ -253,7 +253,7 @@ fn bound_of(item: &Item<'_>, starts: &[u32], i: usize) -> u32
     starts[next]
 }
 
-/// How many units try_item `i` covers as far as the end of its last instruction, at most as many as its count can tell.
+/// How many units try_item `i` covers up to the end of its last instruction, at most as many as fit its count.
 fn covered_by(item: &Item<'_>, starts: &[u32], i: usize) -> u16
     requires rises { Rises starts.now }
     requires inside { 8 * i + 8 ≤ length item.now.items.now }

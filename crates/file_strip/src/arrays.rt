@@ -26,8 +26,7 @@ use file_put::Placed;
 use file_renumber::{Numbers, renumber_array};
 use std::alloc::Global;
 
-/// The byte at which the values stand that stood at an offset, to which they are appended unless equal ones stand
-/// already; 0 where there are none.
+/// Returns the new offset of the values at an old offset, which are appended unless equal ones are there; 0 if there are none.
 fn add_array(
     alloc: Global,
     out: &mut Vec<u8>,
@@ -82,8 +81,8 @@ fn place_arrays(
     })
 }
 
-/// Appends the static values of each class that has some. Values that several classes refer to are looked at once, and
-/// equal ones stand once.
+/// Appends the static values of each class that has some. Values that several classes refer to are read once, and equal ones
+/// are written once.
 ///
 /// It fails only when out of memory.
 ///

@@ -19,7 +19,7 @@ use dex_insn::IndexKind;
 use file_classes::{class_count, class_word, word};
 use file_renumber::Numbers;
 
-/// Where the items of a class stand, 0 for none.
+/// The offsets of the items of a class, 0 for none.
 #[derive(Clone, Copy)]
 struct ClassPlaces {
     list: u32,
@@ -49,7 +49,7 @@ fn string_or_none(numbers: &Numbers, index: u32) -> u32
     numbers.of(IndexKind::String, index)
 }
 
-/// Appends row i, whose items stand here.
+/// Appends row i, whose items are at these offsets.
 fn put_class(
     rows: &mut Vec<u8>,
     numbers: &Numbers,
@@ -77,7 +77,7 @@ fn put_class(
     )
 }
 
-/// Appends the rows of all classes, whose interfaces, class data and static values stand at these places, 0 for none.
+/// Appends the rows of all classes, whose interfaces, class data and static values are at these offsets, 0 for none.
 ///
 /// It fails only when out of memory.
 ///

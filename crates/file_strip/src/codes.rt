@@ -29,7 +29,7 @@ use file_put::Placed;
 use file_renumber::{Numbers, renumber_code};
 use std::alloc::Global;
 
-/// Where the body of a method stands, 0 for none, and the number of the method's class.
+/// The offset of the body of a method, 0 for none, and the number of the method's class.
 #[derive(Clone, Copy)]
 struct PlacedBody {
     class: u32,
@@ -64,8 +64,8 @@ fn renumber_body(
     }
 }
 
-/// The byte at which the body stands that stood at an offset, 4-aligned, to which it is appended unless an equal one
-/// stands already; 0 where there is none.
+/// Returns the new offset of the body at an old offset, 4-aligned, which is appended unless an equal one is there; 0 if there is
+/// none.
 fn add_body(
     alloc: Global,
     out: &mut Vec<u8>,
@@ -178,9 +178,9 @@ fn all_bodies(alloc: Global, sections: &Sections<'_>) -> Result<Vec<PlacedBody>,
     Ok(bodies)
 }
 
-/// Appends the bodies of all methods, each 4-aligned: by class, direct methods, then virtual ones. It answers the place
-/// of each method's body, 0 for a method without one. A body that several methods refer to is looked at once, and equal
-/// ones stand once.
+/// Appends the bodies of all methods, each 4-aligned: by class, direct methods, then virtual ones. Returns the offset of each
+/// method's body, 0 for a method without one. A body that several methods refer to is read once, and equal ones are written
+/// once.
 ///
 /// Refused with 89 at the number of the first class of which a handler begins too far after its list's begin, and else
 /// only when out of memory.

@@ -47,7 +47,7 @@ fn put_fields(out: &mut Vec<u8>, numbers: &Numbers, entries: &[FieldEntry]) -> R
     Ok(())
 }
 
-/// Appends the entries of methods, whose bodies stand at these places.
+/// Appends the entries of methods, whose bodies are at these offsets.
 fn put_methods(
     out: &mut Vec<u8>,
     numbers: &Numbers,
@@ -107,7 +107,7 @@ fn put_members(
     put_methods(out, numbers, &all.virtuals, virtuals)
 }
 
-/// Appends the class data of these entries, and answers the byte at which it begins, or 0 where there are none.
+/// Appends the class data of these entries, and returns its offset, or 0 if there are none.
 fn add_data(
     out: &mut Vec<u8>,
     numbers: &Numbers,
@@ -130,8 +130,7 @@ fn add_data(
     Ok(place)
 }
 
-/// Appends the class data of row i, where the bodies of its methods stand at the first of these places, and answers with
-/// its place the other ones.
+/// Appends the class data of row i, whose bodies are at the first of these offsets, and returns its offset and the other ones.
 fn put_class<'c>(
     alloc: Global,
     out: &mut Vec<u8>,
@@ -154,7 +153,7 @@ fn put_class<'c>(
     Ok((place, others))
 }
 
-/// Appends the class data of each class that has members, where the bodies of all methods stand at these places.
+/// Appends the class data of each class that has members. The bodies of all methods are at these offsets.
 ///
 /// It fails only when out of memory.
 ///

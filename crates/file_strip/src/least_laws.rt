@@ -17,7 +17,7 @@ pub fn needed_names_have_rows()
     ensures { (b : List ℕ) (p : Program) → Means b p → HoldsAtLeast b (needed p) }
 {}
 
-/// A code that stands in a file fits the fields of every file in which no name stands further after, how far handlers are aside.
+/// A code of a file fits the fields of every file in which no name has a higher index, apart from the distance of handlers.
 pub fn standing_codes_fit()
     ensures { CodesFit }
 {}

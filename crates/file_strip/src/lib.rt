@@ -1,6 +1,6 @@
 //! A file without what its program doesn't need, from its rows: those that the classes mention are marked, with their parts; then each item
 //! goes from bytes to bytes, with the numbers of the kept rows in place of the rows' indices, in its fewest bytes. No name is read, and
-//! nothing is looked up but offsets and the bytes of items: what stood at one offset is looked at once, and equal results stand once.
+//! only offsets and the bytes of items are looked up: each item is read once, and equal results are written once.
 //!
 //! Laws say how small the tables of a file can be, and that no program is refused that another file could hold.
 //!
@@ -9,7 +9,7 @@
 //! let small = strip_framed(alloc, seed, &sections)?; // the file of these, of a file that means a program
 //! ```
 //!
-//! docs/MAP.md says where this crate stands among the others.
+//! docs/MAP.md has this crate's place among the others.
 #![tactic(auto)]
 
 // What is needed, and how many bytes it takes at most.

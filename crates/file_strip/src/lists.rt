@@ -68,8 +68,8 @@ fn renumber_list(
     Ok(bytes)
 }
 
-/// The byte at which the list stands that stood at an offset, 4-aligned, to which it is appended unless an equal one
-/// stands already; for an empty list the answer is 0.
+/// Returns the new offset of the list at an old offset, 4-aligned, which is appended unless an equal one is there; 0 for an
+/// empty list.
 fn add_list(
     alloc: Global,
     out: &mut Vec<u8>,
@@ -158,7 +158,7 @@ fn parameter_offsets(
 }
 
 /// Appends the type lists, each 4-aligned: the parameters of each kept prototype, then the interfaces of each class,
-/// where there are any. A list that several rows refer to is looked at once, and equal lists stand once.
+/// if there are any. A list that several rows refer to is read once, and equal lists are written once.
 ///
 /// It fails only when out of memory.
 ///

@@ -40,7 +40,7 @@ pub(crate) fn mark_fields(
     Ok(())
 }
 
-/// Looks at the code at an offset, 0 for none, and answers how many bytes it takes at most. One that was looked at before is known.
+/// Surveys the code at an offset, 0 for none, and returns how many bytes it needs at most. Each code is surveyed once.
 fn look_at_code(
     alloc: Global,
     found: &mut Surveyed,
@@ -64,7 +64,7 @@ fn look_at_code(
     Ok(wide)
 }
 
-/// Marks the methods of a list of entries, looks at their codes, and answers how many bytes these take at most.
+/// Marks the methods of a list of entries, surveys their codes, and returns how many bytes these need at most.
 pub(crate) fn look_at_methods(
     alloc: Global,
     found: &mut Surveyed,

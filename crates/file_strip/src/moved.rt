@@ -1,5 +1,4 @@
-//! Where what stood at an offset of the file that came in stands in the one that is written, so that it is looked at
-//! once.
+//! From the offsets of items in the input file to those in the output file, so that each item is read once.
 ghost use Rattle.std.specs.Prelude.{◌≡◌, ◌+◌, ◌<◌, ◌^◌, [], nat_eq, Some, IfOk, IfSome, IsOkUnless, length};
 ghost use Rattle.dex_base.specs.Fault.{memory};
 ghost use Rattle.std.specs.HashMap.{IsEmpty, Updates, get};
@@ -27,8 +26,7 @@ impl Drop for Moved {
     }
 }
 
-/// The byte at which the item of these bytes stands, to which it is appended unless an equal one stands already; 0 for
-/// no byte.
+/// Returns the offset of the item of these bytes, which is appended unless an equal one is there; 0 for no byte.
 fn item_place(items: &mut Items, out: &mut Vec<u8>, bytes: Vec<u8>) -> Result<u32, Fault>
     requires room { length out.old.items < 2 ^ 32 }
     ensures ok { IfOk result (UsesItem is_empty_list IsItself 1 items.old items.new out.old.items out.new.items bytes.items) }
@@ -40,8 +38,8 @@ fn item_place(items: &mut Items, out: &mut Vec<u8>, bytes: Vec<u8>) -> Result<u3
     Ok(items.put(out, bytes)?)
 }
 
-/// The byte, which 4 divides, at which the item of these bytes stands, to which it is appended unless an equal one
-/// stands already; 0 for no byte.
+/// Returns the offset, which 4 divides, of the item of these bytes, which is appended unless an equal one is there; 0 for no
+/// byte.
 fn aligned_place(items: &mut Items, out: &mut Vec<u8>, bytes: Vec<u8>) -> Result<u32, Fault>
     requires room { 0 < length bytes.items → length out.old.items + 3 < 2 ^ 32 }
     ensures ok { IfOk result (UsesItem is_empty_list IsItself 4 items.old items.new out.old.items out.new.items bytes.items) }
@@ -65,15 +63,15 @@ impl Moved {
         }
     }
 
-    /// Where the item stands that is kept of this offset, if there is one.
+    /// The new offset of the item that was at this offset, if there is one.
     pub(crate) fn find(&self, off: u32) -> Option<u32>
         ensures { IfSome result (λ place. get nat_eq self.now.places off ≡ Some place) }
     {
         self.places.get(&off).copied()
     }
 
-    /// The item of these bytes, which is written for what stood at this offset: where an equal one stands, or else
-    /// after `out`, to which it is appended; 0 for no byte.
+    /// Returns the offset of the item of these bytes, which replaces the one at this old offset: that of an equal one, otherwise
+    /// the end of `out`, to which it is appended; 0 for no byte.
     pub(crate) fn put(&mut self, out: &mut Vec<u8>, off: u32, bytes: Vec<u8>) -> Result<u32, Fault>
         requires room { length out.old.items < 2 ^ 32 }
         ensures ok { IfOk result (UsesItem is_empty_list IsItself 1 self.old.items self.new.items out.old.items out.new.items bytes.items) }
@@ -85,8 +83,8 @@ impl Moved {
         Ok(place)
     }
 
-    /// The item of these bytes, 4-aligned, which is written for what stood at this offset: where an equal one stands,
-    /// or else after `out`, to which it is appended; 0 for no byte.
+    /// Returns the offset, 4-aligned, of the item of these bytes, which replaces the one at this old offset: that of an equal one,
+    /// otherwise after `out`, to which it is appended; 0 for no byte.
     pub(crate) fn put_aligned(
         &mut self,
         out: &mut Vec<u8>,

@@ -112,8 +112,8 @@ fn protos_size(sections: &Sections<'_>, numbers: &Numbers) -> u64
     sum
 }
 
-/// How many bytes the header and the kept names take at most, rows, texts and lists: nothing shared, five bytes for a
-/// text's count, three before each list. Above 4294967295 the answer says only that there are more than that.
+/// How many bytes the header and the kept names need at most, rows, texts and lists: nothing shared, five bytes for a text's
+/// count, three before each list. A result above 4294967295 means only that there are more than that.
 ///
 /// ```
 /// let sum = plus(names_size(&sections, &numbers), 163); // and the map

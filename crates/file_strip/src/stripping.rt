@@ -121,7 +121,7 @@ fn table_rows(
     Ok(rows)
 }
 
-/// The file of the kept rows, which has room for them. 89 where a handler is too far, at the first class that has one.
+/// Returns the file of the kept rows, which fit it. 89 if a handler is too far, at the first class that has one.
 fn assemble_kept(
     alloc: Global,
     sections: &Sections<'_>,
@@ -141,8 +141,8 @@ fn assemble_kept(
     Ok(out)
 }
 
-/// The file of the program that a file means, as `assemble` writes it: tables of exactly the needed names, type lists, code items,
-/// texts, static values, class data, map; equal items stand once.
+/// Returns the file of the program that a file means, as `assemble` writes it: tables of exactly the needed names, type lists, code
+/// items, texts, static values, class data, map, equal items once.
 ///
 /// Refused are programs that are too big (90, at 0), and else those whose handlers are too far in the order of first use (89, at the
 /// first such class); no file means a program that breaks a limit before these. 255 is out of memory. Hashes begin with the seed.

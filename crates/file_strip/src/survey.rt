@@ -30,8 +30,7 @@ use file_renumber::{Marks, mark_array};
 use std::alloc::Global;
 use std::collections::HashMap;
 
-/// What was found so far: the marks, and of each code and each array that was looked at how many bytes it takes at most; the section in
-/// which codes stand.
+/// The survey so far: the marks; for each code and each array how many bytes it needs at most; the section of the codes.
 #[derive(Drop)]
 pub(crate) struct Surveyed {
     pub marks: Marks,
@@ -47,7 +46,7 @@ pub struct Survey {
     pub wide: u64,
 }
 
-/// Looks at the static values at an offset, 0 for none, and answers how many bytes they take at most.
+/// Surveys the static values at an offset, 0 for none, and returns how many bytes they need at most.
 fn look_at_values(found: &mut Surveyed, sections: &Sections<'_>, off: u32) -> Result<u64, Fault>
     requires found { HasFound sections.now found.old }
     requires values { (most : ℕ) × (vs : List Value) × StaticsAt sections.now off most vs }
@@ -97,7 +96,8 @@ fn mark_source(marks: &mut Marks, sections: &Sections<'_>, index: u32) -> Result
     Ok(())
 }
 
-/// Looks at the members of a class and at its static values, and answers how many bytes its class data, they and the codes take at most.
+/// Surveys the members of a class and its static values, and returns how many bytes its class data, the values and the codes need at
+/// most.
 fn look_at_members(
     alloc: Global,
     found: &mut Surveyed,
@@ -141,7 +141,7 @@ fn mark_head(marks: &mut Marks, sections: &Sections<'_>, i: u32) -> Result<(), F
     Ok(())
 }
 
-/// Looks at the class of row `i`, and answers how many bytes it takes at most.
+/// Surveys the class of row `i`, and returns how many bytes it needs at most.
 fn look_at_class(
     alloc: Global,
     found: &mut Surveyed,
@@ -167,8 +167,8 @@ fn look_at_class(
     Ok(plus(plus(32, interfaces), members))
 }
 
-/// Looks at all classes of a file that means a program: the rows of the names that the program needs are marked, and the classes take at
-/// most so many bytes, which is exact as long as it is within the limit of a file.
+/// Surveys all classes of a file that means a program: the rows of the names that the program needs are marked, and the classes need at
+/// most so many bytes, which is exact within the limit of a file.
 ///
 /// It fails only when out of memory.
 pub fn look_at_classes(alloc: Global, seed: Seed, sections: &Sections<'_>) -> Result<Survey, Fault>

@@ -1,4 +1,4 @@
-//! Texts ("string_data_item"). A unit has one spelling, so that only the count of units is spelled anew.
+//! Texts ("string_data_item"). A unit has one encoding, so only the count of units is encoded again.
 ghost use Rattle.std.specs.Prelude.{◌≡◌, ℕ, ◌+◌, ◌<◌, ◌^◌, List, IfOk, OnOk, IsOkUnless, length};
 ghost use Rattle.dex_base.specs.Fault.{memory};
 ghost use Rattle.dex_base.specs.Grammar.{Appends, Takes, Ended, Many};
@@ -102,7 +102,7 @@ fn add_text(
     put_text(out, text_at(sections, texts, i))
 }
 
-/// Appends the texts of all kept strings, one after the other, and answers the byte at which each begins.
+/// Appends the texts of all kept strings, one after the other, and returns their offsets.
 ///
 /// It fails only when out of memory.
 ///

@@ -1,6 +1,6 @@
 //! Tests of files: their frame, their tables, their values, their code, whole files.
 //!
-//! docs/MAP.md says where this crate stands among the others.
+//! docs/MAP.md has this crate's place among the others.
 #![tactic(auto)]
 
 // How a case is made, and what is told of it.

@@ -26,8 +26,8 @@ pub fn assembled_tables_hold()
     ensures exactly { (b : List ℕ) (p : Program) → WellFormed p → Assembled b (needed p) p → HoldsExactly b (needed p) }
 {}
 
-/// The rows of class_defs of an assembled file spell the classes of its program, with their interfaces, static values, members and
-/// bodies, and each class comes after what it stands on.
+/// The rows of class_defs of an assembled file encode the classes of its program, with their interfaces, static values, members and
+/// bodies, and each class comes after its superclass and interfaces.
 pub fn assembled_classes_stand()
     ensures classes { (b : List ℕ) (p : Program) → WellFormed p → Fits p → Assembled b (needed p) p → AreRows SpellsClass b section.class_defs p }
     ensures order { (b : List ℕ) (p : Program) → WellFormed p → Fits p → Assembled b (needed p) p → (i : ℕ) → i < size_of b section.class_defs → InOrder b i }
@@ -38,9 +38,9 @@ pub fn assembled_means()
     ensures { (b : List ℕ) (p : Program) → WellFormed p → Fits p → Assembled b (needed p) p → Means b p }
 {}
 
-/// An assembled file is packed: its tables stand end to end, its data section holds the items that are referred to, no two of a section
-/// equal, in the order of their first references, and nothing else but the zeros that align them, numbers and values take the fewest
-/// bytes, and what no reader looks at is 0.
+/// An assembled file is packed: its tables are end to end; its data section has the referenced items, no two of a section equal, in the
+/// order of their first references, and otherwise only the zeros that align them; numbers and values are encoded in the fewest bytes;
+/// bits that no reader uses are 0.
 pub fn assembled_is_packed()
     ensures { (b : List ℕ) (p : Program) → WellFormed p → Fits p → Assembled b (needed p) p → Packed b }
 {}
@@ -61,7 +61,7 @@ pub fn one_file()
     ensures { (p : Program) (b c : List ℕ) → IsFileOf p b → IsFileOf p c → b ≡ c }
 {}
 
-/// What is stripped of two files is equal exactly if both mean the same program.
+/// Two stripped files are equal if and only if their inputs mean the same program.
 pub fn stripped_alike_exactly_if_meaning_alike()
     ensures { (a b c d : List ℕ) → IsStripped a c → IsStripped b d → (c ≡ d) ↔ ((p : Program) × Means a p × Means b p) }
 {}

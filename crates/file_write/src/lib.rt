@@ -1,11 +1,11 @@
-//! Whole files, written: `write` answers the file of a program, and `strip` the file of what a file means.
+//! Whole files, written: `write` returns the file of a program, `strip` the file of the program that a file means.
 //!
 //! ```
 //! let file = write(alloc, &program)?; // refused where a limit is broken
 //! let small = strip(alloc, &bytes)?;
 //! ```
 //!
-//! docs/MAP.md says where this crate stands among the others.
+//! docs/MAP.md has this crate's place among the others.
 #![tactic(auto)]
 
 // What holds of each file that is assembled.

@@ -20,9 +20,9 @@ use std::alloc::Global;
 /// The file of a well-formed program (Dalvik Executable format, version 035). It means the program, has no slack, and its tables hold
 /// exactly the names that the program needs.
 ///
-/// Refused are programs that break a limit of the format, by the fault of the lowest number that stands, at its place: for 80 and 81
-/// how many are needed, for 82 to 89 the class's number, for 90 it is 0. What is refused with 80 to 88 is meant by no file at all. 255
-/// is out of memory.
+/// Programs that exceed a limit of the format are refused, with the lowest-numbered fault, at its place: for 80 and 81 how many are
+/// needed, for 82 to 89 the class's number, for 90 it is 0. No file at all means a program that is refused with 80 to 88. 255 is out of
+/// memory.
 ///
 /// ```
 /// use bumpalo::Bump;
@@ -31,7 +31,7 @@ use std::alloc::Global;
 ///
 /// let arena = Bump::new(alloc);
 /// let listed = parse(alloc, &arena, b"dex 035 listing 2\nclass LA; 0x1\nend class\n")?;
-/// let file = write(alloc, &listed)?; // what `parse` answers is well formed
+/// let file = write(alloc, &listed)?; // what `parse` returns is well formed
 /// assert_eq!(rt; read(alloc, &arena, &file)?.classes.len(), 1);
 /// ```
 pub fn write(alloc: Global, program: &Program<'_>) -> Result<Vec<u8>, Fault>
@@ -45,8 +45,8 @@ pub fn write(alloc: Global, program: &Program<'_>) -> Result<Vec<u8>, Fault>
     write_seeded(alloc, Seed::fixed(), program)
 }
 
-/// The file of a well-formed program, as `write` answers it. Hashes begin with this seed, on which no answer depends: one that is
-/// drawn for programs of strangers, so that their names can't be made to collide with a seed that is known.
+/// Returns the file of a well-formed program, as `write` does. Hashes begin with this seed, on which no result depends: a random one for
+/// untrusted programs, whose names could be chosen to collide with a known seed.
 ///
 /// ```
 /// use dex_base::Seed;
@@ -88,8 +88,8 @@ pub fn strip(alloc: Global, bytes: &[u8]) -> Result<Vec<u8>, Fault>
     strip_seeded(alloc, Seed::fixed(), bytes)
 }
 
-/// The file of what a file means, as `strip` answers it. Hashes begin with this seed, on which no answer depends: one that is drawn
-/// for files of strangers, so that their items can't be made to collide with a seed that is known.
+/// Returns the file of the program that a file means, as `strip` does. Hashes begin with this seed, on which no result depends: a random
+/// one for untrusted files, whose items could be chosen to collide with a known seed.
 ///
 /// ```
 /// use dex_base::Seed;

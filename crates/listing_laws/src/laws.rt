@@ -1,4 +1,4 @@
-//! The law of listings. It has no code: it says of the definitions what its contract says.
+//! The law of listings. It has no code: the contract is the law.
 
 ghost use Rattle.std.specs.Prelude.{◌≡◌, ℕ};
 ghost use Rattle.program_types.specs.Content.{Program};

@@ -1,10 +1,10 @@
 //! The laws of listings: what is printed of a program is read again, as that program; which words are read as a value;
 //! what may be given once.
 //!
-//! A text of whole lines leads from what was read so far to what is read then, whatever follows it; texts that lead one
-//! after the other lead as one. So the lines of a code, of a class and of a program are taken one by one.
+//! A text of whole lines takes the reader from one state to another, whatever follows it; two texts in turn do so as one text. So the
+//! lines of a code, of a class and of a program are taken one by one.
 //!
-//! docs/MAP.md says where this crate stands among the others.
+//! docs/MAP.md has this crate's place among the others.
 #![tactic(auto)]
 
 mod laws;

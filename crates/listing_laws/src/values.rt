@@ -1,4 +1,4 @@
-//! The laws of values. They have no code: each says of the definitions what its contract says.
+//! The laws of values. They have no code: the contract is the law.
 
 ghost use Rattle.std.specs.Prelude.{◌↔◌, ◌∷◌, List, Some};
 ghost use Rattle.program_types.specs.Content.{Member, Value};

@@ -9,7 +9,7 @@
 //! look_ahead(&mut labels, after, 6)?                               // the labels of the code whose first line is the sixth
 //! ```
 //!
-//! docs/MAP.md says where this crate stands among the others.
+//! docs/MAP.md has this crate's place among the others.
 #![tactic(auto)]
 
 mod form;

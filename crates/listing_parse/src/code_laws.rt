@@ -1,4 +1,4 @@
-//! The law of codes. It has no code: it says of the definitions what its contract says.
+//! The law of codes. It has no code: the contract is the law.
 
 ghost use Rattle.std.specs.Prelude.{◌≡◌, ◌↔◌, ◌∷◌, ℕ, true, List};
 ghost use Rattle.listing_lines.specs.Lines.{open_code};

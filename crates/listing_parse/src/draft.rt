@@ -16,7 +16,7 @@ use listing_words::is_number;
 use program_types::{Class, Desc, Insn};
 use std::alloc::Global;
 
-/// Room is taken ahead for no more instructions than these: a code of more takes it as it grows.
+/// Memory is reserved ahead for at most so many instructions: a code of more reserves it as it grows.
 const MOST_ROOM: usize = 4096;
 
 /// What is whole so far, in the arena, and the block that is open, outside of it.
@@ -73,7 +73,7 @@ impl<'a> Draft<'a> {
         into_bump_slice(done)
     }
 
-    /// Where the next line stands.
+    /// The position of the next line.
     #[tactic(auto, unfolding(crate::specs::inner::View::state))]
     pub fn stage(&self) -> Stage
         ensures { result ≡ stage_of (state self.now).block }
@@ -81,7 +81,7 @@ impl<'a> Draft<'a> {
         self.block.stage()
     }
 
-    /// Whether a line of this shape may stand here.
+    /// Whether a line of this shape is allowed here.
     #[tactic(auto, unfolding(crate::specs::inner::View::state))]
     pub fn stands(&self, found: Found<'_>) -> bool
         ensures { (ss : List Slot) (ws : List Word) → result ≡ stands (state self.now) (shape found.entry ss ws) }
@@ -204,7 +204,7 @@ impl<'a> Draft<'a> {
         Ok(true)
     }
 
-    /// A line that may stand here is added; false where it gives again what may be given once.
+    /// Adds a line that is allowed here; false if it repeats what may occur once.
     #[rattlefmt::skip]
     #[tactic(auto, unfolding(crate::specs::inner::View::state, crate::specs::States::add))]
     pub fn add(&mut self, arena: &'a Bump, next: Line<'a>) -> Result<bool, Fault>
@@ -236,8 +236,8 @@ impl<'a> Draft<'a> {
         self.block.add_insn(self.lines, new)
     }
 
-    /// Room for so many instructions more in the open code, if one is open, so that they are added without moving those
-    /// before them. It is taken for `MOST_ROOM` at most, whatever a listing says.
+    /// Reserves memory for so many instructions more in the open code, if one is open, so that they are added without moving those
+    /// before them: for `MOST_ROOM` at most, whatever a listing has.
     #[tactic(auto, unfolding(crate::specs::inner::View::state))]
     pub fn make_room(&mut self, count: usize) -> Result<(), Fault>
         ensures same { state self.new ≡ state self.old }

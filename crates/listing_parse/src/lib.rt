@@ -1,13 +1,13 @@
-//! Listings, read: from a text to the program that it is the text of. The reader goes line by line, over a draft that knows what is whole so
-//! far, what is open, and which line may follow. What lines mean is said without such a state too: `specs/Codes.antt` and
-//! `specs/Classes.antt` say which code and which classes lines mean, `specs/Texts.antt` which lines of a program those of a text say, and when
-//! a text is the text of a program. Laws say that the reader reads just these texts, in both forms.
+//! Listings, read: from a text to the program that it is the text of. The reader goes line by line, over a draft that has the complete
+//! classes so far, the open one, and which line may follow. The meaning of lines is defined without such a state too: `specs/Codes.antt`
+//! and `specs/Classes.antt` define the code and the classes of lines, `specs/Texts.antt` the lines of a text, and when a text is the text
+//! of a program. By its laws the reader accepts exactly these texts, in both forms.
 //!
 //! ```
 //! let program = parse(alloc, &arena, b"dex 035 listing 2\n")?; // no class; or the rule that is broken, and in which line
 //! ```
 //!
-//! docs/MAP.md says where this crate stands among the others.
+//! docs/MAP.md has this crate's place among the others.
 #![tactic(auto)]
 
 // The draft: what is whole so far, and what is open.

@@ -45,8 +45,8 @@ fn read_form<'a, 'b>(
     }
 }
 
-/// Where a line's words, the slots of its shape and what they say are put: each line fills them anew. And the names that
-/// words have spelled.
+/// Buffers for the words of a line, the slots of its shape and their values, reused for each line; and the names that words have
+/// denoted.
 pub(crate) struct Scratch<'a, 'b> {
     pub(crate) arena: &'a Bump,
     pub(crate) words: Vec<Word<'a, 'b>>,
@@ -68,7 +68,7 @@ impl<'a, 'b> Drop for Scratch<'a, 'b> {
     }
 }
 
-/// What the words after the first ones say in the slots; else the fault of the first that says nothing there.
+/// The values of the words after the first ones in their slots; otherwise the fault of the first invalid word.
 fn read_slots<'a, 'b>(
     scratch: &mut Scratch<'a, 'b>,
     listing: &Reading<'a, 'b>,
@@ -102,8 +102,8 @@ fn read_slots<'a, 'b>(
     }
 }
 
-/// Adds the line of this kind whose slots say this; false where it gives again what may be given once. Most lines are
-/// instructions: they are added without a line made of them.
+/// Adds the line of this kind with these values; false if it repeats what may occur once. Most lines are instructions: they are added
+/// without a `Line`.
 fn add_kind<'a>(
     arena: &'a Bump,
     draft: &mut Draft<'a>,
@@ -123,7 +123,7 @@ fn add_kind<'a>(
     draft.add(arena, next)
 }
 
-/// Adds a line that says something of the program; else refuses it.
+/// Adds a line about the program, or refuses it.
 fn add_content<'a, 'b>(
     scratch: &mut Scratch<'a, 'b>,
     listing: &mut Reading<'a, 'b>,

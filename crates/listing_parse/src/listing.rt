@@ -114,9 +114,9 @@ fn read_program<'a>(
     Ok(whole)
 }
 
-/// The program of a listing: the only one that it is a listing of. It is well formed: it keeps the rules of every file's program, and
-/// each number fits its type. `IsListing` says what a listing is by what is open after each line; `a_listing_is_its_lines` is the law that
-/// this is `ListingText`, the lines of a program as docs/LISTING.md has them.
+/// Returns the program of a listing: the only one that it is a listing of. It is well formed: it keeps the rules of every file's
+/// program, and each number fits its type. `IsListing` defines a listing by the state after each line; `a_listing_is_its_lines` is the
+/// law that this is `ListingText`, the lines of a program as in docs/LISTING.md.
 ///
 /// The names, slices and values of the program lie in the arena. The lowest line that is at fault by itself is refused, or
 /// else a text that ends inside a block (106); where there is none, the lowest line with a target that is no instruction of
@@ -141,8 +141,8 @@ pub fn parse<'a>(alloc: Global, arena: &'a Bump, text: &[u8]) -> Result<Program<
     parse_seeded(alloc, Seed::fixed(), arena, text)
 }
 
-/// The program of a listing, as `parse` answers it. Hashes begin with this seed, on which no answer depends: one that is drawn for
-/// listings of strangers, so that their names can't be made to collide with a seed that is known.
+/// Returns the program of a listing, as `parse` does. Hashes begin with this seed, on which no result depends: a random one for untrusted
+/// listings, whose names could be chosen to collide with a known seed.
 ///
 /// ```
 /// use bumpalo::Bump;

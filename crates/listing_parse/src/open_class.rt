@@ -31,7 +31,7 @@ pub struct Defined<'a> {
     pub code: Option<&'a Code<'a>>,
 }
 
-/// The class that is open. Its interfaces are a hashed set in the order of the text, its members stand in the order of their keys.
+/// The class that is open. Its interfaces are a hashed set in the order of the text, its members are in the order of their keys.
 #[derive(Drop)]
 pub struct Open<'a> {
     pub ty: Desc<'a>,
@@ -64,7 +64,7 @@ pub enum ClassPart<'a> {
     After(Owner<'a>),
 }
 
-/// A class among whose lines the next one stands.
+/// A class to which the next line belongs.
 #[derive(Drop)]
 pub struct InClass<'a> {
     pub open: Open<'a>,
@@ -205,7 +205,7 @@ impl<'a> InClass<'a> {
     ghost use Rattle.listing_parse.specs.States.{class_line};
     ghost use Rattle.listing_parse.specs.inner.View.{open_class, class_part};
 
-    /// A line of the class alone; false where what it gives is given already, or where it is of another kind.
+    /// Adds a line of the class alone; false if it repeats what the class has, or is of another kind.
     #[rattlefmt::skip]
     pub(crate) fn add(&mut self, next: Line<'a>) -> Result<bool, Fault>
         ensures added { IfOk result (λ yes. MatchBool yes

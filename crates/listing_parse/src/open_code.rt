@@ -51,7 +51,7 @@ impl<'a> Drop for CodePart<'a> {
     }
 }
 
-/// A code among whose lines the next one stands, and its class.
+/// A code to which the next line belongs, and its class.
 #[derive(Drop)]
 pub struct InCode<'a> {
     pub class: Open<'a>,
@@ -182,7 +182,7 @@ impl<'a> OpenBody<'a> {
         Ok(())
     }
 
-    /// Room for so many instructions more.
+    /// Reserves memory for so many instructions more.
     #[tactic(auto, unfolding(crate::specs::inner::View::open_body))]
     pub(crate) fn make_room(&mut self, count: usize) -> Result<(), Fault>
         ensures same { open_body self.new ≡ open_body self.old }

@@ -1,5 +1,4 @@
-//! What the lines of a listing make while they are read, and the lines of the second form that say nothing of the program: its first
-//! line, and labels.
+//! The state of the reader, and the lines of the second form that are not about the program: its first line, and labels.
 
 ghost use Rattle.std.specs.Prelude.{◌≡◌, ◌+◌, ◌<◌, ◌^◌, map, length, OnOk, IsOkUnless};
 ghost use Rattle.dex_base.specs.Fault.{memory};
@@ -119,7 +118,7 @@ impl<'a, 't> Reading<'a, 't> {
         self.line_of_label(name)
     }
 
-    /// What a line of these words is if it says nothing of the program.
+    /// What a line of these words is if it is not about the program.
     #[tactic(auto, unfolding(crate::specs::inner::ReadingView::reading, crate::specs::Text::line_of_form))]
     pub(crate) fn line_of_form(&self, words: &[Word<'_, '_>]) -> FormLine
         ensures { result ≡ line_of_form (reading self.now) (map word words.now) }
@@ -153,7 +152,7 @@ impl<'a, 't> Reading<'a, 't> {
         self.draft.block = Block::Top;
     }
 
-    /// The line of a label was read. The number of such lines is the index of the next label ahead, which is looked at first.
+    /// The line of a label was read. The number of such lines is the index of the next label ahead, which is tried first.
     #[tactic(auto, unfolding(crate::specs::inner::ReadingView::reading))]
     pub(crate) fn pass_label(&mut self)
         ensures same { reading self.new ≡ reading self.old }
@@ -162,7 +161,7 @@ impl<'a, 't> Reading<'a, 't> {
         self.passed = self.passed.saturating_add(1);
     }
 
-    /// Whether a line of this shape may stand here.
+    /// Whether a line of this shape is allowed here.
     #[tactic(auto, unfolding(crate::specs::inner::ReadingView::reading))]
     pub(crate) fn may_be(&self, found: Found<'_>) -> bool
         ensures { (ss : List Slot) (ws : List words.Word) → result ≡ may_stand_in_form self.now.form (state self.now.draft) (shape found.entry ss ws) }

@@ -1,6 +1,5 @@
-//! Instructions read straight from the bytes of their lines, without words and slots, where a line of the second form
-//! is spelled as listings are printed. Of any other line nothing is answered, and it is read as lines are. What is
-//! answered here is what that would answer.
+//! Instructions read straight from the bytes of their lines, without words and slots, if a line of the second form is written as
+//! listings are printed. The result is `None` for any other line, which is read as lines are. Both readers have the same result.
 
 ghost use Rattle.std.specs.Prelude.{◌≡◌, ◌∷◌, [], List, IfOk, IfSome, IfNone, IsOkUnless};
 ghost use Rattle.dex_base.specs.Fault.{memory};
@@ -341,7 +340,7 @@ fn of_format<'a, 'b>(
     }
 }
 
-/// The instruction of a line, where instructions stand and the line is spelled as listings are printed; nothing of any
+/// The instruction of a line, if instructions are allowed here and the line is written as listings are printed; `None` for any
 /// other line.
 #[tactic(auto, unfolding(crate::specs::inner::ReadingView::reading))]
 pub(crate) fn read_short<'a, 'b>(

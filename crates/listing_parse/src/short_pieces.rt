@@ -1,5 +1,5 @@
-//! The pieces of an instruction's line that is spelled as listings are printed: one space before each operand, and
-//! registers in decimal digits. What is spelled otherwise is none of them, whatever it says.
+//! The pieces of an instruction's line that is written as listings are printed: one space before each operand, and registers in
+//! decimal digits. Other forms are left to the general reader.
 
 ghost use Rattle.std.specs.Prelude.{◌≡◌, ◌≤◌, ◌<◌, ◌^◌, ◌∷◌, [], length, drop, IfSome};
 ghost use Rattle.listing_words.specs.Words.{up_to_space, after_spaces, TakesPlain};
@@ -17,7 +17,7 @@ fn after_byte(byte: u8, text: &[u8]) -> Option<&[u8]>
     if *first == byte { Some(rest) } else { None }
 }
 
-/// The number up to `most` that the decimal digits at the front write, up to a space or the end, and what stands there.
+/// The number up to `most` of the decimal digits at the front, up to a space or the end, and the rest.
 fn take_digits(most: u32, text: &[u8]) -> Option<(u32, &[u8])>
     requires { most ≤ 65535 }
     ensures { IfSome result (λ r. TakesDigits most text.now r.0 r.1.now) }

@@ -1,4 +1,4 @@
-//! The law of the lines of a text. It has no code: it says of the definitions what its contract says.
+//! The law of the lines of a text. It has no code: the contract is the law.
 
 ghost use Rattle.std.specs.Prelude.{◌≡◌, ◌↔◌, ℕ, true, false, List};
 ghost use Rattle.listing_lines.specs.declared.form.Form.{Form};

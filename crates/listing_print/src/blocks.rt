@@ -224,7 +224,7 @@ fn put_source(out: &mut Vec<u8>, source: Option<Str<'_>>) -> Result<(), AllocErr
     }
 }
 
-/// Appends the first line of a class, and what stands before its members.
+/// Appends the first line of a class, and the lines before its members.
 fn put_heads(out: &mut Vec<u8>, one: &Class<'_>) -> Result<(), AllocError>
     ensures ok { OnOk result (out.new.items ≡ out.old.items ++ heads_text (class one.now)) }
 {
@@ -316,12 +316,12 @@ fn print_in(alloc: Global, form: Form, whole: &Program<'_>) -> Result<Vec<u8>, A
     Ok(out)
 }
 
-/// The canonical listing of a program, in ASCII: each word stands after one space, each line has its line feed. Instructions that
-/// a code names stand after a label, `:L` and their number.
+/// Returns the canonical listing of a program, in ASCII: one space between words, a line feed after each line. Instructions that a
+/// code refers to have a label before them, `:L` and their number.
 ///
-/// It fails only when out of memory. The stack holds a call for each array that a value is in: at most 64 in a well-formed
-/// program, and so in every program that `read` or `parse` answers. A value made by hand that is much deeper may end the stack:
-/// ask `well_formed` first, which refuses it (113). Page: docs/LISTING.md.
+/// It fails only when out of memory. The stack has a call for each array that a value is in: at most 64 in a well-formed program, and
+/// so in every program that `read` or `parse` returns. A much deeper value made by hand may overflow the stack: call `well_formed`
+/// first, which refuses it (113). Page: docs/LISTING.md.
 ///
 /// ```
 /// use bumpalo::Bump;

@@ -1,4 +1,4 @@
-//! Laws of what is printed. None has code: each says of the definitions what its contract says.
+//! Laws of printed text. None has code: the contract is the law.
 
 ghost use Rattle.std.specs.Prelude.{◌≡◌, ℕ, ◌<◌, ◌^◌, ◌++◌, ◌∷◌, [], true, map, Some};
 ghost use Rattle.std.specs.Fmt.{decimal};
@@ -16,20 +16,20 @@ ghost use Rattle.listing_slots.specs.Shown.{shown};
 ghost use Rattle.listing_lines.specs.Lines.{Line, insn_line, line_of, value_of};
 ghost use Rattle.listing_print.specs.Operands.{value_operands, insn_operands};
 
-/// The printed words of a value have the slots of the value, and say the value again.
+/// The printed words of a value have the slots of the value, and mean the value again.
 pub fn printed_values_are_read_again()
     ensures slots { (v : Value) → value_slots (due.Value 0) (map (λ o. shown o.slot o.says) (value_operands v)) ≡ Some (map (λ o. o.slot) (value_operands v)) }
     ensures says { (v : Value) → value_of (map (λ o. o.says) (value_operands v)) ≡ v }
 {}
 
-/// The printed words of a line that begins with a keyword have the line's shape in both forms, and say the line again.
+/// The printed words of a line that begins with a keyword have the line's shape in both forms, and mean the line again.
 pub fn printed_lines_are_read_again()
     ensures shape { (form : Form) (l : Line) → IsKeyedLine l → FitOperands (line_operands l)
         → IsKeyed (plain_word (key_text (line_key l)) ∷ words_in form (line_operands l)) (record { kind = line_kind l; label = []; slots = slots_of (line_operands l); words = words_in form (line_operands l) }) }
     ensures says { (l : Line) → IsKeyedLine l → line_of (line_kind l) (data_of (line_operands l)) ≡ l }
 {}
 
-/// The printed words of an instruction have its shape, and say the instruction again.
+/// The printed words of an instruction have its shape, and mean the instruction again.
 pub fn printed_instructions_are_read_again()
     ensures shape { (k : ℕ) (i : Insn) → k < 2 ^ 64 → OpcodeFits i → FitOperands (insn_operands i)
         → HasShape (plain_word (decimal k ++ 58 ∷ []) ∷ plain_word (insn_word i) ∷ words_in One (insn_operands i)) (record { kind = insn_kind i; label = decimal k; slots = slots_of (insn_operands i); words = words_in One (insn_operands i) }) }

@@ -3,11 +3,11 @@
 //! ```text
 //! print(alloc, &program)?   // `dex 035 listing 2`, a line feed, then a block for each class; targets are labels
 //! print_1(alloc, &program)? // `dex 035`, the same with a number before each instruction
-//! put_opening(&mut text, Form::Two)? // the first line alone, for whoever has one class at a time
+//! put_opening(&mut text, Form::Two)? // the first line alone, for callers that print one class at a time
 //! put_class(alloc, &mut text, Form::Two, &class)? // the block of a class
 //! ```
 //!
-//! docs/MAP.md says where this crate stands among the others.
+//! docs/MAP.md has this crate's place among the others.
 #![tactic(auto)]
 
 mod blocks;

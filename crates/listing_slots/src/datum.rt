@@ -1,4 +1,4 @@
-//! What a word can say.
+//! The values of words.
 
 ghost use Rattle.std.specs.Prelude.{◌≡◌, ◌<◌, map};
 ghost use Rattle.program_types.specs.View.{name, str, desc, proto};
@@ -8,7 +8,7 @@ ghost use Rattle.listing_slots.specs.Data.{at, byte_of, half_of, word_of, tiny_o
 use crate::key::Key;
 use program_types::{Desc, FieldRef, Name, Proto, Str};
 
-/// What a word says.
+/// The value of a word.
 #[derive(Clone, Copy)]
 pub enum Datum<'a> {
     Byte(u8),

@@ -1,5 +1,5 @@
-//! A line's words. The first ones tell its shape: what the line is, and a slot for each word after them. A slot says what its word may stand
-//! for, and so what the word says and how it is printed.
+//! A line's words. The first ones determine its shape: the kind of line, and a slot for each word after them. A slot determines which
+//! words it takes, their values and how they are printed.
 //!
 //! ```text
 //! read_shape(words of `try @0 @5`, &mut slots)?   // Found { kind: Kind::Try, lead: 1, .. }, and slots for two targets
@@ -8,7 +8,7 @@
 //! // None, and data is [Byte(3), Short(-1)], for the words `v3 -1`; Some(102), Number, for `v16 -1`
 //! ```
 //!
-//! docs/MAP.md says where this crate stands among the others.
+//! docs/MAP.md has this crate's place among the others.
 #![tactic(auto)]
 
 // Slots: what a word says there, how it is printed, and what holds of both.

@@ -15,7 +15,7 @@ use std::alloc::AllocError;
 
 /// Appends a number in decimal, without a space before it.
 ///
-/// This and all others here fail only when out of memory, after which part of the word may stand in `out`.
+/// This and all others here fail only when out of memory, after which `out` may have part of the word.
 pub fn put_decimal(out: &mut Vec<u8>, n: u64) -> Result<(), AllocError>
     ensures ok { OnOk result (out.new.items ≡ out.old.items ++ decimal n) }
 {

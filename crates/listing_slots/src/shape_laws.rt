@@ -1,4 +1,4 @@
-//! Laws of shapes. None has code: each says of the definitions what its contract says.
+//! Laws of shapes. None has code: the contract is the law.
 
 ghost use Rattle.std.specs.Prelude.{◌≡◌, List};
 ghost use Rattle.listing_words.specs.Words.{Word};

@@ -1,8 +1,8 @@
-//! Slots: what a word may stand for.
+//! Slots: the kinds of words.
 
 use crate::key::Key;
 
-/// What stands before a number.
+/// The mark before a number.
 #[derive(Clone, Copy)]
 pub enum Mark {
     Nothing,
@@ -10,7 +10,7 @@ pub enum Mark {
     Target,
 }
 
-/// What a word may stand for.
+/// The kind of a word.
 #[derive(Clone, Copy)]
 pub enum Slot {
     /// A number up to the highest that is allowed.

@@ -1,4 +1,4 @@
-//! Names that words have spelled: a listing spells most of its names many times.
+//! A cache of names by their words: a listing has most of its names many times.
 
 ghost use Rattle.std.specs.Prelude.{◌≡◌, ◌↔◌, ◌∷◌, [], true, IfOk, IfSome, IfNone, IsTrue, IsOkUnless};
 ghost use Rattle.dex_base.specs.Fault.{memory};

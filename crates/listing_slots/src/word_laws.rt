@@ -1,4 +1,4 @@
-//! Laws of slots. None has code: each says of the definitions what its contract says.
+//! Laws of slots. None has code: the contract is the law.
 
 ghost use Rattle.std.specs.Prelude.{◌≡◌, true};
 ghost use Rattle.listing_words.specs.Words.{Word};
@@ -9,12 +9,12 @@ ghost use Rattle.listing_slots.specs.Slots.{SpellsSlot, has_form};
 ghost use Rattle.listing_slots.specs.Shown.{shown};
 ghost use Rattle.listing_slots.specs.inner.Shown.{FitsSlot};
 
-/// A word says one thing in a slot.
+/// A word has one value in a slot.
 pub fn words_say_one_thing()
     ensures { (s : Slot) (w : Word) (d e : Datum) → SpellsSlot s w d → SpellsSlot s w e → d ≡ e }
 {}
 
-/// A word that is printed in a slot has the slot's form, can be written, and says what was printed.
+/// A word that is printed in a slot has the slot's form, can be written, and has the value that was printed.
 pub fn printed_words_are_read_again()
     ensures says { (s : Slot) (d : Datum) → FitsSlot s d → SpellsSlot s (shown s d) d }
     ensures form { (s : Slot) (d : Datum) → FitsSlot s d → has_form s (shown s d) ≡ true }

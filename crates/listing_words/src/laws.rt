@@ -1,4 +1,4 @@
-//! Laws of words. None has code: each says of the definitions what its contract says.
+//! Laws of words. None has code: the contract is the law.
 
 ghost use Rattle.std.specs.Prelude.{◌≡◌, ℕ, ◌<◌, ◌^◌, List};
 ghost use Rattle.std.specs.List.{AllByRecursion};

@@ -1,7 +1,7 @@
 //! The words of a listing: plain words, texts in quotes, numbers and names, as they are read and as they are written.
 //!
 //! A line of a listing is ASCII. Its words are separated by spaces; a word that begins with a quote is a text, whose units
-//! may be escaped as `\uXXXX`. A plain word is a slice of the line, and what it spells is read from it: a number, the bits
+//! may be escaped as `\uXXXX`. A plain word is a slice of the line, and its value is read from it: a number, the bits
 //! of a float, a descriptor, a field, a method or a prototype, whose grammar is that of the page "Dalvik Executable format".
 //!
 //! ```text
@@ -10,7 +10,7 @@
 //! put_flags(&mut out, 31)?                                // appends `0x1f`
 //! ```
 //!
-//! docs/MAP.md says where this crate stands among the others.
+//! docs/MAP.md has this crate's place among the others.
 #![tactic(auto)]
 
 mod bits;

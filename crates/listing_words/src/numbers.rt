@@ -43,7 +43,7 @@ pub(crate) fn read_digits(radix: u64, digits: &[u8], most: u64) -> Option<u64>
     Some(value)
 }
 
-/// The number of at most `most` that the word spells: decimal digits, or `0x` and hexadecimal digits of either case.
+/// The number of at most `most` of the word: decimal digits, or `0x` and hexadecimal digits of either case.
 pub fn read_natural(word: &[u8], most: u64) -> Option<u64>
     ensures found { IfSome result (λ n. SpellsNatural word.now n × (n ≤ most)) }
     ensures none { IfNone result ((n : ℕ) → SpellsNatural word.now n → n ≤ most → ⊥) }

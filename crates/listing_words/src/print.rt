@@ -57,10 +57,10 @@ fn put_units(out: &mut Vec<u8>, units: &[u16]) -> Result<(), AllocError>
     Ok(())
 }
 
-/// Appends a text in quotes: the units 0x20 to 0x7e stand for themselves, a quote and a backslash after a backslash, all
-/// others are escaped as `\uXXXX` in lower case.
+/// Appends a text in quotes: the units 0x20 to 0x7e are themselves, a quote and a backslash follow a backslash, all others are
+/// escaped as `\uXXXX` in lower case.
 ///
-/// It fails only when out of memory, after which part of the text may stand in `out`.
+/// It fails only when out of memory, after which `out` may have part of the text.
 pub fn put_text(out: &mut Vec<u8>, units: &[u16]) -> Result<(), AllocError>
     ensures ok { OnOk result (out.new.items ≡ out.old.items ++ text_word units.now) }
 {

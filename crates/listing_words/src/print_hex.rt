@@ -8,7 +8,7 @@ use std::alloc::AllocError;
 
 /// Appends the last `width` hexadecimal digits of a number, in lower case.
 ///
-/// It fails only when out of memory, after which some of the digits may stand in `out`.
+/// It fails only when out of memory, after which `out` may have some of the digits.
 pub fn put_hex(out: &mut Vec<u8>, width: usize, n: u64) -> Result<(), AllocError>
     ensures ok { OnOk result (out.new.items ≡ out.old.items ++ hex_digits width n) }
 {

@@ -34,9 +34,9 @@ fn put_name_units(out: &mut Vec<u8>, units: &[u16]) -> Result<(), AllocError>
     Ok(())
 }
 
-/// Appends a name or a descriptor: an ASCII character stands for itself, any other unit is escaped as `\uXXXX`.
+/// Appends a name or a descriptor: an ASCII character is itself, any other unit is escaped as `\uXXXX`.
 ///
-/// It fails only when out of memory, after which part of the name may stand in `out`.
+/// It fails only when out of memory, after which `out` may have part of the name.
 pub fn put_name(out: &mut Vec<u8>, units: &[u16]) -> Result<(), AllocError>
     ensures ok { OnOk result (out.new.items ≡ out.old.items ++ name_text units.now) }
 {
@@ -57,7 +57,7 @@ fn put_params(out: &mut Vec<u8>, params: &[Desc<'_>]) -> Result<(), AllocError>
 
 /// Appends a prototype: `(P..)R`.
 ///
-/// It fails only when out of memory, after which part of it may stand in `out`; so it is of the two below.
+/// It fails only when out of memory, after which `out` may have part of it; likewise for the two below.
 pub fn put_proto(out: &mut Vec<u8>, one: &Proto<'_>) -> Result<(), AllocError>
     ensures ok { OnOk result (out.new.items ≡ out.old.items ++ name_text (proto_units (proto one.now))) }
 {

@@ -58,7 +58,7 @@ fn tries_are_valid(all: &[Try<'_>]) -> bool
     true
 }
 
-/// Whether a file can have the names in all instructions of the body: they are looked at unless that is known already.
+/// Whether a file can have the names in all instructions of the body: they are checked unless that is known already.
 fn are_named(one: &Code<'_>, known: bool) -> bool
     requires { IsTrue known → InsnsAreNamed (code one.now) }
     ensures { IsTrue result ↔ InsnsAreNamed (code one.now) }

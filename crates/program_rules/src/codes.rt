@@ -65,8 +65,7 @@ fn methods_uses_hold(alloc: Global, all: &[Method<'_>]) -> Result<bool, AllocErr
     Ok(true)
 }
 
-/// Whether the payloads in all bodies in the class are used as they have to be, as `codes_hold` of `PayloadUse` says
-/// it.
+/// Whether the payloads in all bodies of the class are used as required: the result of `codes_hold` for `PayloadUse`.
 pub(crate) fn payload_uses_hold(alloc: Global, one: &Class<'_>) -> Result<bool, AllocError>
     ensures { IfOk result (λ hold. IsTrue hold ↔ CodesHold PayloadsHold (class one.now)) }
 {

@@ -14,8 +14,8 @@ pub fn one_rule()
     ensures { (p : Program) (e f : Fault) → RuleBreaks p e → RuleBreaks p f → e ≡ f }
 {}
 
-/// The numbers and units of a class in memory lie in the ranges of their types. The types themselves say it, so that it is had
-/// with no look at the class.
+/// The numbers and units of a class in memory are in the ranges of their types. That follows from the types, without a check of the
+/// class.
 pub fn class_is_in_range(one: &Class<'_>)
     ensures { ClassInRange (class one.now) }
 {}

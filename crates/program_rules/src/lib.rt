@@ -6,7 +6,7 @@
 //! well_formed_in(alloc, &program)?; // the same, in time that grows with the program
 //! ```
 //!
-//! docs/MAP.md says where this crate stands among the others.
+//! docs/MAP.md has this crate's place among the others.
 #![tactic(auto)]
 
 // Names, wherever they stand.

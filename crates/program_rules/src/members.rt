@@ -69,7 +69,7 @@ fn methods_are_valid(all: &[Method<'_>], known: bool) -> bool
     true
 }
 
-/// Whether the class and what it stands on are class types.
+/// Whether the class, its superclass and its interfaces are class types.
 fn types_are_classes(one: &Class<'_>) -> bool
     ensures { IsTrue result ↔ (IsClass (class one.now).ty × IfSome (class one.now).superclass IsClass × AllByRecursion IsClass (class one.now).interfaces) }
 {

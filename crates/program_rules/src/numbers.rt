@@ -16,16 +16,16 @@ use std::alloc::{AllocError, Global};
 /// How many types are compared pair by pair, without memory.
 const FEW: usize = 8;
 
-/// Where the types of a list stand.
+/// The numbers of the types of a list.
 #[derive(Drop)]
 pub(crate) struct TypePlaces<'a> {
     /// The last number of each type.
     last: IndexMap<Desc<'a>, usize, Seed>,
-    /// The first number whose type stands before it too.
+    /// The first number whose type occurs before it too.
     again: Option<usize>,
 }
 
-/// Where the types stand.
+/// The numbers of the types.
 pub(crate) fn numbers_of<'a>(
     alloc: Global,
     seed: Seed,
@@ -67,7 +67,7 @@ fn are_none_from(numbers: &TypePlaces<'_>, from: usize, list: &[Desc<'_>]) -> bo
     true
 }
 
-/// Whether no type stands twice.
+/// Whether no type occurs twice.
 fn are_distinct_in(alloc: Global, seed: Seed, list: &[Desc<'_>]) -> Result<bool, AllocError>
     ensures ok { IfOk result (λ yes. IsTrue yes ↔ AreDistinct (map desc list.now)) }
 {
@@ -78,7 +78,7 @@ fn are_distinct_in(alloc: Global, seed: Seed, list: &[Desc<'_>]) -> Result<bool,
     Ok(numbers.again.is_none())
 }
 
-/// Whether number `i` is the first whose type stands before it too.
+/// Whether number `i` is the first whose type occurs before it too.
 fn is_first_again(numbers: &TypePlaces<'_>, i: usize) -> bool
     ensures { IsTrue result ↔ (numbers.now.again ≡ Some i) }
 {

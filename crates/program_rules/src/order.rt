@@ -77,7 +77,7 @@ fn is_new(types: &[Desc<'_>], k: usize) -> bool
     true
 }
 
-/// Whether no type stands twice.
+/// Whether no type occurs twice.
 pub(crate) fn are_distinct(types: &[Desc<'_>]) -> bool
     ensures { IsTrue result ↔ AreDistinct (map desc types.now) }
 {

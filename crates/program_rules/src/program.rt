@@ -85,17 +85,17 @@ fn check_class(
     Ok(())
 }
 
-/// Whether a program is well formed, as `write` asks for one: it keeps the rules that every file's program keeps, and its
-/// numbers and units lie in the ranges of their types, as those of every program in memory do. Of the first class that
-/// breaks a rule the fault names the first rule that it breaks; its place is the class's number, from 0.
+/// Checks that a program is well formed, as `write` requires: it keeps the rules that every file's program keeps, and its numbers
+/// and units are in the ranges of their types, as those of every program in memory are. The fault is the first rule that the
+/// first class that violates one violates; its place is the class's number, from 0.
 ///
-/// 110 a name that no file can have; 111 members that don't rise; 112 a class that is defined twice or stands on itself or a later
-/// one, or an interface given twice; 113 more values than static fields, or one deeper than 64; 114 an instruction whose operands
-/// its format doesn't have, 115 a target that is no instruction, 116 a payload that isn't used as it has to be, 117 a try,
-/// 118 a register that the code doesn't have.
+/// 110 a name that no file can have; 111 members that do not rise; 112 a class that is defined twice, or has itself or a later one as
+/// superclass or interface, or an interface twice; 113 more values than static fields, or one deeper than 64; 114 an instruction
+/// whose operands its format does not have, 115 a target that is no instruction, 116 a payload that is not used as required, 117 a
+/// try, 118 a register that the code does not have.
 ///
-/// Takes no memory. So each class's type is looked for among all classes, and the user of a switch's payload among all
-/// instructions of its code.
+/// Needs no memory. So each class's type is searched among all classes, and the user of a switch's payload among all instructions of
+/// its code.
 ///
 /// ```
 /// use dex_program::{Class, Desc, Program, Str, well_formed};
@@ -161,8 +161,8 @@ fn check_classes(
     Ok(())
 }
 
-/// Whether a program is well formed, as `well_formed` says it. Types are looked up by hash and the users of payloads are noted in
-/// one walk, so that n classes or n switches take time that grows with n; out of memory is a refusal (255).
+/// Checks that a program is well formed, with the result of `well_formed`. Types are looked up by hash and the users of payloads are
+/// noted in one walk, so that n classes or n switches need time that grows with n; out of memory is a refusal (255).
 ///
 /// ```
 /// use dex_program::{Program, well_formed_in};
@@ -176,8 +176,8 @@ pub fn well_formed_in(alloc: Global, all: &Program<'_>) -> Result<(), Fault>
     well_formed_named_seeded(alloc, Seed::fixed(), all, false)
 }
 
-/// Whether a program is well formed, as `well_formed_in` says it. Where a file is known to have all names that instructions mention,
-/// these aren't looked at again. Hashes begin with the seed.
+/// Checks that a program is well formed, with the result of `well_formed_in`. If a file is known to have all names that instructions
+/// mention, these are not checked again. Hashes begin with the seed.
 ///
 /// ```
 /// well_formed_named_seeded(alloc, seed, &program, named)?;

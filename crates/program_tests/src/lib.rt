@@ -1,7 +1,7 @@
 //! Tests of bytes, instructions, programs and listings, without files: dex_base, dex_insn, program_types, tables_names, program_rules and the
 //! listing crates.
 //!
-//! docs/MAP.md says where this crate stands among the others.
+//! docs/MAP.md has this crate's place among the others.
 #![tactic(auto)]
 
 // dex_base

@@ -1,5 +1,5 @@
-//! What `==` and `cmp` of names say: names are equal where their contents are, wherever they lie, and ordered as the rows of
-//! their table are ("Dalvik Executable format", "File layout").
+//! `==` and `cmp` of names: names are equal if their contents are, wherever they lie in memory, and are ordered as the rows of
+//! their table ("Dalvik Executable format", "File layout").
 
 ghost use Rattle.std.specs.Prelude.{◌≡◌, ◌↔◌, IsTrue};
 ghost use Rattle.std.specs.Cmp.{IsTotalOrder};
@@ -82,8 +82,8 @@ pub fn method_ref_cmp(method: &MethodRef<'_>, other: &MethodRef<'_>) -> Ordering
     method.cmp(other)
 }
 
-/// Laws of the orders: keys are in a strict total order, and each kind's key tells its name. So `cmp` is `Equal` exactly where
-/// `==` holds, and no two distinct names tie.
+/// Laws of the orders: keys are in a strict total order, and a kind's key determines its name. So `cmp` is `Equal` if and only if
+/// `==` is true, and no two distinct names tie.
 pub fn key_laws()
     ensures total { IsTotalOrder key_cmp }
     ensures no_ties { IsAntisymmetric key_cmp }

@@ -1,4 +1,4 @@
-//! What a type is asked to be where it is used ("Dalvik Executable format", "String syntax").
+//! The kinds of types that a use requires ("Dalvik Executable format", "String syntax").
 ghost use Rattle.std.specs.Prelude.{◌≡◌, ◌↔◌, ◌⊎◌, IsTrue};
 ghost use Rattle.dex_base.specs.Descriptor.{IsClass, IsArray};
 ghost use Rattle.program_types.specs.View.{desc};

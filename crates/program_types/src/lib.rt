@@ -1,9 +1,9 @@
-//! A program of a .dex file, symbolically: its names are texts, its branches lead to instructions by number, and nothing in it
-//! says where it stands in a file.
+//! A program of a .dex file, symbolically: its names are texts, its branches refer to instructions by number, and it has no
+//! offsets of a file.
 //!
-//! All types are `Copy`. Their slices and references lie in the caller's arena, which a program can't outlive. What a program
-//! says, apart from where it lies, is its content (`specs/Content.antt`), and two programs are equal where their contents
-//! (`specs/View.antt`) are. So names are compared, ordered and hashed.
+//! All types are `Copy`. Their slices and references lie in the caller's arena, which a program cannot outlive. A program's
+//! content (`specs/Content.antt`) does not depend on where it lies in memory, and two programs are equal if their contents
+//! (`specs/View.antt`) are. Names are compared, ordered and hashed by content.
 //!
 //! ```text
 //! let arena = Bump::new(alloc);
@@ -16,7 +16,7 @@
 //!
 //! Pages of the Android Open Source Project: "Dalvik Executable format", "Dalvik Executable instruction formats".
 //!
-//! docs/MAP.md says where this crate stands among the others.
+//! docs/MAP.md has this crate's place among the others.
 #![tactic(auto)]
 
 // Names, and how they are hashed.

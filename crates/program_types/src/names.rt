@@ -2,7 +2,7 @@
 //! proto_id_item, field_id_item, method_id_item).
 //!
 //! The derives compare and hash through the references, so by content, in the order of the fields, which is that of the table.
-//! A string is hashed four units at a time (`hashing.rt`); `==` of fields and methods looks at the class last (`equality.rt`).
+//! A string is hashed four units at a time (`hashing.rt`); `==` of fields and methods compares the class last (`equality.rt`).
 
 /// A string, by its UTF-16 units.
 #[derive(Clone, Copy, PartialEq, Eq, PartialOrd, Ord)]

@@ -1,4 +1,4 @@
-//! What an instruction names, which payload it is, and where it leads.
+//! The names of an instruction, its payload, and its targets.
 
 ghost use Rattle.std.specs.Prelude.{◌≡◌, ◌∷◌, ◌↔◌, [], option_map, IsTrue};
 ghost use Rattle.program_types.specs.Formed.{insn_payload, insn_targets, insn_leads, AreAlike, IsSwitch};
@@ -48,7 +48,7 @@ pub fn targets_of<'a>(one: &Insn<'a>) -> &'a [u32]
     }
 }
 
-/// The instructions that an instruction leads or refers to, but for the one after it.
+/// The instructions that an instruction branches or refers to, except the one after it.
 pub fn leads_of<'s>(one: &'s Insn<'_>) -> &'s [u32]
     ensures { result.now ≡ insn_leads (view.insn one.now) }
 {

@@ -1,4 +1,4 @@
-//! Payloads: the tables that stand among the instructions of a code ("Dalvik bytecode": packed-switch-payload,
+//! Payloads: the tables among the instructions of a code ("Dalvik bytecode": packed-switch-payload,
 //! sparse-switch-payload, fill-array-data-payload).
 
 /// A kind of payload, by what refers to it.

@@ -66,7 +66,7 @@ pub fn shorty_of<'a>(
     alloc_str(arena, &letters)
 }
 
-/// The law of letters: of a descriptor exactly one letter stands for its type, the one that a shorty has.
+/// The law of letters: a descriptor has exactly one letter for its type, the one that a shorty has.
 pub fn shorty_laws()
     ensures { (descriptor : List ℕ) (one : ℕ) → IsDescriptor descriptor →
         (StandsFor one descriptor ↔ (one ≡ letter_of descriptor)) }

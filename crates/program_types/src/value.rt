@@ -24,7 +24,7 @@ pub enum Value<'a> {
     Bool(bool),
 }
 
-/// A word, and what stands after it.
+/// A word, and what follows it.
 fn write_after<W: fmt::Write, D: fmt::Display>(
     f: &mut fmt::Formatter<W>,
     word: &str,

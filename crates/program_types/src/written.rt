@@ -44,8 +44,8 @@ fn write_unit<W: fmt::Write>(f: &mut fmt::Formatter<W>, unit: u16) -> fmt::Resul
     f.write_char(unit as u8 as char)
 }
 
-/// As a name, without quotes: an ASCII character that is seen stands for itself; any other unit, a space, a quote and a
-/// backslash are `\uXXXX`.
+/// As a name, without quotes: a visible ASCII character is itself; any other unit, a space, a quote and a backslash are
+/// `\uXXXX`.
 impl fmt::Display for Str<'_> {
     ghost output = { λ s. Some (name_text (str s)) };
 

@@ -1,7 +1,7 @@
 //! Values and codes by hand, appended where they may be: whether a code keeps the rules, whether the names of values have ranks. Test crates
 //! and bench stand on it.
 //!
-//! docs/MAP.md says where this crate stands among the others.
+//! docs/MAP.md has this crate's place among the others.
 #![tactic(auto)]
 
 mod codes;

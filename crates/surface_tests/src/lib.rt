@@ -2,7 +2,7 @@
 //! that condition. Whoever changes one of them breaks the programs of others, and this crate: a call that asks more isn't proved here, a field of
 //! another width, a variant more or another answer doesn't compile.
 //!
-//! docs/MAP.md says where this crate stands among the others.
+//! docs/MAP.md has this crate's place among the others.
 #![tactic(auto)]
 
 // Numbers, texts, names.

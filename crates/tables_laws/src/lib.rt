@@ -1,7 +1,7 @@
 //! What holds of the names in the tables of every file, beside those that a program needs: they rise, with each its parts are there, and a
 //! file that has a row for each name that a program mentions has one for each that the program needs. Laws alone.
 //!
-//! docs/MAP.md says where this crate stands among the others.
+//! docs/MAP.md has this crate's place among the others.
 #![tactic(auto)]
 
 mod laws;

@@ -72,7 +72,7 @@ pub fn rising_tables_rise()
     ensures { RisingTablesRise }
 {}
 
-/// A look-up of what is held never answers nothing, in a table of at most 4294967296 names.
+/// A look-up of a name in a table of at most 4294967296 names finds it.
 #[tactic(auto, using(crate::proofs::IndexLemmas::look_ups_answer))]
 pub fn look_ups_answer()
     ensures { LookUpsAnswer }

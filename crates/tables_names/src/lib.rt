@@ -6,7 +6,7 @@
 //! let rank = needed.freeze()?.index_of_type(ty); // its index in the written file
 //! ```
 //!
-//! docs/MAP.md says where this crate stands among the others.
+//! docs/MAP.md has this crate's place among the others.
 #![tactic(auto)]
 
 // What the five kinds of names have in common.

@@ -12,7 +12,7 @@ use indexmap::IndexSet;
 use std::alloc::{AllocError, Global};
 use std::marker::Model;
 
-/// A set of names, in the order of first need, where the index of a name is its number. It stands for the list of their keys.
+/// A set of names, in the order of first need, where the index of a name is its number. Its model is the list of their keys.
 pub(crate) struct NameSet<N: Row> {
     items: IndexSet<N, Seed>,
 }
@@ -133,7 +133,7 @@ pub(crate) struct Table<N: Row, P: Copy> {
 }
 
 /// A set of names that stays, in the order of first need, and beside it the names in the order of their ranks and of each, by its
-/// number, its rank. It stands for the rising list of their keys.
+/// number, its rank. Its model is the rising list of their keys.
 pub(crate) struct Ranked<N: Row> {
     items: IndexSet<N, Seed>,
     names: Vec<N>,

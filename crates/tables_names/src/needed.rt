@@ -18,8 +18,8 @@ use program_types::{Desc, FieldRef, Method, MethodRef, Name, Proto, Str};
 use std::alloc::Global;
 use std::marker::Model;
 
-/// The names that are needed so far: a set of each of the five kinds, with each name its parts. It stands for the five
-/// sets (`specs/Closure.antt`).
+/// The names that are needed so far: a set of each of the five kinds, with each name its parts. Its model is the five sets
+/// (`specs/Closure.antt`).
 ///
 /// Each kind is kept in the order of first need and sorted once, by `freeze`. A name for which memory ran out
 /// may have left some of its parts; all that was held is held.
@@ -232,8 +232,8 @@ impl<'a> Needed<'a> {
         Noted::new(numbered)
     }
 
-    /// The names that are held, with their ranks. No name is added from here on. Fails only when out of memory, and
-    /// then nothing is given back.
+    /// Returns the names with their ranks. No name is added after this. It fails only when out of memory, and then nothing is
+    /// returned.
     ///
     /// ```
     /// use dex_program::{Desc, FieldRef, Str};

@@ -1,6 +1,6 @@
-//! The names that code mentions and that classes define, noted by their numbers, so that whoever writes code and class
-//! data looks none of them up a second time ("Dalvik bytecode": the formats with an index, as 21c; "Dalvik Executable
-//! format": encoded_field and encoded_method).
+//! The names that code mentions and that classes define, noted by their numbers, so that the writers of code and class data
+//! look none of them up a second time ("Dalvik bytecode": the formats with an index, as 21c; "Dalvik Executable format":
+//! encoded_field and encoded_method).
 ghost use Rattle.std.specs.Prelude.{◌≡◌, ◌∷◌, ◌++◌, List, [], OnOk, OnErr, IfOk, IsOkUnless, All, map};
 ghost use Rattle.std.specs.List.{AllByRecursion, AllZip};
 ghost use Rattle.dex_base.specs.Fault.{memory};
@@ -68,8 +68,8 @@ impl RankOf {
     }
 }
 
-/// Names that are needed, as [`Needed`](crate::Needed) holds them, and notes of those that were mentioned. It stands for the
-/// lists of names and the numbers of those that were mentioned (`specs/Noted.antt`).
+/// Names that are needed, as in [`Needed`](crate::Needed), and notes of those that were mentioned. Its model is the lists of names
+/// and the numbers of those that were mentioned (`specs/Noted.antt`).
 #[derive(Drop)]
 pub struct Noted<'a> {
     numbered: NumberedNames<'a>,
@@ -123,8 +123,8 @@ impl<'a> Noted<'a> {
 
     /// Adds a class and the members that it defines, each with its parts but nothing of its code, and notes the members
     /// after the others: static fields, instance fields, direct methods, virtual ones. The arena holds the shorties. The
-    /// class is looked up once. Fails only when out of memory: what was held and noted is held and noted then, and beyond
-    /// it at most some of these names and of their parts have come, without a note.
+    /// class is looked up once. It fails only when out of memory: then all earlier names and notes are kept, and some of these
+    /// names and of their parts may have been added, without a note.
     ///
     /// ```
     /// use bumpalo::Bump;
@@ -274,8 +274,8 @@ impl<'a> Noted<'a> {
         Ok(())
     }
 
-    /// The names that are held, with their ranks, and the ranks of those that were mentioned, in the order of mention. Fails
-    /// only when out of memory, and then nothing is given back.
+    /// Returns the names with their ranks, and the ranks of those that were mentioned, in the order of mention. It fails only
+    /// when out of memory, and then nothing is returned.
     pub fn freeze(self) -> Result<(Ranks<'a>, Vec<usize>), Fault>
         ensures same { IfOk result (λ r. r.0 ≡ sets self.entry.names) }
         ensures ranks { IfOk result (λ r. (names : List content.Name) → AreNoted self.entry names → AreRanks r.0 names r.1.items) }

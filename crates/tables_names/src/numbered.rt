@@ -1,6 +1,6 @@
 //! Names of all five kinds in the order of first need, and beside each the numbers of its parts.
 //!
-//! A name is added after its parts, so their numbers are at hand then, and no part is looked up again to sort a kind or to
+//! A name is added after its parts, so their numbers are known then, and no part is looked up again to sort a kind or to
 //! write its rows.
 ghost use Rattle.std.specs.Prelude.{◌≡◌, OnOk, OnErr, IfOk, IsOkUnless, All, map, false};
 ghost use Rattle.std.specs.List.{AllZip};
@@ -28,7 +28,7 @@ use program_types::{Desc, FieldRef, Method, MethodRef, Name, Proto, Str, shorty_
 use std::alloc::{AllocError, Global};
 use std::marker::Model;
 
-/// Names of each of the five kinds, with each name its parts. It stands for the lists and the numbers
+/// Names of each of the five kinds, with each name its parts. Its model is the lists and the numbers
 /// (`specs/Numbers.antt`).
 ///
 /// A name for which memory ran out may have left some of its parts; all that was held is held.
@@ -209,7 +209,7 @@ impl<'a> NumberedNames<'a> {
         self.put_field(class, name)
     }
 
-    /// Adds a field that isn't held yet, so that it isn't looked up once more.
+    /// Adds a field that is new, without looking it up again.
     fn put_field(&mut self, class: usize, name: &FieldRef<'a>) -> Result<usize, AllocError>
         requires class { IsAt self.old.names.types class (key_of_desc name.now.class) }
         requires absent { is_member self.old.names.fields (key_of_field name.now) ≡ false }
@@ -252,7 +252,7 @@ impl<'a> NumberedNames<'a> {
         self.put_method(arena, class, name)
     }
 
-    /// Adds a method that isn't held yet, so that it isn't looked up once more.
+    /// Adds a method that is new, without looking it up again.
     fn put_method(
         &mut self,
         arena: &'a Bump,

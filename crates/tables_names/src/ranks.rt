@@ -20,8 +20,8 @@ use dex_base::Seed;
 use program_types::{Desc, FieldRef, MethodRef, Name, Proto, Str};
 use std::marker::Model;
 
-/// The needed names of each of the five kinds, each with its rank: how many of its kind are less. It stands for the
-/// five sets; to look a name up takes no memory.
+/// The needed names of each of the five kinds, each with its rank: how many of its kind are less. Its model is the five
+/// sets; a look-up needs no memory.
 pub struct Ranks<'a> {
     strings: Ranked<Str<'a>>,
     types: Table<Desc<'a>, TypeParts>,
@@ -95,7 +95,7 @@ impl<'a> Ranks<'a> {
         (ranks, rank_of)
     }
 
-    /// What their hashes begin with, for whoever hashes what is written by them.
+    /// The seed of their hashes, for callers that hash what is written by them.
     pub fn seed(&self) -> Seed {
         self.strings.seed()
     }
@@ -192,7 +192,7 @@ impl<'a> Ranks<'a> {
         self.protos.names.index_of(*name)
     }
 
-    /// The rank of the shorty of a prototype. A prototype that is held has one, unless it is above 4294967295. Spells none.
+    /// Returns the rank of the shorty of a prototype. A prototype of the set has one, unless it is above 4294967295.
     pub fn index_of_shorty(&self, name: &Proto<'a>) -> Option<u32>
         ensures rank { LookUpAnswers self.now.strings (text_key (shorty (proto name.now))) result }
         ensures some { IfSome result (λ i. IsAt self.now.strings i (text_key (shorty (proto name.now)))) }

@@ -3,7 +3,7 @@
 //! class, name and prototype).
 //!
 //! Numbers compare faster than texts, which begin alike in neighbours of a sorted table. No part is looked up: its number
-//! is at hand, and a table has the rank of each number.
+//! is known, and a table has the rank of each number.
 ghost use Rattle.std.specs.Prelude.{◌≡◌, ◌<◌, [], All, IfOk, OnOk, length, map, slice_index};
 ghost use Rattle.std.specs.List.{AllZip, IsDistinct};
 ghost use Rattle.program_types.specs.Key.{Key, key_cmp};
@@ -186,7 +186,7 @@ pub(crate) fn names_of<N: Copy, P: Copy>(
     Ok(names)
 }
 
-/// Of each name, by its number, the rank: the place of its row, where the rows stand in the order of the ranks. No name is looked up.
+/// The rank of each name, by its number: the place of its row in the order of the ranks. No name is looked up.
 fn ranks_of<N: Row, P: Copy>(
     alloc: Global,
     names: &[N],
@@ -205,7 +205,7 @@ fn ranks_of<N: Row, P: Copy>(
     Ok(ranks)
 }
 
-/// The number that stands at a place, or 0 where none does.
+/// The number at a place, or 0 if there is none.
 pub(crate) fn at(numbers: &[usize], place: usize) -> usize
     ensures { result ≡ slice_index numbers.now place }
 {

@@ -1,5 +1,5 @@
-//! The kinds of types that rows ask for. The type of a row is a descriptor, so that its first unit tells: no descriptor is looked
-//! through again, however many rows name it.
+//! The kinds of types that rows require. The type of a row is a descriptor, so its first unit decides: no descriptor is scanned
+//! again, however many rows name it.
 //! Page: "Dalvik Executable format", "String syntax": TypeDescriptor.
 ghost use Rattle.std.specs.Prelude.{◌≡◌, ◌↔◌, ◌⊎◌, IsTrue, slice_index};
 ghost use Rattle.dex_base.specs.Descriptor.{IsDescriptor, IsClass, IsArray};

@@ -5,7 +5,7 @@
 //! let name = tables.string(3); // the text of row 3
 //! ```
 //!
-//! docs/MAP.md says where this crate stands among the others.
+//! docs/MAP.md has this crate's place among the others.
 #![tactic(auto)]
 
 // The fields of a row.

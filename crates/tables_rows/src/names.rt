@@ -1,4 +1,4 @@
-//! Which strings are member names: looked through once a string, however many rows name it.
+//! Which strings are member names: each string is scanned once, however many rows name it.
 //! Page: "Dalvik Executable format", "String syntax": MemberName.
 ghost use Rattle.std.specs.Prelude.{◌≡◌, IfOk, get_or, map, false};
 ghost use Rattle.program_types.specs.View.{str};

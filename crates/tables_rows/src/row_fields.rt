@@ -1,4 +1,4 @@
-//! The fields of a row of each table ("string_id_item" to "method_id_item"), and where the row stands.
+//! The fields of a row of each table ("string_id_item" to "method_id_item"), and the offset of the row.
 ghost use Rattle.std.specs.Prelude.{◌≡◌, ◌+◌, ◌<◌};
 ghost use Rattle.dex_container.specs.Layout.{size_of};
 ghost use Rattle.dex_container.specs.Section as section;
@@ -27,7 +27,7 @@ impl MemberTable {
     }
 }
 
-/// Where row i of string_ids stands, in bytes.
+/// The byte offset of row i of string_ids.
 pub(crate) fn string_row(sections: &Sections<'_>, i: u32) -> u64
     requires { i < size_of sections.now section.string_ids }
     ensures { result ≡ row_place sections.now section.string_ids i }
@@ -45,7 +45,7 @@ pub(crate) fn string_place(sections: &Sections<'_>, i: u32) -> u32
     u32_at(sections.bytes(), place as usize)
 }
 
-/// Where row i of type_ids stands, in bytes.
+/// The byte offset of row i of type_ids.
 pub(crate) fn type_row(sections: &Sections<'_>, i: u32) -> u64
     requires { i < size_of sections.now section.type_ids }
     ensures { result ≡ row_place sections.now section.type_ids i }
@@ -63,7 +63,7 @@ pub fn type_string(sections: &Sections<'_>, i: u32) -> u32
     u32_at(sections.bytes(), place as usize)
 }
 
-/// Where row i of proto_ids stands, in bytes.
+/// The byte offset of row i of proto_ids.
 pub(crate) fn proto_row(sections: &Sections<'_>, i: u32) -> u64
     requires { i < size_of sections.now section.proto_ids }
     ensures { result ≡ row_place sections.now section.proto_ids i }
@@ -101,7 +101,7 @@ pub fn proto_parameters(sections: &Sections<'_>, i: u32) -> u32
     u32_at(sections.bytes(), place as usize + 8)
 }
 
-/// Where row i of field_ids or method_ids stands, in bytes.
+/// The byte offset of row i of field_ids or method_ids.
 pub(crate) fn member_row(sections: &Sections<'_>, table: MemberTable, i: u32) -> u64
     requires { i < size_of sections.now (number_of table) }
     ensures { result ≡ row_place sections.now (number_of table) i }

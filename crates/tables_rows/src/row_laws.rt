@@ -33,7 +33,7 @@ pub fn rows_that_hold_are_clear()
     ensures method { (b : List ℕ) (i code : ℕ) → MethodHolds b i → ¬ MethodBreaks b i code }
 {}
 
-/// A row that holds keeps each rule of its table, also asked alone.
+/// A valid row keeps each rule of its table, also by itself.
 pub fn rows_that_hold_keep_the_rules()
     ensures string { (b : List ℕ) (i : ℕ) → StringHolds b i → IsInSection b 0x2002 (string_place b i) × ((s : Units) × StringStands b i s) × RowRises StringIsBelow b i }
     ensures ty { (b : List ℕ) → IsFramed b → (i : ℕ) → TypeHolds b i
@@ -59,7 +59,7 @@ pub fn rows_break_one_rule()
     ensures method { (b : List ℕ) (i m n : ℕ) → MethodBreaks b i m → MethodBreaks b i n → m ≡ n }
 {}
 
-/// The tables of a framed file hold exactly if no fault of tables stands.
+/// The tables of a framed file are valid if and only if they have no fault.
 pub fn tables_hold_without_fault()
     ensures hold { (b : List ℕ) → IsFramed b → ((e : Fault) → ¬ IsTableFault b e) → TablesHold b }
     ensures clear { (b : List ℕ) → IsFramed b → TablesHold b → (e : Fault) → ¬ IsTableFault b e }
@@ -74,7 +74,7 @@ pub fn clear_rows_hold()
     ensures method { (b : List ℕ) → IsFramed b → (i : ℕ) → StringsHold b → TypesHold b → ProtosHold b → i < size_of b section.method_ids → ((code : ℕ) → ¬ MethodBreaks b i code) → MethodHolds b i }
 {}
 
-/// The tables of a framed file hold, or a fault of tables stands.
+/// The tables of a framed file are valid, or have a fault.
 #[tactic(auto, using(crate::proofs::RowsBreak::tables_are_decided))]
 pub fn tables_are_decided()
     ensures { (b : List ℕ) → IsFramed b → TablesHold b ⊎ ((e : Fault) × IsTableFault b e) }

@@ -24,7 +24,7 @@ use program_types::{Desc, FieldRef, MethodRef, Name, Proto, Str};
 use std::alloc::Global;
 use std::marker::Model;
 
-/// The names of the rows of string_ids, type_ids, proto_ids, field_ids and method_ids. It stands for these names.
+/// The names of the rows of string_ids, type_ids, proto_ids, field_ids and method_ids. Its model is these names.
 ///
 /// Each name is placed once in the arena, and shared by all its uses: a type holds its string's slice, a field and a
 /// method their class's, a method its proto by reference.
@@ -55,8 +55,8 @@ impl<'a> Model for Tables<'a> {
 
 impl<'a> Tables<'a> {
     /// The names of the five tables of a file, every row of which must denote a name, used or not, and be above the row
-    /// before it. The faults are those of the tables, in the order of the tables; in each the lowest row is answered, at
-    /// its place in bytes, and in a row the first fault in FORMAT's order. 255 is out of memory.
+    /// before it. The faults are those of the tables, in the order of the tables; in each the fault is of the lowest row, at its byte
+    /// offset, and in a row the first fault in FORMAT's order. 255 is out of memory.
     ///
     /// ```
     /// use bumpalo::Bump;
@@ -83,9 +83,9 @@ impl<'a> Tables<'a> {
         read_tables(alloc, arena, sections)
     }
 
-    /// The types of the list at an offset of this file: the empty list for 0, else the list that stands there (a
-    /// type_list in its section, 4-aligned), and None exactly where none stands or an index has no row. Placed in the
-    /// arena. It fails only when out of memory.
+    /// Returns the types of the list at an offset of this file: the empty list for 0, otherwise the type_list there (in its section,
+    /// 4-aligned), and `None` if and only if there is none or an index has no row. The list lies in the arena. It fails only when out of
+    /// memory.
     ///
     /// ```
     /// use bumpalo::Bump;
@@ -216,7 +216,7 @@ impl<'a> Tables<'a> {
         self.methods.get(index as usize)
     }
 
-    /// The name of a kind that an index stands for. None past the last row of that kind's table.
+    /// The name of a kind that an index denotes. `None` past the last row of that kind's table.
     pub fn name(&self, kind: IndexKind, index: u32) -> Option<Name<'a>>
         ensures kind { IfSome result (λ n. IsOfKind kind (view.name n)) }
         ensures some { IfSome result (λ n. NameIsAt self.now index (view.name n)) }

@@ -51,7 +51,7 @@ fn indexes_at<'b>(sections: &Sections<'b>, lists: Section, off: u32) -> Option<&
     spelled_indexes(rest)
 }
 
-/// The indices of the type_list at an offset, where 0 stands for the empty list.
+/// The indices of the type_list at an offset; offset 0 is the empty list.
 pub fn indexes_or_none<'b>(sections: &Sections<'b>, lists: Section, off: u32) -> Option<&'b [u8]>
     requires section { IsSectionOf sections.now 0x1001 lists }
     ensures some { IfSome result (λ bytes. AtOrNone SpellsIndexes sections.now 0x1001 4 off (halves bytes.now)) }
@@ -64,8 +64,8 @@ pub fn indexes_or_none<'b>(sections: &Sections<'b>, lists: Section, off: u32) ->
     indexes_at(sections, lists, off)
 }
 
-/// The types of the list at an offset, 0 for the empty list, in the arena, each index standing for one of these. None where no
-/// list stands there, or an index stands for none.
+/// The types of the list at an offset, 0 for the empty list, in the arena; each index denotes one of `types`. `None` if no list is
+/// there, or an index has no type.
 pub(crate) fn types_at<'a>(
     arena: &'a Bump,
     sections: &Sections<'_>,

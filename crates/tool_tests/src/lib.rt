@@ -1,6 +1,6 @@
 //! Tests of the tool: what the words ask for, what a run of each job answers, and what is told of failures.
 //!
-//! docs/MAP.md says where this crate stands among the others.
+//! docs/MAP.md has this crate's place among the others.
 #![tactic(auto)]
 
 #[cfg(test)]

@@ -1,6 +1,6 @@
 //! Tests of files that are written: what is written of a program, what is left of a file, and where a limit refuses.
 //!
-//! docs/MAP.md says where this crate stands among the others.
+//! docs/MAP.md has this crate's place among the others.
 #![tactic(auto)]
 
 // Programs that keep the rules, written, and what is found in a file.
