@@ -1,5 +1,5 @@
-//! A job carried out: a source, which is FILE or standard input, one run on it, and what becomes of its answer: it goes to standard output,
-//! or to OUT when it is whole.
+//! A job carried out: a source, which is FILE or standard input, one run on it, and its output, which goes to standard output, or to OUT
+//! when it is complete.
 ghost use Rattle.std.specs.Prelude.{◌≡◌, false, true, ⊤};
 ghost use Rattle.dexasm_run.specs.Runs.{MatchRun};
 ghost use Rattle.dexasm_command.specs.Carried.{CarriesOut, around};
@@ -7,13 +7,14 @@ ghost use Rattle.dexasm_command.specs.inner.Carried.{HandsOver};
 ghost use Rattle.dexasm_command.specs.inner.Running.{BringsToOut, RunsOn, RunsOnFile, failure_of, file_outcome};
 
 use crate::file_source::FileSource;
+use crate::heap;
 use dex_base::Seed;
 use dexasm_run::{InMemory, RunFault, Sink, Source, run_seeded};
 use dexasm_world::{Job, Refusal, World, deliver};
 use std::alloc::Global;
 
-/// Carries out the job on what FILE holds, or on what the input gives, and delivers its answer to OUT or to the output. Hashes begin
-/// with the seed.
+/// Carries out the job on the bytes of FILE or of the input, and delivers the output to OUT or to standard output. Hashes begin with the
+/// seed.
 pub fn carry_out<W: World, I: Source, O: Sink>(
     alloc: Global,
     seed: Seed,
@@ -32,6 +33,7 @@ pub fn carry_out<W: World, I: Source, O: Sink>(
         (around W.is_known (W.files world.new) (I.remaining input.new) (I.failed input.new) (O.contents output.new) (O.failed output.new))
         result }
 {
+    heap::prepare(alloc, job);
     match file {
         None => {
             let made = run_on(alloc, seed, job, input, out, output)?;
@@ -44,7 +46,7 @@ pub fn carry_out<W: World, I: Source, O: Sink>(
     }
 }
 
-/// Runs the job on a source. Its answer goes to the output or, where there is OUT, is what this answers, for OUT to get.
+/// Runs the job on a source. Its output goes to standard output or, if there is OUT, is returned.
 fn run_on<I: Source, O: Sink>(
     alloc: Global,
     seed: Seed,
@@ -118,7 +120,7 @@ fn failure_of(refusal: Refusal) -> RunFault
     }
 }
 
-/// Delivers a whole answer to OUT, where there is one.
+/// Delivers the complete output to OUT, if there is OUT.
 fn bring<W: World>(
     alloc: Global,
     answer: &[u8],
@@ -133,7 +135,7 @@ fn bring<W: World>(
     }
 }
 
-/// A whole answer, delivered to OUT.
+/// Delivers the complete output to OUT.
 fn hand_over<W: World>(
     alloc: Global,
     answer: &[u8],

@@ -7,12 +7,13 @@
 //! It hands on what a program of your own may be made of: from `dexasm_plan` the reading of a command line, from `dexasm_run` a job over
 //! any reader and writer, from `dexasm_world` the job and the files.
 //!
-//! docs/MAP.md says where this crate stands among the others.
+//! docs/MAP.md has this crate's place among the others.
 #![tactic(auto)]
 
 // A job carried out, of which the words are plain paths or standard streams.
 mod carrying;
 mod file_source;
+mod heap;
 mod streams;
 
 // What is told of a failure, on a terminal and elsewhere.
