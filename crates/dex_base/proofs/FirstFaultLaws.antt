@@ -2,7 +2,7 @@
 use Rattle.std.proofs.Common.{◌≡◌, ◌⊎◌, ℕ, zero, suc, ◌<◌, ◌≤◌, List, [], ◌∷◌, length, Some, inl, inr, refl, sym, ◌∙◌, subst, arith, slice_get}
 use Rattle.std.proofs.lemmas.Bool.{cases_lt}
 use Rattle.std.proofs.lemmas.Option.{same_Some, slice_get_within}
-use Rattle.dex_base.specs.FirstFault.{or_later, or_else, AllBelow, First, or_first, FirstBroken, or_broken, EntryHolds, EntryFails, FirstEntry}
+use Rattle.dex_base.specs.FirstFault.{or_later, or_else, AllBelow, First, or_first, FirstBroken, or_broken, HoldsAtEntry, EntryFails, FirstEntry}
 
 -- ---- lists of rules
 
@@ -96,7 +96,7 @@ module _ {F : Type 0} {n : ℕ} {Holds : ℕ → Type 0} {wanted : ℕ → F} wh
 -- ---- entries of a list
 
 module _ {A F : Type 0} (xs : List A) (Holds : ℕ → A → Type 0) (Breaks : ℕ → A → F → Type 0) (clear : (i : ℕ) (a : A) (x : F) → Holds i a → Breaks i a x → ⊥) where
-  pub entry_clear : (i : ℕ) (e : F) → EntryHolds xs Holds i → EntryFails xs Breaks i e → ⊥
+  pub entry_clear : (i : ℕ) (e : F) → HoldsAtEntry xs Holds i → EntryFails xs Breaks i e → ⊥
   entry_clear i e hold x = clear i x.entry e (hold x.entry x.there) x.breaks
 
   pub first_entry_one : ((i : ℕ) (a : A) (x y : F) → Breaks i a x → Breaks i a y → x ≡ y) → (e f : F) → FirstEntry xs Holds Breaks e → FirstEntry xs Holds Breaks f → e ≡ f
@@ -114,7 +114,7 @@ pub entries_decided : {A F : Type 0} (xs : List A) (Holds : ℕ → A → Type 0
     → ((i : ℕ) (a : A) → slice_get xs i ≡ Some a → Holds i a) ⊎ ((e : F) × FirstEntry xs Holds Breaks e)
 entries_decided {A} {F} xs Holds Breaks each = all (first_decided entry)
   where
-    entry : (i : ℕ) → i < length xs → EntryHolds xs Holds i ⊎ ((e : F) × EntryFails xs Breaks i e)
+    entry : (i : ℕ) → i < length xs → HoldsAtEntry xs Holds i ⊎ ((e : F) × EntryFails xs Breaks i e)
     entry i lt =
         let at = some_entry xs i lt in
         elim (each i at.0 at.1) [
@@ -122,6 +122,6 @@ entries_decided {A} {F} xs Holds Breaks each = all (first_decided entry)
           | inr found ↦ inr (found.0, record { entry = at.0; there = at.1; breaks = found.1 })
         ]
 
-    all : AllBelow (length xs) (EntryHolds xs Holds) ⊎ ((e : F) × FirstEntry xs Holds Breaks e) → ((i : ℕ) (a : A) → slice_get xs i ≡ Some a → Holds i a) ⊎ ((e : F) × FirstEntry xs Holds Breaks e)
+    all : AllBelow (length xs) (HoldsAtEntry xs Holds) ⊎ ((e : F) × FirstEntry xs Holds Breaks e) → ((i : ℕ) (a : A) → slice_get xs i ≡ Some a → Holds i a) ⊎ ((e : F) × FirstEntry xs Holds Breaks e)
     all (inl hold) = inl (λ i a there. hold i (slice_get_within xs i a there) a there)
     all (inr first) = inr first

@@ -42,8 +42,8 @@ abbrev pub or_broken : {F : Type 0} → ℕ → (ℕ → Type 0) → (ℕ → F)
 or_broken n Holds wanted found after = or_later (FirstBroken n Holds wanted found) (AllBelow n Holds) after
 
 -- Entry i of a list, if there is one, satisfies the rule.
-abbrev pub EntryHolds : {A : Type 0} → List A → (ℕ → A → Type 0) → ℕ → Type 0
-EntryHolds {A} xs Holds i = (x : A) → slice_get xs i ≡ Some x → Holds i x
+abbrev pub HoldsAtEntry : {A : Type 0} → List A → (ℕ → A → Type 0) → ℕ → Type 0
+HoldsAtEntry {A} xs Holds i = (x : A) → slice_get xs i ≡ Some x → Holds i x
 
 -- Entry i of a list violates a rule.
 pub record EntryFails {A F : Type 0} (xs : List A) (Breaks : ℕ → A → F → Type 0) (i : ℕ) (found : F) : Type 0 where
@@ -53,4 +53,4 @@ pub record EntryFails {A F : Type 0} (xs : List A) (Breaks : ℕ → A → F →
 
 -- The first entry of a list that violates a rule, and its fault.
 abbrev pub FirstEntry : {A F : Type 0} → List A → (ℕ → A → Type 0) → (ℕ → A → F → Type 0) → F → Type 0
-FirstEntry xs Holds Breaks = First (length xs) (EntryHolds xs Holds) (EntryFails xs Breaks)
+FirstEntry xs Holds Breaks = First (length xs) (HoldsAtEntry xs Holds) (EntryFails xs Breaks)
