@@ -1,4 +1,4 @@
--- Which bytes spell which code.
+-- Which bytes encode which code.
 -- Page: "Dalvik Executable format", "code_item".
 use Rattle.std.specs.Prelude.{ℕ, ◌≡◌, ◌<◌, List, drop}
 use Rattle.dex_insn.specs.Raw.{Raw}
@@ -10,8 +10,8 @@ use Rattle.code_read.specs.Item.{registers_of, ins_of, outs_of, tries_of, insns_
 use Rattle.code_read.specs.Linked.{SpellsInsns}
 use Rattle.code_read.specs.Tries.{SpellsTries}
 
--- The bytes are the code_item of this code, whichever registers it names, where N says which index stands for which name.
--- debug_info_off and the padding aren't looked at.
+-- The bytes are the code_item of this code, whichever registers it names; N relates an index to the name that it denotes.
+-- debug_info_off and the padding are ignored.
 pub record SpellsBody (N : ℕ → Name → Type 0) (bytes : List ℕ) (c : Code) : Type 0 where
   pub whole : HasFixedParts bytes
   pub some : 0 < insns_size bytes
@@ -27,10 +27,10 @@ pub record SpellsCode (N : ℕ → Name → Type 0) (bytes : List ℕ) (c : Code
   pub body : SpellsBody N bytes c
   pub named : RegistersHold c
 
--- At this place of the section of code items, 4-aligned, stands the code, whichever registers it names.
+-- At this place of the section of code items, 4-aligned, is the code, whichever registers it names.
 abbrev pub BodyStands : (ℕ → Name → Type 0) → List ℕ → ℕ → Code → Type 0
 BodyStands N b off c = At (SpellsBody N) b 0x2001 4 off c
 
--- At this place stands the code.
+-- At this place is the code.
 abbrev pub CodeStands : (ℕ → Name → Type 0) → List ℕ → ℕ → Code → Type 0
 CodeStands N b off c = At (SpellsCode N) b 0x2001 4 off c

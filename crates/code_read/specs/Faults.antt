@@ -1,4 +1,4 @@
--- What a refusal of a code item says: the rule that is broken at its place.
+-- The faults of a code item: the rule that is violated at its place.
 -- Page: "Dalvik Executable format", "code_item", "try_item" and "encoded_catch_handler_list".
 use Rattle.std.specs.Prelude.{ℕ, ◌≡◌, ◌+◌, ◌*◌, ◌%◌, ◌<◌, ◌≤◌, ◌⊎◌, List, ◌++◌, drop, Some}
 use Rattle.dex_base.specs.FirstFault.{or_else, or_broken}
@@ -17,7 +17,7 @@ use Rattle.code_read.specs.Tries.{TryHolds}
 
 -- ---- tries; `base` is the place of the first try_item
 
--- Handlers stand at the front of these bytes, and each of the n try_items has one of them.
+-- These bytes begin with handlers, and each of the n try_items has one of them.
 pub record HasHandlers (N : ℕ → Name → Type 0) (ss : List ℕ) (n : ℕ) (items rest : List ℕ) : Type 0 where
   pub list : List ℕ
   pub after : List ℕ
@@ -61,7 +61,7 @@ CodeBreaks N b off fault =
     or_else (record { code = 60; place = off }) fault (IsInSection b 0x2001 off) (
     (end : ℕ) × (bytes : List ℕ) × IsSectionRest 0x2001 b off end bytes × ItemBreaks N off bytes fault))
 
--- ---- registers, which are looked at last
+-- ---- registers, which are checked last
 
 -- What is wrong with the registers of the code whose item is at `off` (73): its ins are more (the place is the item), or the
 -- first instruction that names one past them (the place is the instruction).
@@ -70,7 +70,7 @@ RegistersBreak off c fault =
     or_else (record { code = 73; place = off }) fault (c.ins ≤ c.registers) (
     (at : ℕ) × IsPast c.registers c.insns at × (fault ≡ record { code = 73; place = off + 16 + 2 * at }))
 
--- A code stands at this place but for its registers.
+-- At this place is a code, apart from its registers.
 pub record CodeOverruns (N : ℕ → Name → Type 0) (b : List ℕ) (off : ℕ) (fault : Fault) : Type 0 where
   pub code : Code
   pub body : BodyStands N b off code

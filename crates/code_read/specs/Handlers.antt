@@ -1,4 +1,4 @@
--- Which bytes spell a code item's handlers.
+-- Which bytes encode a code item's handlers.
 -- Page: "Dalvik Executable format", "encoded_catch_handler_list", "encoded_catch_handler" and "encoded_type_addr_pair".
 use Rattle.std.specs.Prelude.{ℕ, ℤ, pos, negsuc, ◌≡◌, ◌==◌, if◌then◌else◌, List, [], ◌∷◌, ◌++◌, length, Option, Some, None, zero, suc, ⊤, unsigned_abs}
 use Rattle.dex_base.specs.Grammar.{Then, Pair, Many, Placed}

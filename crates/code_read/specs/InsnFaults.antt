@@ -1,4 +1,4 @@
--- What a refusal of the instructions of a code says: the rule that the first instruction breaks, at its place.
+-- The faults of the instructions of a code: the rule that the first instruction violates, at its place.
 -- Pages: "Dalvik bytecode", "Dalvik Executable instruction formats".
 use Rattle.std.specs.Prelude.{ℕ, ◌+◌, ◌*◌, ◌⊎◌, List, length, slice_index}
 use Rattle.dex_base.specs.FirstFault.{or_else, FirstBroken, or_first, or_broken}
@@ -38,6 +38,6 @@ RulesBreak N rs base fault =
     NamesBreak N rs (starts rs) base fault
     ⊎ ((is : List Insn) × AreLinked N rs is × LinkedBreak (starts rs) is base fault)
 
--- What is wrong with the units: after some instructions stands none (62, 63, 64, 66, 67), or those that they are break a rule.
+-- What is wrong with the units: after some instructions there is none (62, 63, 64, 66, 67), or the instructions violate a rule.
 abbrev pub InsnsBreak : (ℕ → Name → Type 0) → List ℕ → ℕ → Fault → Type 0
 InsnsBreak N us base fault = IsWalkFault us base fault ⊎ ((rs : List Raw) × Walks us rs × RulesBreak N rs base fault)

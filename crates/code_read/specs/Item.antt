@@ -1,4 +1,4 @@
--- The fixed parts of a code_item, as fields of the bytes from its first one on. What stands after the item isn't looked at.
+-- The fixed parts of a code_item, as fields of the bytes from its first one on. The bytes after the item are ignored.
 -- Page: "Dalvik Executable format", "code_item" and "try_item".
 use Rattle.std.specs.Prelude.{ℕ, ◌+◌, ◌*◌, ◌%◌, ◌≤◌, List, length, slice_range, ◌==◌, if◌then◌else◌}
 use Rattle.dex_base.specs.Fields.{u16_at, u32_at}

@@ -1,5 +1,5 @@
--- Which units spell which instructions of a code. The raw instructions are linked: each offset is the number of the instruction
--- that it leads to. Linked, they keep the rules of programs.
+-- Which units encode which instructions of a code. The raw instructions are linked: each offset becomes the number of its target
+-- instruction. The linked instructions keep the rules of programs.
 -- Pages: "Dalvik bytecode": goto, packed-switch, sparse-switch, fill-array-data and the notes on branch offsets; "Dalvik
 -- Executable instruction formats".
 use Rattle.std.specs.Prelude.{ℕ, ℤ, ◌≡◌, ◌<◌, List, length, unwrap_or, Option, Some, None}
@@ -15,7 +15,7 @@ use Rattle.code_read.specs.Places.{target_at}
 use Rattle.code_read.specs.Walk.{Walks, starts, raw_at, address}
 use Rattle.code_read.specs.Symbols.{Says, InsnHasName}
 
--- the number of the instruction that an offset leads to from the address `base`: if there is none, the number after the last
+-- the number of the target instruction of an offset from the address `base`: if there is none, the number after the last
 unfoldable pub lead : List ℕ → ℕ → ℤ → ℕ
 lead ss base offset = unwrap_or (target_at ss base offset) (length ss)
 
@@ -26,7 +26,7 @@ payload_of (raw.Sparse keys offsets) = Some payload.SparseSwitch
 payload_of (raw.Data width bytes) = Some payload.Array
 payload_of _ = None
 
--- the index of instruction k, if it has one, stands for a name
+-- the index of instruction k, if it has one, denotes a name
 abbrev pub NameHolds : (ℕ → Name → Type 0) → List Raw → ℕ → Type 0
 NameHolds N rs k = InsnHasName N (raw_at rs k)
 

@@ -1,4 +1,4 @@
--- What a raw instruction says: an index stands for a name, and an offset leads to an instruction.
+-- The meaning of a raw instruction: an index denotes a name, and an offset has a target instruction.
 -- Page: "Dalvik bytecode": string@, type@, field@ and method@ indices, and "Dalvik Executable instruction formats": the letters
 -- c and t of a format's ID.
 use Rattle.std.specs.Prelude.{ℕ, ℤ, ◌≡◌, zero, suc, ◌+◌, ◌/◌, List, [], ◌∷◌, length, map, ⊤}
@@ -12,16 +12,16 @@ use Rattle.program_types.specs.Content as made
 
 -- ---- names
 
--- Index i of an instruction with this opcode stands for the name, where N says which index stands for which name.
+-- Index i of an instruction with this opcode denotes the name; N relates an index to its name.
 pub record IndexStandsFor (N : ℕ → Name → Type 0) (op i : ℕ) (which : Name) : Type 0 where
   pub kind : IsOfIndexKind (index_kind_of op) which
   pub stands : N i which
 
--- index i of an instruction with this opcode stands for some name
+-- index i of an instruction with this opcode denotes some name
 abbrev pub SomeName : (ℕ → Name → Type 0) → ℕ → ℕ → Type 0
 SomeName N op i = (which : Name) × IndexStandsFor N op i which
 
--- the instruction's index, if it has one, stands for the name
+-- the instruction's index, if it has one, denotes the name
 abbrev pub InsnNames : (ℕ → Name → Type 0) → Raw → Name → Type 0
 InsnNames N (raw.I21c op a index) which = IndexStandsFor N op index which
 InsnNames N (raw.I22c op a b index) which = IndexStandsFor N op index which
@@ -30,7 +30,7 @@ InsnNames N (raw.I35c op n regs index) which = IndexStandsFor N op index which
 InsnNames N (raw.I3rc op n first index) which = IndexStandsFor N op index which
 InsnNames N _ which = ⊤
 
--- the instruction's index, if it has one, stands for some name
+-- the instruction's index, if it has one, denotes some name
 abbrev pub InsnHasName : (ℕ → Name → Type 0) → Raw → Type 0
 InsnHasName N (raw.I21c op a index) = SomeName N op index
 InsnHasName N (raw.I22c op a b index) = SomeName N op index
@@ -61,7 +61,7 @@ ints bytes = ints_from bytes 0 (length bytes / 4)
 
 -- ---- both
 
--- the symbolic instruction with this name for its index, where T says which instruction an offset leads to
+-- the symbolic instruction with this name for its index; T gives the target instruction of an offset
 unfoldable pub linked : (ℤ → ℕ) → Name → Raw → Insn
 linked T which (raw.I10x op) = made.I10x op
 linked T which (raw.I12x op a b) = made.I12x op a b
@@ -91,7 +91,7 @@ linked T which (raw.Packed first offsets) = made.Packed first (map T (ints offse
 linked T which (raw.Sparse keys offsets) = made.Sparse (ints keys) (map T (ints offsets))
 linked T which (raw.Data width bytes) = made.Data width bytes
 
--- The raw instruction says what the symbolic one does, where T says which instruction an offset leads to.
+-- The raw instruction means the symbolic one; T gives the target instruction of an offset.
 pub record Says (N : ℕ → Name → Type 0) (T : ℤ → ℕ) (r : Raw) (i : Insn) : Type 0 where
   pub symbol : linked T (name_in i) r ≡ i
   pub named : InsnNames N r (name_in i)

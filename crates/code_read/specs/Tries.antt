@@ -1,4 +1,4 @@
--- Which try_items and handlers spell which tries.
+-- Which try_items and handlers encode which tries.
 -- Page: "Dalvik Executable format", "code_item": tries, and "try_item".
 use Rattle.std.specs.Prelude.{ℕ, ◌≡◌, ◌+◌, ◌<◌, ◌≤◌, List, length, Some}
 use Rattle.program_types.specs.Content.{Name, Try}
@@ -20,13 +20,13 @@ pub record TryHolds (ss : List ℕ) (size : ℕ) (items : List ℕ) (i : ℕ) : 
 abbrev pub handler_of : Try → Handler
 handler_of t = record { catches = t.catches; all = t.catch_all }
 
--- Try_item i spells the try: it covers the instructions whose addresses lie in its range, and its handler is the one at handler_off.
+-- Try_item i encodes the try: it covers the instructions whose addresses are in its range, and its handler is the one at handler_off.
 pub record SpellsTry (ss : List ℕ) (items : List ℕ) (hs : List (ℕ × Handler)) (i : ℕ) (t : Try) : Type 0 where
   pub from : position ss (try_start items i) ≡ Some t.from
   pub to : t.to ≡ count_below (try_start items i + try_count items i) ss
   pub handler : handler_at hs (try_handler items i) ≡ Some (handler_of t)
 
--- The n try_items and the handlers spell the tries.
+-- The n try_items and the handlers encode the tries.
 pub record SpellsTries (N : ℕ → Name → Type 0) (ss : List ℕ) (size n : ℕ) (items list : List ℕ) (ts : List Try) : Type 0 where
   pub count : length ts ≡ n
   pub hold : AllHold (TryHolds ss size items) n

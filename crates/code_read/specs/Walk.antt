@@ -8,7 +8,7 @@ use Rattle.dex_insn.specs.RawInsns.{InsnStands}
 use Rattle.dex_insn.specs.Flaws.{IsFaultAt}
 use Rattle.program_types.specs.Sizes.{starts_from}
 
--- the instructions stand end to end from unit `at` to unit `end`
+-- the instructions are end to end from unit `at` to unit `end`
 abbrev pub Run : List ℕ → ℕ → List Raw → ℕ → Type 0
 Run us at [] end = at ≡ end
 Run us at (r ∷ rs) end = InsnStands us at r × Run us (at + units r) rs end
@@ -29,7 +29,7 @@ raw_at rs k = slice_index_or rs k (raw.I10x 0)
 abbrev pub address : List Raw → ℕ → ℕ
 address rs k = slice_index (starts rs) k
 
--- After the instructions so far stands none, for this reason; the first unit is at the place `base`.
+-- After the instructions so far there is none, for this reason; the first unit is at the place `base`.
 pub record IsWalkFault (us : List ℕ) (base : ℕ) (fault : Fault) : Type 0 where
   pub before : List Raw
   pub at : ℕ

@@ -1,11 +1,11 @@
--- The rules of branches and switches one by one, as files and programs are asked for them, and from where offsets count.
+-- The rules of branches and switches one by one, for files and for programs, and the origin of offsets.
 -- Page: "Dalvik bytecode": goto, packed-switch, sparse-switch.
 use Rattle.std.specs.Prelude.{ℕ, ◌≡◌, ◌≢◌, ◌≤◌, ◌⊎◌, List, IfSome}
 use Rattle.std.specs.List.{AllByRecursion}
 use Rattle.program_types.specs.Content.{Insn}
 use Rattle.program_types.specs.Formed.{insn_at, insn_payload, insn_branch, insn_short_branch, insn_targets, IsSwitch, IsTarget, RefersToPayload}
 
--- a branch leads to an instruction that is no payload
+-- a branch targets an instruction that is no payload
 abbrev pub BranchLands : List Insn → ℕ → Type 0
 BranchLands is k = IfSome (insn_branch (insn_at is k)) (IsTarget is)
 

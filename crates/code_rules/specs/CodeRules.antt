@@ -16,7 +16,7 @@ pub record OperandsHold (c : Code) : Type 0 where
   pub few : length c.insns ≤ 2147483647
   pub operands : (k : ℕ) → k < length c.insns → FitsFields (insn_at c.insns k)
 
--- Branches and switches lead to instructions.
+-- Branches and switches target instructions.
 abbrev pub TargetsHold : Code → Type 0
 TargetsHold c = (k : ℕ) → k < length c.insns → TargetHolds c.insns k
 

@@ -37,7 +37,7 @@ column_text _ _ none number = none
 abbrev pub fault_name : ℕ → List ℕ
 fault_name number = column_text numbers names unknown number
 
--- what is wrong where it stands
+-- what is wrong at its place
 abbrev pub fault_sentence : ℕ → List ℕ
 fault_sentence number = column_text numbers sentences no_fault number
 

@@ -1,19 +1,19 @@
--- A grammar relates the bytes of one spelling to the value that they spell: no place, and nothing after it.
--- The words here say where a spelling stands, and make a grammar of others.
+-- A grammar relates the bytes of one encoding to the value that they encode: without a place, and nothing after them.
+-- The definitions here place an encoding in bytes, and combine grammars.
 use Rattle.std.specs.Prelude.{◌≡◌, ℕ, ◌+◌, ◌≤◌, List, [], ◌∷◌, ◌++◌, length, take}
 
--- ---- where a spelling stands
+-- ---- the place of an encoding
 
--- The first `len` bytes spell `v`.
+-- The first `len` bytes encode `v`.
 pub record Begins {V : Type 0} (G : List ℕ → V → Type 0) (bytes : List ℕ) (v : V) (len : ℕ) : Type 0 where
   pub inside : len ≤ length bytes
   pub spelled : G (take len bytes) v
 
--- No front of the bytes spells a value.
+-- No prefix of the bytes encodes a value.
 abbrev pub NoneBegins : {V : Type 0} → (List ℕ → V → Type 0) → List ℕ → Type 0
 NoneBegins {V} G bytes = (front rest : List ℕ) (v : V) → bytes ≡ front ++ rest → G front v → ⊥
 
--- At the front of the bytes stands `v`, and this rest follows.
+-- The bytes begin with an encoding of `v`, and this rest follows.
 pub record Takes {V : Type 0} (G : List ℕ → V → Type 0) (bytes : List ℕ) (v : V) (rest : List ℕ) : Type 0 where
   pub front : List ℕ
   pub whole : bytes ≡ front ++ rest
@@ -25,7 +25,7 @@ pub record Appends {V : Type 0} (G : List ℕ → V → Type 0) (old new : List 
   pub joined : new ≡ old ++ bytes
   pub spelled : G bytes v
 
--- No spelling begins another one, and it spells one value.
+-- No encoding is a prefix of another one, and each encodes one value.
 abbrev pub IsPrefixUnique : {V : Type 0} → (List ℕ → V → Type 0) → Type 0
 IsPrefixUnique {V} G = (a b x y : List ℕ) (v w : V) → G a v → G b w → a ++ x ≡ b ++ y → (a ≡ b) × (v ≡ w)
 
@@ -57,11 +57,11 @@ Placed G place bytes (p ∷ ps) = (front : List ℕ) × (back : List ℕ) × (by
 abbrev pub Many : {V : Type 0} → (List ℕ → V → Type 0) → ℕ → List ℕ → List V → Type 0
 Many G n bytes vs = (length vs ≡ n) × Each G bytes vs
 
--- A spelled count, and after it so many values.
+-- An encoded count, followed by so many values.
 abbrev pub Counted : {V : Type 0} → (List ℕ → ℕ → Type 0) → (List ℕ → V → Type 0) → List ℕ → List V → Type 0
 Counted C G bytes vs = Then C (Many G) bytes (length vs, vs)
 
--- What spells `view u` spells `u`.
+-- What encodes `view u` encodes `u`.
 abbrev pub Seen : {U V : Type 0} → (U → V) → (List ℕ → V → Type 0) → List ℕ → U → Type 0
 Seen view G bytes u = G bytes (view u)
 

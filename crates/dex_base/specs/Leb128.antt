@@ -12,7 +12,7 @@ abbrev pub low_first : List ℕ → ℕ
 low_first [] = 0
 low_first (b ∷ bs) = b % 128 + 128 * low_first bs
 
--- One to five bytes spell the unsigned number `n` of 32 bits (the page's uleb128).
+-- One to five bytes encode the unsigned number `n` of 32 bits (the page's uleb128).
 pub record Spells (bytes : List ℕ) (n : ℕ) : Type 0 where
   pub short : length bytes ≤ 5
   pub sequence : IsSequence bytes
@@ -26,7 +26,7 @@ signed_low_first bytes =
     then pos (low_first bytes)
     else pos (low_first bytes) -ℤ pos (128 ^ length bytes)
 
--- One to five bytes spell the signed number `z` of 32 bits (the page's sleb128).
+-- One to five bytes encode the signed number `z` of 32 bits (the page's sleb128).
 pub record SpellsSigned (bytes : List ℕ) (z : ℤ) : Type 0 where
   pub short : length bytes ≤ 5
   pub sequence : IsSequence bytes

@@ -1,7 +1,7 @@
--- A grammar through a relation: bytes spell a number or a pair, and that stands for the value.
+-- A grammar through a relation: bytes encode a number or a pair, which denotes the value.
 use Rattle.std.specs.Prelude.{ℕ, List}
 
--- What the bytes spell by G stands for the value by R.
+-- What the bytes encode by G denotes the value by R.
 pub record Via {U V : Type 0} (G : List ℕ → U → Type 0) (R : U → V → Type 0) (bytes : List ℕ) (v : V) : Type 0 where
   pub raw : U
   pub spelled : G bytes raw

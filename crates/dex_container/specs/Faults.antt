@@ -10,7 +10,7 @@ use Rattle.dex_container.specs.Frame.{HasMagic, HasVersion, HasChecksum, HasSign
 abbrev pub on : ℕ → ℕ → Type 0 → Type 0 → Type 0
 on code number P Q = MatchBool (code == number) P Q
 
--- The fault of this number stands at this place.
+-- The fault of this number is at this place.
 abbrev pub FrameBreaks : List ℕ → ℕ → ℕ → Type 0
 FrameBreaks b code place =
     on code 1 ((length b < 112) × (place ≡ length b)) (
@@ -30,11 +30,11 @@ FrameBreaks b code place =
     ⊎ ((k : ℕ) × (k < 6) × (0 < size_of b k) × (¬ HasKind b (k + 1)) × (place ≡ size_field k)))
     ⊥)))))))))))))
 
--- No fault of a lower number stands.
+-- There is no fault of a lower number.
 abbrev pub IsClearBelow : List ℕ → ℕ → Type 0
 IsClearBelow b code = (c place : ℕ) → FrameBreaks b c place → code ≤ c
 
--- The fault stands, with the lowest number that stands and at its lowest place.
+-- The fault has the lowest number of all faults, at its lowest place.
 pub record IsFrameFault (b : List ℕ) (fault : Fault) : Type 0 where
   pub stands : FrameBreaks b fault.code fault.place
   pub number : IsClearBelow b fault.code

@@ -1,4 +1,4 @@
--- Which bytes have a header and a map as the format asks (Dalvik Executable format, "header_item" and "map_list"),
+-- Which bytes have a header and a map as the format requires (Dalvik Executable format, "header_item" and "map_list"),
 -- with the rules that this library adds: docs/FORMAT.md has them all in words.
 use Rattle.std.specs.Prelude.{◌⊎◌, ◌-◌, nat_lt, min, ◌&&◌, if◌then◌else◌, ◌≡◌, ◌≢◌, ℕ, ◌+◌, ◌*◌, ◌%◌, ◌<◌, ◌≤◌, List, length, take, drop, slice_index}
 use Rattle.dex_base.specs.Fields.{u16_at, u32_at}
@@ -40,13 +40,13 @@ pub record SumsHold (b : List ℕ) : Type 0 where
   pub checksum : HasChecksum b
   pub signature : HasSignature b
 
--- A section of size above 0 stands after the header, within the file, a table 4-aligned.
+-- A section of size above 0 is after the header and within the file, a table 4-aligned.
 pub record SectionIsPlaced (b : List ℕ) (k : ℕ) : Type 0 where
   pub aligned : k < 6 → offset_of b k % 4 ≡ 0
   pub after : 112 ≤ offset_of b k
   pub within : offset_of b k + row_bytes k * size_of b k ≤ length b
 
--- Section k is empty, or stands so. The offset of an empty one isn't looked at.
+-- Section k is empty, or placed so. The offset of an empty one is ignored.
 abbrev pub SectionHolds : List ℕ → ℕ → Type 0
 SectionHolds b k = 0 < size_of b k → SectionIsPlaced b k
 
@@ -54,13 +54,13 @@ SectionHolds b k = 0 < size_of b k → SectionIsPlaced b k
 abbrev pub HasFewRows : List ℕ → ℕ → Type 0
 HasFewRows b k = size_of b k ≤ 65535
 
--- All sections stand so, and types and protos have few rows.
+-- All sections are placed so, and types and protos have few rows.
 pub record SectionsHold (b : List ℕ) : Type 0 where
   pub each : (k : ℕ) → k < 7 → SectionHolds b k
   pub types : HasFewRows b section.type_ids
   pub protos : HasFewRows b section.proto_ids
 
--- The map stands 4-aligned in the data section, with all its entries.
+-- The map is 4-aligned in the data section, with all its entries.
 pub record MapIsPlaced (b : List ℕ) : Type 0 where
   pub aligned : map_place b % 4 ≡ 0
   pub after : data_begin b ≤ map_place b
@@ -71,7 +71,7 @@ abbrev pub IsKind : ℕ → Type 0
 IsKind kind =
     (kind ≤ 6) ⊎ (((0x1000 ≤ kind) × (kind ≤ 0x1003)) ⊎ (((0x2000 ≤ kind) × (kind ≤ 0x2006)) ⊎ (kind ≡ 0xF000)))
 
--- What stands at entry i ends before this: the place that the next entry names.
+-- The items of entry i end before this: the place of the next entry.
 abbrev pub EndsBeforeNext : List ℕ → ℕ → ℕ → Type 0
 EndsBeforeNext b i end = i + 1 < entry_count b → end ≤ place_at b (i + 1)
 
@@ -79,7 +79,7 @@ EndsBeforeNext b i end = i + 1 < entry_count b → end ≤ place_at b (i + 1)
 abbrev pub HeaderEntryHolds : List ℕ → ℕ → Type 0
 HeaderEntryHolds b i = kind_at b i ≡ 0 → (place_at b i ≡ 0) × (items_at b i ≡ 1)
 
--- Entry i says of table k what the header says, and the table ends before the next entry's items.
+-- Entry i has the header's values for table k, and the table ends before the next entry's items.
 pub record IsTableEntry (b : List ℕ) (i k : ℕ) : Type 0 where
   pub items : items_at b i ≡ size_of b k
   pub place : place_at b i ≡ offset_of b k

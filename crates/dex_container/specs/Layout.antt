@@ -1,4 +1,4 @@
--- Where the fields of header_item and the entries of map_list stand, and what they say
+-- The places and values of the fields of header_item and of the entries of map_list
 -- (Dalvik Executable format, "header_item" and "map_list").
 use Rattle.std.specs.Prelude.{ℕ, ◌+◌, ◌*◌, List, ◌∷◌, [], slice_index}
 use Rattle.dex_base.specs.Fields.{u16_at, u32_at}
@@ -29,7 +29,7 @@ data_begin b = offset_of b 6
 abbrev pub data_end : List ℕ → ℕ
 data_end b = offset_of b 6 + size_of b 6
 
--- where the map stands
+-- the place of the map
 unfoldable pub map_place : List ℕ → ℕ
 map_place b = u32_at b 52
 
@@ -37,7 +37,7 @@ map_place b = u32_at b 52
 unfoldable pub entry_count : List ℕ → ℕ
 entry_count b = u32_at b (map_place b)
 
--- where its entry i stands
+-- the place of its entry i
 abbrev pub entry_place : List ℕ → ℕ → ℕ
 entry_place b i = map_place b + 4 + 12 * i
 
@@ -49,10 +49,10 @@ map_end b = map_place b + 4 + 12 * entry_count b
 unfoldable pub kind_at : List ℕ → ℕ → ℕ
 kind_at b i = u16_at b (entry_place b i)
 
--- how many items of the kind there are, as entry i says
+-- how many items of the kind there are, by entry i
 unfoldable pub items_at : List ℕ → ℕ → ℕ
 items_at b i = u32_at b (entry_place b i + 4)
 
--- where they begin, as entry i says
+-- where they begin, by entry i
 unfoldable pub place_at : List ℕ → ℕ → ℕ
 place_at b i = u32_at b (entry_place b i + 8)

@@ -1,4 +1,4 @@
--- Where items of the data section stand (Dalvik Executable format, "map_list" and the items' own sections).
+-- The places of items of the data section (Dalvik Executable format, "map_list" and the items' own sections).
 use Rattle.std.specs.Prelude.{◌≡◌, ℕ, ◌+◌, ◌-◌, ◌%◌, ◌<◌, ◌≤◌, ◌==◌, List, [], length, take, drop, MatchBool}
 use Rattle.dex_container.specs.Frame.{IsSection}
 use Rattle.dex_container.specs.declared.section.Section.{Section}
@@ -23,7 +23,7 @@ pub record IsSectionRest (kind : ℕ) (b : List ℕ) (place end : ℕ) (bytes : 
   pub before : place < end
   pub same : bytes ≡ take (end - place) (drop place b)
 
--- A slice that begins at this place lies wholly in the section of the kind, is aligned, and spells the value.
+-- A slice that begins at this place lies wholly within the section of the kind, is aligned, and encodes the value.
 pub record At {V : Type 0} (G : List ℕ → V → Type 0) (b : List ℕ) (kind align place : ℕ) (v : V) : Type 0 where
   pub begin : ℕ
   pub end : ℕ
@@ -34,7 +34,7 @@ pub record At {V : Type 0} (G : List ℕ → V → Type 0) (b : List ℕ) (kind 
   pub within : place + size ≤ end
   pub spelled : G (slice b place size) v
 
--- The offset 0 stands for the empty list.
+-- The offset 0 means the empty list.
 abbrev pub AtOrNone : {V : Type 0} → (List ℕ → List V → Type 0) → List ℕ → ℕ → ℕ → ℕ → List V → Type 0
 AtOrNone G b kind align place vs = MatchBool (place == 0) (vs ≡ []) (At G b kind align place vs)
 

@@ -21,7 +21,7 @@ has_zero_byte _ = false
 abbrev pub format_at : List ℕ → Option Format
 format_at us = format_of (field us 0 0 8)
 
--- the units of a payload's head, which says its length, by the identifier in the first unit
+-- the units of a payload's head, which has its length, by the identifier in the first unit
 abbrev pub head_units : List ℕ → ℕ
 head_units us = if field us 0 8 8 == 3 then 4 else 2
 
@@ -56,7 +56,7 @@ InsnBreaks at us code =
     or_else 66 code (format_at us ≡ Some F35c → field us 0 12 4 ≤ 5) (
     PayloadBreaks at us code)))))
 
--- Each rule is kept, asked alone.
+-- Each rule is kept, by itself.
 pub record KeepsRules (at : ℕ) (us : List ℕ) : Type 0 where
   pub unit : 2 ≤ length us
   pub opcode : format_at us ≢ None

@@ -1,4 +1,4 @@
--- What the table says of an opcode ("Dalvik bytecode", "Summary of bytecode set").
+-- The row of an opcode in the table ("Dalvik bytecode", "Summary of bytecode set").
 use Rattle.std.specs.Prelude.{ℕ, Bool, true, false, List, map, get_or, Option, Some, None, option_map}
 use Rattle.dex_insn.specs.declared.opcode.Opcode.{Opcode}
 use Rattle.dex_insn.specs.declared.opcode.IndexKind.{IndexKind}

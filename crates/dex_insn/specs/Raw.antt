@@ -35,7 +35,7 @@ pub data Raw : Type 0 where
   Sparse : List ℕ → List ℕ → Raw
   Data : ℕ → List ℕ → Raw
 
--- what an instruction in memory says
+-- the content of an instruction in memory
 unfoldable pub raw : RawInsn → Raw
 raw (made.I10x op) = I10x op
 raw (made.I12x op a b) = I12x op a b
@@ -77,7 +77,7 @@ sparse_units n = 2 + 4 * n
 abbrev pub data_units : ℕ → ℕ
 data_units n = 4 + (n + 1) / 2
 
--- how many units spell the instruction
+-- the number of units of the instruction
 unfoldable pub units : Raw → ℕ
 units (I10x op) = 1
 units (I12x op a b) = 1

@@ -74,7 +74,7 @@ SpellsInsn us (Data width bytes) =
 abbrev pub IsPayload : List ℕ → Type 0
 IsPayload us = (field us 0 0 8 ≡ 0) × (0 < field us 0 8 8) × (field us 0 8 8 ≤ 3)
 
--- the instruction stands at unit `at` of the bytes, a payload at an even unit
+-- the instruction is at unit `at` of the bytes, a payload at an even unit
 pub record InsnStands (bytes : List ℕ) (at : ℕ) (r : Raw) : Type 0 where
   pub spelled : SpellsInsn (drop (2 * at) bytes) r
   pub even : IsPayload (drop (2 * at) bytes) → at % 2 ≡ 0

@@ -1,4 +1,4 @@
--- What a refusal of an encoded_array says: what is wrong with the bytes at its place.
+-- The faults of an encoded_array: what is wrong with the bytes at its place.
 -- Page: "Dalvik Executable format", "encoded_value encoding" and "encoded_array format".
 use Rattle.std.specs.Prelude.{◌≡◌, ℕ, zero, suc, ◌⊎◌, ◌+◌, ◌-◌, ◌/◌, ◌%◌, ◌<◌, ◌≤◌, ◌==◌, if◌then◌else◌, List, [], ◌∷◌, length, take}
 use Rattle.dex_base.specs.Grammar.{Takes, NoneBegins, Each}
@@ -76,7 +76,7 @@ pub record HasNoCount (limit : ℕ) (bytes : List ℕ) : Type 0 where
 abbrev pub IsNameOfType : ℕ → Name → Type 0
 IsNameOfType type which = value_type_of which ≡ (if type == 0x1b then 0x19 else type)
 
--- The index of the value that begins here stands for no name.
+-- The index of the value that begins here denotes no name.
 pub record NamesNothing (N : ℕ → Name → Type 0) (bytes : List ℕ) : Type 0 where
   pub head : ℕ
   pub rest : List ℕ
@@ -98,7 +98,7 @@ kind_fault end bytes = record { code = 50; place = end - length bytes }
 abbrev pub depth_fault : ℕ → List ℕ → Fault
 depth_fault end bytes = record { code = 51; place = end - length bytes }
 
--- Wrong is the value itself that begins here, in the order in which it is looked at.
+-- The value itself that begins here is wrong, in the order of its checks.
 abbrev pub OwnBreaks : (ℕ → Name → Type 0) → ℕ → ℕ → ℕ → List ℕ → Fault → Type 0
 OwnBreaks N off end limit bytes fault =
     (IsUnknown bytes × (fault ≡ kind_fault end bytes))
@@ -106,7 +106,7 @@ OwnBreaks N off end limit bytes fault =
     ⊎ ((IsEnded bytes ⊎ IsCut bytes ⊎ HasNoCount limit bytes) × (fault ≡ values_fault off))
     ⊎ (NamesNothing N bytes × (fault ≡ kind_fault end bytes))
 
--- Of n values some are spelled here by G, and at the next one stands the fault.
+-- Of n values some are encoded here by G, and the next one has the fault.
 pub record NextBreaks (G : List ℕ → Value → Type 0) (ArrayBreaksAt : List ℕ → Fault → Type 0) (n : ℕ) (bytes : List ℕ) (fault : Fault) : Type 0 where
   pub before : List Value
   pub left : List ℕ

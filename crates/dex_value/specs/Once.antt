@@ -1,4 +1,4 @@
--- Arrays in the fewest bytes: values are spelled in one way.
+-- Arrays in the fewest bytes: values have one encoding.
 -- Page: "Dalvik Executable format", "encoded_array format".
 use Rattle.std.specs.Prelude.{◌≡◌, ℕ, List}
 use Rattle.dex_base.specs.Fields.{AreBytes}

@@ -1,4 +1,4 @@
--- What the private functions of reading say.
+-- The contracts of the private functions of reading.
 use Rattle.std.specs.Prelude.{◌≡◌, ℕ, List}
 use Rattle.program_types.specs.Content.{Name, Value, Byte, Short, Char, Int, Long, Float, Double, Enum}
 use Rattle.dex_insn.specs.declared.opcode.IndexKind.{IndexKind}

@@ -1,4 +1,4 @@
--- Which bytes spell which value.
+-- Which bytes encode which value.
 -- Page: "Dalvik Executable format", "encoded_value encoding", "Value formats" and "encoded_array format".
 use Rattle.std.specs.Prelude.{◌≡◌, ℕ, suc, ℤ, ◌+◌, ◌*◌, ◌-◌, ◌^◌, ◌<◌, ◌≤◌, List, [], ◌∷◌, ◌++◌, length, slice_index, true, false}
 use Rattle.byteorder.specs.Endian.{little_number, twos_complement}
@@ -52,7 +52,7 @@ pub record After (n : ℕ) (Means : List ℕ → Type 0) (bytes : List ℕ) : Ty
   pub counted : Spells count n
   pub means : Means back
 
--- The bytes of one value, and those of values one after the other, where `N` says which index stands for which name.
+-- The bytes of one value, and those of values one after the other; `N` relates an index to the name that it denotes.
 abbrev mutual
   pub SpellsValue : (ℕ → Name → Type 0) → List ℕ → Value → Type 0
   SpellsValue N bytes (Byte n) = Sized 0x00 1 (λ low. n ≡ signed_of low) bytes

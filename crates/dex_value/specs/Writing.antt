@@ -1,4 +1,4 @@
--- What the private functions of writing say.
+-- The contracts of the private functions of writing.
 use Rattle.std.specs.Prelude.{◌≡◌, ℕ, List}
 use Rattle.dex_value.specs.Spelling.{Sized, unsigned_of}
 

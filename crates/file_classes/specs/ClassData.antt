@@ -44,7 +44,7 @@ counts_of e = (length e.statics, (length e.instances, (length e.directs, length 
 abbrev pub lists_of : Entries → List FieldEntry × (List FieldEntry × (List MethodEntry × List MethodEntry))
 lists_of e = (e.statics, (e.instances, (e.directs, e.virtuals)))
 
--- The bytes spell a field's entry, a method's, four counts, and so many entries of each list, where N spells a number.
+-- The bytes encode a field's entry, a method's, four counts, and so many entries of each list; N encodes a number.
 abbrev pub SpellsFieldEntry : (List ℕ → ℕ → Type 0) → List ℕ → FieldEntry → Type 0
 SpellsFieldEntry N = Pair N N
 
@@ -56,7 +56,7 @@ SpellsMethodEntry N = Pair N (Pair N N)
 abbrev pub SpellsCounts : (List ℕ → ℕ → Type 0) → List ℕ → ℕ × (ℕ × (ℕ × ℕ)) → Type 0
 SpellsCounts N = Pair N (Pair N (Pair N N))
 
--- The bytes spell so many entries of each list.
+-- The bytes encode so many entries of each list.
 abbrev pub SpellsLists : (List ℕ → ℕ → Type 0) → ℕ × (ℕ × (ℕ × ℕ)) → List ℕ → List FieldEntry × (List FieldEntry × (List MethodEntry × List MethodEntry)) → Type 0
 SpellsLists N n = Pair (Many (SpellsFieldEntry N) n.0) (Pair (Many (SpellsFieldEntry N) n.1.0) (Pair (Many (SpellsMethodEntry N) n.1.1.0) (Many (SpellsMethodEntry N) n.1.1.1)))
 
@@ -78,12 +78,12 @@ steps {R} es = map (λ (e : ℕ × R). e.0) es
 abbrev pub index_of : List ℕ → ℕ → ℕ
 index_of differences k = sum (take (k + 1) differences)
 
--- The first n entries stand for these, each by its index: all differences but the first are above 0.
+-- The first n entries denote these, each by its index: all differences but the first are above 0.
 pub record FirstEntriesAre {R V : Type 0} (M : ℕ → ℕ × R → V → Type 0) (es : List (ℕ × R)) (n : ℕ) (vs : List V) : Type 0 where
   pub count : length vs ≡ n
   pub each : (k : ℕ) (e : ℕ × R) (v : V) → slice_get es k ≡ Some e → slice_get vs k ≡ Some v → M (index_of (steps es) k) e v
   pub rises : (k : ℕ) → 0 < k → k < n → 0 < slice_index (steps es) k
 
--- All entries stand for these.
+-- All entries denote these.
 abbrev pub EntriesAre : {R V : Type 0} → (ℕ → ℕ × R → V → Type 0) → List (ℕ × R) → List V → Type 0
 EntriesAre M es vs = FirstEntriesAre M es (length es) vs

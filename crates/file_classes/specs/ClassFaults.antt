@@ -96,7 +96,7 @@ pub record MemberBreaks (b : List ℕ) (i code : ℕ) : Type 0 where
   pub class_data : EntriesAt b (class_data_off b i) entries
   pub breaks : MembersBreak b class entries code
 
--- The rule that row i of class_defs breaks: the first, since each is asked only where those before it hold.
+-- The rule that row i of class_defs violates: the first, since each is checked only if those before it are satisfied.
 unfoldable pub ClassRowBreaks : List ℕ → ℕ → ℕ → Type 0
 ClassRowBreaks b i code =
     or_else 40 code (NamesAreIn b i) (
@@ -129,11 +129,11 @@ pub record ValuesStand (b : List ℕ) (i : ℕ) (vs : List Value) : Type 0 where
 abbrev pub ValuesHold : List ℕ → ℕ → Type 0
 ValuesHold b i = (vs : List Value) × ValuesStand b i vs
 
--- A fault of an array (48 Values, 49 TooManyValues) stands at the row, one of a value (50 ValueKind, 51 ValueDepth) at the value.
+-- A fault of an array (48 Values, 49 TooManyValues) is at the row, one of a value (50 ValueKind, 51 ValueDepth) at the value.
 abbrev pub at_row : ℕ → Fault → Fault
 at_row place fault = if (fault.code == 48) || (fault.code == 49) then record { code = fault.code; place = place } else fault
 
--- Row i names an array, and a fault stands in it.
+-- Row i names an array, which has a fault.
 pub record ValuesBreak (b : List ℕ) (i : ℕ) (fault : Fault) : Type 0 where
   pub entries : Entries
   pub class_data : EntriesAt b (class_data_off b i) entries
@@ -156,11 +156,11 @@ pub record SomeBodyStands (b : List ℕ) (place : ℕ) (code : Option Code) : Ty
 abbrev pub BodyAt : List ℕ → ℕ → Option Code → Type 0
 BodyAt b place code = MatchBool (place == 0) (code ≡ None) (SomeBodyStands b place code)
 
--- The body at an offset, if any, stands.
+-- The body at an offset, if any, is valid.
 abbrev pub BodyHolds : List ℕ → ℕ → Type 0
 BodyHolds b place = (code : Option Code) × BodyAt b place code
 
--- The code at an offset, if any, stands.
+-- The code at an offset, if any, is valid.
 abbrev pub CodeHolds : List ℕ → ℕ → Type 0
 CodeHolds b place = (code : Option Code) × CodeAt b place code
 
@@ -178,7 +178,7 @@ pub record RegistersFail (b : List ℕ) (place : ℕ) (fault : Fault) : Type 0 w
   pub of_file : AreNamesOf b names
   pub breaks : CodeOverruns (NameIsAt names) b place fault
 
--- Holds and Fails are what a pass asks at an offset.
+-- Holds and Fails are the conditions of a pass at an offset.
 -- Each of these methods holds.
 abbrev pub EachCodeHolds : (List ℕ → ℕ → Type 0) → List ℕ → List MethodEntry → Type 0
 EachCodeHolds Holds b es = (k : ℕ) (e : MethodEntry) → slice_get es k ≡ Some e → Holds b (code_off e)
@@ -208,7 +208,7 @@ BodiesHold = ClassCodesHold BodyHolds
 abbrev pub BodiesBreak : List ℕ → ℕ → Fault → Type 0
 BodiesBreak = MethodsBreak BodyHolds BodyFails
 
--- The code of row i stands, registers and all.
+-- The code of row i is valid, with its registers.
 abbrev pub RowRegistersHold : List ℕ → ℕ → Type 0
 RowRegistersHold = ClassCodesHold CodeHolds
 

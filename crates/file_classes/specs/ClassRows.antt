@@ -24,7 +24,7 @@ access_flags b i = class_word b i 1
 abbrev pub superclass_idx : List ℕ → ℕ → ℕ
 superclass_idx b i = class_word b i 2
 
--- interfaces_off of row i: where its interfaces stand
+-- interfaces_off of row i: the offset of its interfaces
 abbrev pub interfaces_off : List ℕ → ℕ → ℕ
 interfaces_off b i = class_word b i 3
 
@@ -32,23 +32,23 @@ interfaces_off b i = class_word b i 3
 abbrev pub source_file_idx : List ℕ → ℕ → ℕ
 source_file_idx b i = class_word b i 4
 
--- annotations_off of row i: where its annotations stand
+-- annotations_off of row i: the offset of its annotations
 abbrev pub annotations_off : List ℕ → ℕ → ℕ
 annotations_off b i = class_word b i 5
 
--- class_data_off of row i: where its class data stands
+-- class_data_off of row i: the offset of its class data
 abbrev pub class_data_off : List ℕ → ℕ → ℕ
 class_data_off b i = class_word b i 6
 
--- static_values_off of row i: where its static values stand
+-- static_values_off of row i: the offset of its static values
 abbrev pub static_values_off : List ℕ → ℕ → ℕ
 static_values_off b i = class_word b i 7
 
--- the index that stands for none (NO_INDEX)
+-- the index for none (NO_INDEX)
 abbrev pub no_index : ℕ
 no_index = 0xffffffff
 
--- The index stands for this name, or for none.
+-- The index denotes this name, or none.
 abbrev pub IndexOrNone : (ℕ → Units → Type 0) → ℕ → Option Units → Type 0
 IndexOrNone S i name = MatchOption name (i ≡ no_index) (λ n. (i ≢ no_index) × S i n)
 
@@ -60,7 +60,7 @@ InterfaceIndexes b i indexes = AtOrNone SpellsIndexes b 0x1001 4 (interfaces_off
 abbrev pub NoneDefines : List ℕ → ℕ → ℕ → ℕ → Type 0
 NoneDefines b from to ty = (j : ℕ) → from ≤ j → j < to → class_idx b j ≢ ty
 
--- The row defines a class that no earlier row defines, and what it stands on is defined neither here nor in a later row.
+-- The row defines a class that no earlier row defines, and its superclass and interfaces are defined neither here nor in a later row.
 pub record InOrder (b : List ℕ) (i : ℕ) : Type 0 where
   pub once : NoneDefines b 0 i (class_idx b i)
   pub superclass : superclass_idx b i ≢ no_index → NoneDefines b i (size_of b section.class_defs) (superclass_idx b i)

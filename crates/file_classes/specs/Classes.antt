@@ -1,4 +1,4 @@
--- Which class a row of class_defs spells (Dalvik Executable format, "class_def_item", "class_data_item"), in the parts that
+-- Which class a row of class_defs encodes (Dalvik Executable format, "class_def_item", "class_data_item"), in the parts that
 -- are checked one after the other: the head, the static values, the code.
 use Rattle.std.specs.Prelude.{◌≡◌, ℕ, ◌==◌, List, [], length, Option, Some, None, MatchBool}
 use Rattle.std.specs.List.{AllByRecursion, slice_get}
@@ -19,7 +19,7 @@ pub record RowIs (b : List ℕ) (i : ℕ) (ty : Units) (flags : ℕ) (superclass
   pub above_class : (t : Units) → superclass ≡ Some t → IsClass t
   pub written_in : IndexOrNone (StringStands b) (source_file_idx b i) source
 
--- No type stands twice.
+-- No type occurs twice.
 abbrev pub NoTypeTwice : List Units → Type 0
 NoTypeTwice ts = (j k : ℕ) (t : Units) → slice_get ts j ≡ Some t → slice_get ts k ≡ Some t → j ≡ k
 
@@ -63,7 +63,7 @@ pub record SomeCodeStands (b : List ℕ) (place : ℕ) (code : Option Code) : Ty
   pub is : code ≡ Some some
   pub stands : CodeStands (NameStands b) b place some
 
--- No code at offset 0, else the code item that stands there.
+-- No code at offset 0, otherwise the code item there.
 abbrev pub CodeAt : List ℕ → ℕ → Option Code → Type 0
 CodeAt b place code = MatchBool (place == 0) (code ≡ None) (SomeCodeStands b place code)
 
@@ -71,7 +71,7 @@ CodeAt b place code = MatchBool (place == 0) (code ≡ None) (SomeCodeStands b p
 abbrev pub CodesAre : List ℕ → List MethodEntry → List Method → Type 0
 CodesAre b es ms = (k : ℕ) (e : MethodEntry) (m : Method) → slice_get es k ≡ Some e → slice_get ms k ≡ Some m → CodeAt b (code_off e) m.code
 
--- Row i spells the class.
+-- Row i encodes the class.
 pub record SpellsClass (b : List ℕ) (i : ℕ) (c : Class) : Type 0 where
   pub entries : Entries
   pub head : HeadIs b i entries c

@@ -1,4 +1,4 @@
--- The groups of the faults of a file, in the order in which they are asked.
+-- The groups of the faults of a file, in the order in which they are checked.
 -- Page: docs/FORMAT.md, "Faults of a file".
 
 -- Header, map and checksums; string_ids to method_ids; the class rows, the static values, the code and its registers.

@@ -9,8 +9,8 @@ use Rattle.tables_rows.specs.Sorted.{TablesHold}
 use Rattle.file_classes.specs.ClassRows.{InOrder}
 use Rattle.file_classes.specs.Classes.{SpellsClass}
 
--- The file has header, map and checksums as the format asks, every row of its tables denotes a name and the rows rise, and
--- its class rows spell the classes of the program, in an order in which each stands after what it stands on.
+-- The file has header, map and checksums as the format requires, every row of its tables denotes a name and the rows rise, and its
+-- class rows encode the classes of the program, each after its superclass and its interfaces.
 pub record Means (b : List ℕ) (p : Program) : Type 0 where
   pub framed : IsFramed b
   pub tables : TablesHold b

@@ -66,7 +66,7 @@ NoneBefore p i t = (j : ℕ) → j < i → ¬ IsOfType p j t
 abbrev pub IsNew : List Descriptor → ℕ → Type 0
 IsNew ts k = (j : ℕ) → j < k → slice_get ts j ≢ slice_get ts k
 
--- No type stands twice.
+-- No type occurs twice.
 abbrev pub AreDistinct : List Descriptor → Type 0
 AreDistinct ts = (k : ℕ) → k < length ts → IsNew ts k
 

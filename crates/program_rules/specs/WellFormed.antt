@@ -1,4 +1,4 @@
--- Programs that are well formed, as `write` asks for one.
+-- Well-formed programs, as `write` requires.
 use Rattle.program_types.specs.Content.{Program}
 use Rattle.program_rules.specs.Ranges.{InRange}
 use Rattle.program_rules.specs.Rules.{RulesHold}

@@ -1,6 +1,6 @@
--- The content of a program: what it says, wherever it lies in memory. Two programs are equal where their contents are.
--- Names are texts, and where a branch, a try or a handler leads to an instruction, that is its number in its code, from 0.
--- Pages: "Dalvik Executable format", whose name of each item stands in parentheses below; for instructions "Dalvik Executable
+-- The content of a program, wherever it lies in memory. Two programs are equal if their contents are.
+-- Names are texts, and a branch, a try or a handler refers to an instruction by its number in its code, from 0.
+-- Pages: "Dalvik Executable format", whose name of each item is in parentheses below; for instructions "Dalvik Executable
 -- instruction formats" and "Dalvik bytecode".
 use Rattle.std.specs.Prelude.{ℕ, ℤ, ◌<◌, Bool, List, [], ◌∷◌, Option}
 use Rattle.std.specs.List.{AllByRecursion}

@@ -32,7 +32,7 @@ IsSwitch (Some payload.PackedSwitch) = ⊤
 IsSwitch (Some payload.SparseSwitch) = ⊤
 IsSwitch _ = ⊥
 
--- ---- what an instruction says of others
+-- ---- references of an instruction to others
 
 -- instruction k of a list: a nop past the end
 abbrev pub insn_at : List Insn → ℕ → Insn
@@ -64,7 +64,7 @@ insn_branch (made.I21t op a to) = Some to
 insn_branch (made.I22t op a b to) = Some to
 insn_branch _ = None
 
--- the target of a branch that may not lead to itself: of all but goto/32
+-- the target of a branch that must not be itself: of all but goto/32
 unfoldable pub insn_short_branch : Insn → Option ℕ
 insn_short_branch (made.I30t op to) = None
 insn_short_branch i = insn_branch i
@@ -75,7 +75,7 @@ insn_targets (made.Packed first to) = to
 insn_targets (made.Sparse keys to) = to
 insn_targets _ = []
 
--- the instructions that an instruction leads or refers to, but for the one after it
+-- the instructions that an instruction branches or refers to, except the one after it
 abbrev pub insn_leads : Insn → List ℕ
 insn_leads (made.I10t op to) = to ∷ []
 insn_leads (made.I20t op to) = to ∷ []

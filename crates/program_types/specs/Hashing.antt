@@ -51,7 +51,7 @@ method_input m =
 pub str_respects : (x y : Str) → IsTrue (pointwise nat_eq x.units.now y.units.now) → str_input x ≡ str_input y
 str_respects x y same = ap units_input (same_text x.units.now y.units.now (sym same))
 
--- types that say the same feed the same
+-- equal types feed the same words to the hasher
 part_alike : Alike same_type (λ d. part_input d.text.units.now)
 part_alike = record { fed = λ d e same. ap part_input (same_text d.text.units.now e.text.units.now (sym same)) }
 

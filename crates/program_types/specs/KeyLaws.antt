@@ -1,4 +1,4 @@
--- The laws of keys: they are in a strict total order, a name is told by its key, and the derived comparison of each kind of
+-- The laws of keys: they are in a strict total order, a name is determined by its key, and the derived comparison of each kind of
 -- names is the order of its keys.
 use Rattle.std.specs.Prelude.{◌≡◌, List, [], ◌∷◌, map, refl}
 use Rattle.std.specs.Ordering.{ordering_then}
@@ -12,7 +12,7 @@ use Rattle.program_types.specs.declared.names.Proto.{Proto}
 use Rattle.program_types.specs.declared.names.FieldRef.{FieldRef}
 use Rattle.program_types.specs.declared.names.MethodRef.{MethodRef}
 
--- A comparison of a last text decides as it stands.
+-- A comparison of a last text decides by itself.
 pub ordering_then-equal : (o : Ordering) → o ≡ ordering_then o Equal
 ordering_then-equal Less = refl
 ordering_then-equal Equal = refl

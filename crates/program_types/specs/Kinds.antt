@@ -1,4 +1,4 @@
--- What a type is asked to be where it is used, and the kinds of names.
+-- The kinds of types that a use requires, and the kinds of names.
 -- Page: "Dalvik Executable format", "String syntax": TypeDescriptor; string_ids, type_ids, field_ids and method_ids.
 use Rattle.std.specs.Prelude.{ℕ, codes, ⊤}
 use Rattle.dex_insn.specs.declared.opcode.IndexKind.{IndexKind}
@@ -17,6 +17,6 @@ IsOfKind kind.Field (OfField f) = ⊤
 IsOfKind kind.Method (OfMethod m) = ⊤
 IsOfKind _ _ = ⊥
 
--- The name has an index, where N says which index stands for which name.
+-- The name has an index; N relates an index to the name that it denotes.
 abbrev pub HasIndex : (ℕ → Name → Type 0) → Name → Type 0
 HasIndex N which = (i : ℕ) × N i which

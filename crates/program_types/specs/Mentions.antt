@@ -1,6 +1,6 @@
 -- The names that a program mentions.
 -- Page: "Dalvik Executable format": class_def_item, class_data_item, code_item and encoded_value name strings, types, fields
--- and methods by their indices, so these have to stand in the tables.
+-- and methods by their indices, so these have to be in the tables.
 use Rattle.std.specs.Prelude.{⊤, List, [], ◌∷◌, ◌++◌, map, Option, None, Some}
 use Rattle.std.specs.List.{flat_map}
 use Rattle.program_types.specs.Content.{Descriptor, Name, OfText, OfDesc, OfField, OfMethod, Value, Values, Named, Enum, Array, no_values, more_values, Insn, I21c, I22c, I31c, I35c, I3rc, Try, Code, Member, Method, Class, Program}

@@ -12,7 +12,7 @@ use Rattle.program_types.specs.Content.{Name, Insn}
 use Rattle.program_types.specs.Kinds.{IsOfKind}
 use Rattle.program_types.specs.Content as made
 
--- the name is of the kind that an opcode's index stands for
+-- the name is of the kind that an opcode's index denotes
 abbrev pub IsOfIndexKind : Option IndexKind → Name → Type 0
 IsOfIndexKind None which = ⊥
 IsOfIndexKind (Some kind) which = IsOfKind kind which

@@ -3,7 +3,7 @@
 use Rattle.std.specs.Prelude.{ℕ, ◌∷◌, map, slice_index, ◌==◌, if◌then◌else◌}
 use Rattle.program_types.specs.Content.{Units, Descriptor, Proto}
 
--- The letter that stands for a type, by the first unit of its descriptor: `L` for `[` (91), else that unit itself.
+-- The letter of a type, by the first unit of its descriptor: `L` for `[` (91), otherwise that unit itself.
 abbrev pub letter_of : Descriptor → ℕ
 letter_of descriptor = if slice_index descriptor 0 == 91 then 76 else slice_index descriptor 0
 

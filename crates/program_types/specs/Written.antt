@@ -12,7 +12,7 @@ glyph d = if nat_lt d 10 then 48 + d else 87 + d
 abbrev pub escape_text : ℕ → List ℕ
 escape_text u = 92 ∷ 117 ∷ glyph (u / 4096 % 16) ∷ glyph (u / 256 % 16) ∷ glyph (u / 16 % 16) ∷ glyph (u % 16) ∷ []
 
--- A unit of a name: an ASCII character that is seen stands for itself, any other unit is escaped. Quotes and
+-- A unit of a name: a visible ASCII character is itself, any other unit is escaped. Quotes and
 -- backslashes, which no name has, are escaped as well.
 abbrev pub name_unit : ℕ → List ℕ
 name_unit u =

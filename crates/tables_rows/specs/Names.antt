@@ -6,7 +6,7 @@ use Rattle.dex_container.specs.Section as section
 use Rattle.program_types.specs.Content.{Units, Proto, FieldRef, MethodRef, Name, OfText, OfDesc, OfField, OfMethod}
 use Rattle.tables_rows.specs.Stands.{StringStands, TypeStands, ProtoStands, FieldStands, MethodStands}
 
--- what tables in memory say
+-- the names of tables in memory
 pub record Names : Type 0 where
   pub strings : List Units
   pub types : List Units
@@ -27,11 +27,11 @@ pub record AreNamesOf (b : List ℕ) (names : Names) : Type 0 where
   pub fields : AreRows FieldStands b section.field_ids names.fields
   pub methods : AreRows MethodStands b section.method_ids names.methods
 
--- Index i stands for the type among these types.
+-- Index i denotes the type among these types.
 abbrev pub TypeIsAt : List Units → ℕ → Units → Type 0
 TypeIsAt types i t = slice_get types i ≡ Some t
 
--- Index i stands for the name among these names, in the table of its kind.
+-- Index i denotes the name among these names, in the table of its kind.
 abbrev pub NameIsAt : Names → ℕ → Name → Type 0
 NameIsAt names i (OfText s) = slice_get names.strings i ≡ Some s
 NameIsAt names i (OfDesc t) = slice_get names.types i ≡ Some t

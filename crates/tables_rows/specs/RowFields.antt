@@ -1,11 +1,11 @@
--- The fields of a row of each table, as they stand in the file (Dalvik Executable format, "string_id_item" to
+-- The fields of a row of each table, as they are in the file (Dalvik Executable format, "string_id_item" to
 -- "method_id_item"). Past the file's end a byte counts as 0.
 use Rattle.std.specs.Prelude.{ℕ, ◌+◌, ◌*◌, List, [], ◌∷◌}
 use Rattle.dex_base.specs.Fields.{u16_at, u32_at}
 use Rattle.dex_container.specs.Layout.{row_bytes, offset_of}
 use Rattle.dex_container.specs.Section as section
 
--- where row i of table k stands, the tables counted from 0: strings, types, protos, fields, methods, classes
+-- the place of row i of table k, the tables counted from 0: strings, types, protos, fields, methods, classes
 abbrev pub row_place : List ℕ → ℕ → ℕ → ℕ
 row_place b k i = offset_of b k + row_bytes k * i
 

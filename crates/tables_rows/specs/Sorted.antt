@@ -1,4 +1,4 @@
--- The five tables hold: each row denotes a name, and stands strictly above the row before (Dalvik Executable format,
+-- The five tables are valid: each row denotes a name, and is strictly above the row before (Dalvik Executable format,
 -- "File layout": the orders of string_ids to method_ids).
 use Rattle.std.specs.Prelude.{◌≡◌, ℕ, ◌+◌, ◌<◌, List, ◌∷◌}
 use Rattle.std.specs.Cmp.Lexicographic.{slice_cmp}

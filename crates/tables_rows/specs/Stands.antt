@@ -30,13 +30,13 @@ pub record SpellsIndexes (bytes indexes : List ℕ) : Type 0 where
   pub small : AllByRecursion (λ i. i < 2 ^ 16) indexes
   pub few : length indexes < 2 ^ 32
 
--- A type_list whose indices stand for these types.
+-- A type_list whose indices denote these types.
 pub record SpellsTypes (T : ℕ → Units → Type 0) (bytes : List ℕ) (ts : List Units) : Type 0 where
   pub indexes : List ℕ
   pub spelled : SpellsIndexes bytes indexes
   pub named : AllZip T indexes ts
 
--- The list of types at an offset, 0 for the empty one, where indices stand for types so.
+-- The list of types at an offset, 0 for the empty one, whose indices denote types so.
 abbrev pub ListAt : (ℕ → Units → Type 0) → List ℕ → ℕ → List Units → Type 0
 ListAt T b place ts = AtOrNone (SpellsTypes T) b 0x1001 4 place ts
 
@@ -71,7 +71,7 @@ pub record MethodStands (b : List ℕ) (i : ℕ) (m : MethodRef) : Type 0 where
   pub of_class : IsClass m.class ⊎ IsArray m.class
   pub named : IsMemberName m.name
 
--- Index i, in the table of the name's kind, stands for the name in this file.
+-- Index i, in the table of the name's kind, denotes the name in this file.
 abbrev pub NameStands : List ℕ → ℕ → Name → Type 0
 NameStands b i (OfText s) = StringStands b i s
 NameStands b i (OfDesc t) = TypeStands b i t

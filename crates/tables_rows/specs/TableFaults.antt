@@ -1,5 +1,5 @@
--- The faults of the five tables: for each table the rules of a row, in the order in which they are asked. Each has a meaning for
--- any file; it is asked only where header, map and checksums, the tables before, and the rows before hold.
+-- The faults of the five tables: for each table the rules of a row, in the order in which they are checked. Each has a meaning for any
+-- file; it is checked only if header, map and checksums, the tables before, and the rows before are valid.
 use Rattle.std.specs.Prelude.{◌≡◌, ◌≢◌, ℕ, ◌<◌, ◌⊎◌, List}
 use Rattle.std.specs.List.{AllByRecursion}
 use Rattle.dex_base.specs.declared.fault.Fault.{Fault}
@@ -14,7 +14,7 @@ use Rattle.program_types.specs.Kinds.{void}
 use Rattle.tables_rows.specs.Stands.{StringStands, TypeStands, TypesAt, ProtoStands, FieldStands, MethodStands}
 use Rattle.tables_rows.specs.Sorted.{RowRises, StringIsBelow, TypeIsBelow, ProtoIsBelow, MemberIsBelow, StringHolds, TypeHolds, ProtoHolds, FieldHolds, MethodHolds, StringsHold, TypesHold, ProtosHold, FieldsHold}
 
--- The rule that row i of string_ids breaks: the first, since each is asked only where those before it hold.
+-- The rule that row i of string_ids violates: the first, since each is checked only if those before it are satisfied.
 unfoldable pub StringBreaks : List ℕ → ℕ → ℕ → Type 0
 StringBreaks b i code =
     or_else 20 code (IsInSection b 0x2002 (string_place b i)) (
