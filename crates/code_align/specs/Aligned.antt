@@ -1,4 +1,4 @@
--- A code whose payloads stand at even addresses, by nops put before some of them.
+-- A code whose payloads are at even addresses, by nops put before some of them.
 -- Page: "Dalvik bytecode": packed-switch, sparse-switch and fill-array-data refer to payloads at even addresses.
 use Rattle.std.specs.Prelude.{ℕ, ◌≡◌, ◌≢◌, ◌+◌, ◌%◌, if◌then◌else◌, List, [], ◌∷◌, map, option_map, zero, suc, Bool, true, false, None, ⊤}
 use Rattle.program_types.specs.Content.{Insn, Code, Try, Catch}
@@ -10,12 +10,12 @@ use Rattle.program_types.specs.Sizes.{insn_units}
 abbrev pub IsPayloadInsn : Insn → Type 0
 IsPayloadInsn i = insn_payload i ≢ None
 
--- each payload stands at an even address, where the first instruction stands at `at`
+-- each payload is at an even address, if the first instruction is at `at`
 abbrev pub PayloadsEven : ℕ → List Insn → Type 0
 PayloadsEven at [] = ⊤
 PayloadsEven at (i ∷ is) = (IsPayloadInsn i → at % 2 ≡ 0) × PayloadsEven (at + insn_units i) is
 
--- the instructions, with a nop before each where the list of pads says so
+-- the instructions, with a nop before each that the list of pads marks
 abbrev pub with_nops : List Bool → List Insn → List Insn
 with_nops (true ∷ ps) (i ∷ is) = made.I10x 0 ∷ i ∷ with_nops ps is
 with_nops (false ∷ ps) (i ∷ is) = i ∷ with_nops ps is
@@ -67,7 +67,7 @@ padded ps c = record {
   tries = map (moved_try (moved ps)) c.tries;
 }
 
--- The second code is the first with a nop before some payloads, so that all stand at even addresses.
+-- The second code is the first with a nop before some payloads, so that all are at even addresses.
 pub record Aligned (c d : Code) : Type 0 where
   pub pads : List Bool
   pub payloads : PadsPayloads pads c.insns

@@ -1,4 +1,4 @@
--- What the private functions of aligning say.
+-- The contracts of the private functions of aligning.
 use Rattle.dex_base.specs.declared.fault.Fault.{Fault}
 
 -- more instructions would result than a code can have

@@ -8,7 +8,7 @@ use Rattle.code_align.specs.Aligning.{too_many}
 use Rattle.program_types.specs.Content.{Code, Method, Class, Program}
 use Rattle.program_rules.specs.Rules.{CodesHold}
 
--- Two lists are of one length, and each item of the first stands in R to that of the second at its place.
+-- Two lists have one length, and R relates each item of the first to that of the second at its place.
 abbrev pub Pairwise : {A : Type 0} → (A → A → Type 0) → List A → List A → Type 0
 Pairwise R [] [] = ⊤
 Pairwise R (x ∷ xs) (y ∷ ys) = R x y × Pairwise R xs ys

@@ -23,7 +23,7 @@ abbrev pub joined : List Raw → List ℕ
 joined [] = []
 joined (r ∷ rs) = written r ++ joined rs
 
--- The raw instruction says the instruction, whose targets count from the address `at`, and can be written.
+-- The raw instruction means the instruction, whose targets count from the address `at`, and can be written.
 pub record Lowers (N : ℕ → Name → Type 0) (ss : List ℕ) (at : ℕ) (i : Insn) (r : Raw) : Type 0 where
   pub says : Says N (lead ss at) r i
   pub fits : IsRaw r
@@ -55,7 +55,7 @@ pub record IsFirstUse (ts : List Try) (h : Handler) (i : ℕ) : Type 0 where
   pub uses : handler_of (try_at ts i) ≡ h
   pub first : (j : ℕ) → handler_of (try_at ts j) ≡ h → i ≤ j
 
--- The handlers stand in the order of their first use by the tries, so each once.
+-- The handlers are in the order of their first use by the tries, so each occurs once.
 pub record AreByFirstUse (hs : List Handler) (ts : List Try) : Type 0 where
   pub firsts : List ℕ
   pub each : AllZip (IsFirstUse ts) hs firsts

@@ -1,4 +1,4 @@
--- Which name a text spells: as in a listing, in ASCII.
+-- Which name a text denotes: as in a listing, in ASCII.
 -- Page: docs/LISTING.md, "What a word can be".
 use Rattle.std.specs.Prelude.{ℕ, List}
 use Rattle.std.specs.Str.{IsAscii}
@@ -6,22 +6,22 @@ use Rattle.dex_base.specs.Descriptor.{IsDescriptor}
 use Rattle.program_types.specs.Content.{Units, Descriptor, Proto, FieldRef, MethodRef}
 use Rattle.listing_words.specs.Names.{SpellsUnits, IsProtoText, IsFieldText, IsMethodText}
 
--- The text is ASCII and spells these units: `\uXXXX` one unit, any other character itself.
+-- The text is ASCII and denotes these units: `\uXXXX` one unit, any other character itself.
 abbrev pub SpellsInAscii : List ℕ → Units → Type 0
 SpellsInAscii said units = IsAscii said × SpellsUnits said units
 
--- The text spells a type by its descriptor.
+-- The text is the descriptor of a type.
 abbrev pub SpellsType : List ℕ → Descriptor → Type 0
 SpellsType said d = SpellsInAscii said d × IsDescriptor d
 
--- The text spells a prototype: `(P..)R`
+-- The text denotes a prototype: `(P..)R`
 abbrev pub SpellsProto : List ℕ → Proto → Type 0
 SpellsProto said p = (units : Units) × SpellsInAscii said units × IsProtoText units p
 
--- The text spells a field: `C->n:T`
+-- The text denotes a field: `C->n:T`
 abbrev pub SpellsField : List ℕ → FieldRef → Type 0
 SpellsField said f = (units : Units) × SpellsInAscii said units × IsFieldText units f
 
--- The text spells a method: `C->n(P..)R`
+-- The text denotes a method: `C->n(P..)R`
 abbrev pub SpellsMethod : List ℕ → MethodRef → Type 0
 SpellsMethod said m = (units : Units) × SpellsInAscii said units × IsMethodText units m

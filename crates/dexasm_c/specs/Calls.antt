@@ -9,24 +9,24 @@ use Rattle.dexasm_c.specs.declared.ending.CFault.{CFault}
 use Rattle.dexasm_c.specs.declared.ending.Ending.{Ending}
 use Rattle.dexasm_c.specs.declared.ending.Ending.TheVariants.{Answered, Refused, Memory, TooSmall}
 
--- no fault is told
+-- no fault is reported
 abbrev pub none : CFault
 none = record { code = 0; place = 0 }
 
--- the fault that is told
+-- the fault that is reported
 abbrev pub told : CFault → Fault
 told fault = record { code = fault.code; place = fault.place }
 
 -- Bytes are put: all of them at the front of the buffer, which is as it was after them; or none, where it is too small for them.
--- Their number is told.
+-- Their number is reported.
 abbrev pub Puts : Ending → List ℕ → List ℕ → List ℕ → ℕ → Type 0
 Puts Answered made old new needed =
     (length made ≤ length old) × (new ≡ made ++ drop (length made) old) × (needed ≡ length made)
 Puts TooSmall made old new needed = (length old < length made) × (new ≡ old) × (needed ≡ length made)
 Puts _ made old new needed = ⊥
 
--- The job's answer to the given bytes is put, or its length is told where it is too long; or the job refuses them with the fault that
--- is told, or had not enough memory, and the buffer is as it was.
+-- The job's output for the input bytes is put, or its length is reported if it is too long; or the job refuses them with the reported
+-- fault, or had not enough memory, and the buffer is as it was.
 abbrev pub Ends : Ending → Job → List ℕ → List ℕ → List ℕ → ℕ → CFault → Type 0
 Ends Answered job given old new needed fault =
     (made : List ℕ) × Answer job given made × Puts Answered made old new needed × (fault ≡ none)
@@ -35,8 +35,8 @@ Ends TooSmall job given old new needed fault =
 Ends Refused job given old new needed fault = Refusal job given (told fault) × (new ≡ old) × (needed ≡ 0)
 Ends Memory job given old new needed fault = (told fault ≡ memory) × (new ≡ old) × (needed ≡ 0)
 
--- A check of the given bytes ends so: they are a file; or they are refused with the fault that is told; or memory is
--- wanting, which is told.
+-- The result of a check of the input bytes: they are a file; or they are refused with the reported fault; or out of memory, which is
+-- reported.
 abbrev pub Checks : Ending → List ℕ → CFault → Type 0
 Checks Answered given fault = (made : List ℕ) × Answer Check given made × (fault ≡ none)
 Checks Refused given fault = Refusal Check given (told fault)

@@ -26,14 +26,14 @@ abbrev pub around : Bool → Files → Option (List ℕ) → Bool → Option (Li
 around known files left input_failed taken output_failed =
     record { known = known; files = files; left = left; input_failed = input_failed; taken = taken; output_failed = output_failed }
 
--- all was given, and each moment on the way of its answer to OUT is safe
+-- all was read, and each moment of the delivery of the output to OUT is safe
 pub record IsOnItsWay (known : Type 0) (job : Job) (had left : Option (List ℕ)) (f g : Files) (out : Path) (answer : List ℕ) : Type 0 where
   pub given : List ℕ
   pub whole : IsAllGiven had left given
   pub answered : Answer job given answer
   pub moments : known → Passes f g (IsSafe f out answer)
 
--- The answer goes to standard output, and no file is touched.
+-- The output goes to standard output, and no file is touched.
 abbrev pub ToOutput : {T : Type 0} → Job → Option (List ℕ) → Option (List ℕ) → Bool → Around → Around → Result T RunFault → Type 0
 ToOutput job had left failed a b result = (b.files ≡ a.files) × MatchRun result
     (Answers job had left a.taken b.taken)
@@ -42,7 +42,7 @@ ToOutput job had left failed a b result = (b.files ≡ a.files) × MatchRun resu
     ((b.output_failed ≡ true) × BeginsAnswer job had left a.taken b.taken)
     (Keeps a.taken b.taken)
 
--- The answer goes to OUT. Before it is whole no file is touched.
+-- The output goes to OUT. Before it is complete no file is touched.
 abbrev pub GoesTo : {T : Type 0} → Job → Option (List ℕ) → Option (List ℕ) → Bool → Type 0 → Files → Files → Path → Result T RunFault → Type 0
 GoesTo job had left failed known f g out result = MatchRun result
     ((answer : List ℕ) × IsOnItsWay known job had left f g out answer × (known → IsDelivered f out answer g.now × IsTidy f out g))
@@ -55,7 +55,7 @@ GoesTo job had left failed known f g out result = MatchRun result
 abbrev pub ToOut : {T : Type 0} → Job → Option (List ℕ) → Option (List ℕ) → Bool → Around → Around → Path → Result T RunFault → Type 0
 ToOut job had left failed a b out result = GoesTo job had left failed (a.known ≡ true) a.files b.files out result × Keeps a.taken b.taken
 
--- What is answered of these bytes goes to OUT, or to standard output where there is no OUT.
+-- The output for these bytes goes to OUT, or to standard output if there is no OUT.
 abbrev pub AnswersFrom : {T : Type 0} → Job → Option (Bor Path) → Option (List ℕ) → Option (List ℕ) → Bool → Around → Around → Result T RunFault → Type 0
 AnswersFrom job out had left failed a b result = MatchOption out
     (ToOutput job had left failed a b result)
@@ -67,7 +67,7 @@ pub record IsUnreadable {T : Type 0} (path : Path) (a b : Around) (result : Resu
   pub untouched : b.files ≡ a.files
   pub kept : Keeps a.taken b.taken
 
--- what FILE holds is answered, and standard input isn't read
+-- the job runs on the bytes of FILE, and standard input is not read
 abbrev pub AnswersFile : {T : Type 0} → Job → Path → Option (Bor Path) → Around → Around → Result T RunFault → Type 0
 AnswersFile job path out a b result = (b.left ≡ a.left) × (given : List ℕ) × (a.known ≡ true → IsHeld a.files path given)
     × AnswersFrom job out (Some given) (Some []) false a b result

@@ -45,7 +45,7 @@ pub record IsCarried (r : CommandRun) : Type 0 where
   pub carried : CarriesOut plan.job (path_of plan.file) (path_of plan.output) r.before r.after result
   pub ended : EndsTold r.terminals.errors result r.said r.says r.errors_failed r.status
 
--- the words are a job whose answer, a .dex file, would go to a terminal
+-- the words are a job whose output, a .dex file, would go to a terminal
 pub record IsHeldBack (r : CommandRun) : Type 0 where
   pub plan : Plan
   pub planned : Plans (subcommand_of dexasm r.words) plan
@@ -56,7 +56,7 @@ pub record IsHeldBack (r : CommandRun) : Type 0 where
   pub told : PutsLine r.said r.says r.errors_failed terminal_line
   pub status : r.status ≡ 2
 
--- the words ask for help or the version, which standard output takes
+-- the words request help or the version, which goes to standard output
 pub record IsShown (r : CommandRun) : Type 0 where
   pub kind : ErrorKind
   pub asked : IsAmong kind (fault_of dexasm r.words)
@@ -79,6 +79,6 @@ pub record IsUnread (r : CommandRun) : Type 0 where
   pub nothing : DoesNothing r
   pub told : TellsFault r.terminals.errors Memory r.said r.says r.errors_failed r.status
 
--- What comes of a command line.
+-- The effects of a command line.
 abbrev pub Serves : CommandRun → Type 0
 Serves r = IsCarried r ⊎ IsShown r ⊎ IsMisused r ⊎ IsUnread r ⊎ IsHeldBack r

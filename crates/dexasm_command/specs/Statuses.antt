@@ -1,4 +1,4 @@
--- What the exit status says.
+-- The meaning of the exit status.
 use Rattle.std.specs.Prelude.{◌≡◌, ◌⊎◌, ◌≤◌, ℕ, true, List, Option, Some, take, MatchOption}
 use Rattle.std.specs.Borrow.{Bor}
 use Rattle.std.specs.Io.KnownBytes.{Keeps, Appends}
@@ -18,11 +18,11 @@ use Rattle.dexasm_command.specs.Streams.{path_of}
 use Rattle.dexasm_command.specs.Told.{PutsFault}
 use Rattle.dexasm_command.specs.Served.{CommandRun, Serves, DoesNothing, IsShown, IsMisused, IsHeldBack}
 
--- standard error tells of the fault, or has a front of that where it failed
+-- standard error has the fault's line, or a front of it if it failed
 abbrev pub TellsIn : CommandRun → RunFault → Type 0
 TellsIn r fault = PutsFault r.terminals.errors fault r.said r.says r.errors_failed
 
--- the answer has come to OUT, safe at each moment, and nothing is left beside it
+-- the output has reached OUT, safe at each moment, and nothing is left beside it
 pub record IsBrought (r : CommandRun) (out : Path) (answer : List ℕ) : Type 0 where
   pub moments : Passes r.before.files r.after.files (IsSafe r.before.files out answer)
   pub delivered : IsDelivered r.before.files out answer r.after.files.now
@@ -40,13 +40,13 @@ IsInput r file given = MatchOption file
     (IsAllGiven r.before.left r.after.left given)
     (λ path. r.before.known ≡ true → IsHeld r.before.files path.now given)
 
--- the answer has come to OUT, or where there is none to standard output, and nothing else is changed
+-- the output has reached OUT or, without OUT, standard output, and nothing else is changed
 abbrev pub HasCome : CommandRun → Option (Bor Path) → List ℕ → Type 0
 HasCome r out answer = MatchOption out
     ((r.after.files ≡ r.before.files) × Appends r.before.taken r.after.taken answer)
     (λ path. Keeps r.before.taken r.after.taken × (r.before.known ≡ true → IsBrought r path.now answer))
 
--- the words are a job, and its answer to what was read has come
+-- the words are a job, and its output for the bytes that were read has arrived
 pub record IsAnswered (r : CommandRun) : Type 0 where
   pub plan : Plan
   pub planned : Plans (subcommand_of dexasm r.words) plan
@@ -57,7 +57,7 @@ pub record IsAnswered (r : CommandRun) : Type 0 where
   pub come : HasCome r (path_of plan.output) answer
   pub silent : Keeps r.said r.says
 
--- the words are a job, which refuses what was read, and nothing was done but that a line tells so
+-- the words are a job, which refuses the bytes that were read, and nothing was done but a line reports it
 pub record IsJobRefused (r : CommandRun) : Type 0 where
   pub plan : Plan
   pub planned : Plans (subcommand_of dexasm r.words) plan
@@ -76,13 +76,14 @@ pub record CantRead (r : CommandRun) : Type 0 where
   pub nothing : DoesNothing r
   pub told : TellsIn r Input
 
--- An answer hasn't come whole. Standard output, which failed, has a front of it, or each moment of OUT was safe, and there is a cause.
+-- The output has not arrived completely. Standard output, which failed, has a front of it, or each moment of OUT was safe, and there is
+-- a cause.
 abbrev pub HasBegun : CommandRun → Option (Bor Path) → List ℕ → Type 0
 HasBegun r out answer = MatchOption out
     ((r.after.files ≡ r.before.files) × (r.after.output_failed ≡ true) × (n : ℕ) × Appends r.before.taken r.after.taken (take n answer))
     (λ path. Keeps r.before.taken r.after.taken × (r.before.known ≡ true → IsNotBrought r path.now answer))
 
--- the words are a job, and its answer to what was read couldn't be written
+-- the words are a job, and its output for the bytes that were read could not be written
 pub record CantWrite (r : CommandRun) : Type 0 where
   pub plan : Plan
   pub planned : Plans (subcommand_of dexasm r.words) plan
@@ -93,14 +94,14 @@ pub record CantWrite (r : CommandRun) : Type 0 where
   pub begun : HasBegun r (path_of plan.output) answer
   pub told : TellsIn r Output
 
--- the words ask for help or the version, and standard output failed
+-- the words request help or the version, and standard output failed
 pub record CantShow (r : CommandRun) : Type 0 where
   pub files : r.after.files ≡ r.before.files
   pub failed : r.after.output_failed ≡ true
   pub told : TellsIn r Output
 
--- each moment of OUT is safe, on the way of the job's answer to what was read, and in the end nothing is left beside it, whether the
--- answer has come or not
+-- each moment of OUT is safe during the delivery of the job's output, and in the end nothing is left beside it, whether the output has
+-- arrived or not
 pub record IsKeptSafe (r : CommandRun) : Type 0 where
   pub plan : Plan
   pub planned : Plans (subcommand_of dexasm r.words) plan
@@ -113,7 +114,7 @@ pub record IsKeptSafe (r : CommandRun) : Type 0 where
   pub moments : Passes r.before.files r.after.files (IsSafe r.before.files out.now answer)
   pub left : IsGivenUp r.before.files out.now answer r.after.files
 
--- status 0: the answer has come, or help or the version is shown
+-- status 0: the output has arrived, or help or the version is shown
 abbrev pub ZeroTells : Type 0
 ZeroTells = (r : CommandRun) → Serves r → r.status ≡ 0 → IsAnswered r ⊎ IsShown r
 
@@ -129,7 +130,7 @@ TwoTells = (r : CommandRun) → Serves r → r.status ≡ 2 → IsMisused r ⊎ 
 abbrev pub ThreeTells : Type 0
 ThreeTells = (r : CommandRun) → Serves r → r.status ≡ 3 → CantRead r ⊎ CantWrite r ⊎ CantShow r
 
--- status 4: out of memory, and so a line tells
+-- status 4: out of memory, which a line reports
 abbrev pub FourTells : Type 0
 FourTells = (r : CommandRun) → Serves r → r.status ≡ 4 → TellsIn r Memory
 

@@ -1,4 +1,4 @@
--- What words of a command line stand for standard input and standard output.
+-- The words of a command line that mean standard input and standard output.
 -- Page: docs/man/dexasm.1, "DESCRIPTION".
 use Rattle.std.specs.Prelude.{Bool, true, false, Option, Some, None, codes, is_some, if◌then◌else◌}
 use Rattle.std.specs.Borrow.{Bor}
@@ -12,7 +12,7 @@ abbrev pub path_of : Option (Bor Text) → Option (Bor Text)
 path_of None = None
 path_of (Some word) = if bytes_eq word.now (codes "-") then None else Some word
 
--- the job's answer is a .dex file
+-- the job's output is a .dex file
 abbrev pub makes_file : Job → Bool
 makes_file Check = false
 makes_file Listing = false

@@ -1,4 +1,4 @@
--- What is told of a failure.
+-- The report of a failure.
 use Rattle.std.specs.Prelude.{◌≡◌, ◌⊎◌, ℕ, Bool, true, false, List, [], ◌∷◌, ◌++◌, Option, codes, take, Result, Ok, Err}
 use Rattle.std.specs.Io.KnownBytes.{Appends, Keeps}
 use Rattle.dex_base.specs.Fault.{fault_sentence}
@@ -14,8 +14,8 @@ PutsLine held holds failed text = Appends held holds text ⊎ ((failed ≡ true)
 abbrev pub more_line : List ℕ → List ℕ
 more_line said = codes "  " ++ said ++ 10 ∷ []
 
--- What standard error says below the line of a failure, where it is a terminal: of a refusal the fault's sentence, of reading and writing
--- the system's error, if it said one. Where it is none, the line stands alone.
+-- The second line of a failure, if standard error is a terminal: for a refusal the fault's sentence, for reading and writing the
+-- system's error, if it has one. If it is no terminal, there is no second line.
 abbrev pub IsMore : Bool → RunFault → List ℕ → Type 0
 IsMore false fault more = more ≡ []
 IsMore true (Refused fault) more = more ≡ more_line (fault_sentence fault.code)
@@ -23,7 +23,7 @@ IsMore true Input more = (more ≡ []) ⊎ ((said : List ℕ) × (more ≡ more_
 IsMore true Output more = (more ≡ []) ⊎ ((said : List ℕ) × (more ≡ more_line said))
 IsMore true Memory more = more ≡ []
 
--- the line of a failure, and what a terminal is told below it
+-- the line of a failure, and the second line for a terminal
 pub record IsText (terminal : Bool) (fault : RunFault) (text : List ℕ) : Type 0 where
   pub more : List ℕ
   pub is : IsMore terminal fault more
@@ -39,7 +39,7 @@ pub record PutsFault (terminal : Bool) (fault : RunFault) (held holds : Option (
 abbrev pub TellsFault : Bool → RunFault → Option (List ℕ) → Option (List ℕ) → Bool → ℕ → Type 0
 TellsFault terminal fault held holds failed status = (status ≡ exit_status fault) × PutsFault terminal fault held holds failed
 
--- Success is silent, a failure is told. Where there is no memory for its line, that is told.
+-- Success is silent, a failure is reported. If there is no memory for its line, that is reported.
 abbrev pub EndsTold : {T : Type 0} → Bool → Result T RunFault → Option (List ℕ) → Option (List ℕ) → Bool → ℕ → Type 0
 EndsTold terminal (Ok x) held holds failed status = (status ≡ 0) × Keeps held holds
 EndsTold terminal (Err fault) held holds failed status = TellsFault terminal fault held holds failed status ⊎ TellsFault terminal Memory held holds failed status

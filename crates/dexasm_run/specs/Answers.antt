@@ -1,4 +1,4 @@
--- What a job answers to the bytes that it is given, and when it refuses them.
+-- The output of a job for its input bytes, and when it refuses them.
 -- Page: docs/PROVED.md; "Dalvik Executable format" for files, docs/LISTING.md for listings.
 use Rattle.std.specs.Prelude.{◌≡◌, ℕ, Bool, true, false, ◌⊎◌, List, codes, Result, Ok, Err}
 use Rattle.code_align.specs.Programs.{AlignedProgram, IsTooLong}
@@ -35,7 +35,7 @@ abbrev pub IsUnassembled : Bool → Program → Fault → Type 0
 IsUnassembled false p fault = IsLowestLimit p fault
 IsUnassembled true p fault = IsTooLong p fault ⊎ ((q : Program) × IsAligned p q × IsLowestLimit q fault)
 
--- The job's answer to these bytes. Check: `ok` and a line feed, where they are a file. List: the listing of the file's program.
+-- The job's output for these bytes. Check: `ok` and a line feed, if they are a file. List: the listing of the file's program.
 -- Assemble: the file of the listed program, or with align of that program aligned. Strip: the file of the file's program.
 abbrev pub Answer : Job → List ℕ → List ℕ → Type 0
 Answer Check given made = (p : Program) × Means given p × (made ≡ codes "ok\n")
@@ -51,7 +51,7 @@ Refusal (Assemble align) given fault =
     ListingBreaks given fault.code fault.place ⊎ ((p : Program) × Lists given p × IsUnassembled align p fault)
 Refusal Strip given fault = IsStripRefused given fault
 
--- What comes of a job on these bytes, unless memory runs out: its answer, or its refusal.
+-- The outcome of a job on these bytes, unless memory runs out: its output, or its refusal.
 abbrev pub Outcome : Job → List ℕ → Result (List ℕ) Fault → Type 0
 Outcome job given (Ok made) = Answer job given made
 Outcome job given (Err fault) = Refusal job given fault

@@ -1,7 +1,7 @@
 -- Whether a call on a source or a sink failed or met the end.
 use Rattle.std.specs.Prelude.{ℕ, Bool, true, false, ◌==◌, ◌&&◌, List, length, nat_lt, Option, Some, None, Result, Ok, Err}
 
--- the call answered an error
+-- the call returned an error
 abbrev pub call_failed : {E : Type 0} → Result ℕ E → Bool
 call_failed (Ok n) = false
 call_failed (Err e) = true

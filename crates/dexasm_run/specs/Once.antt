@@ -1,11 +1,11 @@
--- A job's answer is decided by the bytes that it is given.
+-- A job's output is determined by its input bytes.
 -- Page: docs/PROVED.md.
 use Rattle.std.specs.Prelude.{◌≡◌, ℕ, List, Result}
 use Rattle.dex_base.specs.declared.fault.Fault.{Fault}
 use Rattle.dexasm_world.specs.declared.job.Job.{Job}
 use Rattle.dexasm_run.specs.Answers.{Answer, Outcome}
 
--- no job has two answers to the same bytes
+-- no job has two outputs for the same bytes
 abbrev pub OneAnswer : Type 0
 OneAnswer = (job : Job) (given a b : List ℕ) → Answer job given a → Answer job given b → a ≡ b
 

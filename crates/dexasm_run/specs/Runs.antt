@@ -21,7 +21,7 @@ pub record IsAllGiven (old new : Option (List ℕ)) (given : List ℕ) : Type 0 
   pub gave : Consumes old new given
   pub end : IsAtEnd new
 
--- a source gave some bytes up to its end, and a sink took the job's answer to them
+-- a source had some bytes up to its end, and a sink took the job's output for them
 abbrev pub Answers : Job → Option (List ℕ) → Option (List ℕ) → Option (List ℕ) → Option (List ℕ) → Type 0
 Answers job had left held holds = (given : List ℕ) × (made : List ℕ)
     × IsAllGiven had left given × Answer job given made × Appends held holds made
@@ -30,7 +30,7 @@ Answers job had left held holds = (given : List ℕ) × (made : List ℕ)
 abbrev pub Refuses : Job → Option (List ℕ) → Option (List ℕ) → Fault → Type 0
 Refuses job had left fault = (given : List ℕ) × IsAllGiven had left given × Refusal job given fault
 
--- a source gave some bytes up to its end, and a sink took a beginning of the job's answer to them
+-- a source had some bytes up to its end, and a sink took a beginning of the job's output for them
 abbrev pub BeginsAnswer : Job → Option (List ℕ) → Option (List ℕ) → Option (List ℕ) → Option (List ℕ) → Type 0
 BeginsAnswer job had left held holds = (given : List ℕ) × (made : List ℕ) × (n : ℕ)
     × IsAllGiven had left given × Answer job given made × (n ≤ length made)

@@ -1,4 +1,4 @@
--- What a failed run says: its exit status and its line.
+-- The exit status and the line of a failed run.
 use Rattle.std.specs.Prelude.{ℕ, List, ◌++◌, codes}
 use Rattle.std.specs.Fmt.{decimal}
 use Rattle.dex_base.specs.Fault.{fault_name}

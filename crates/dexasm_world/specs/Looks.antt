@@ -1,4 +1,4 @@
--- What is told of a name.
+-- The kind of file of a name.
 use Rattle.std.specs.Prelude.{◌≡◌, ◌⊎◌, ◌<◌, ℕ, true, false, List, Some, None, ⊤, Result, Ok, Err}
 use Rattle.dexasm_world.specs.State.{Path, Files, place_of}
 use Rattle.dexasm_world.specs.Safe.{part_path, name_count, target_of, IsTaken}
@@ -10,15 +10,15 @@ abbrev pub RefusedFor : Refusal → Type 0 → Type 0
 RefusedFor Memory Cause = ⊤
 RefusedFor _ Cause = Cause
 
--- the system lets nobody look at a place, or read what stands there, or write it
+-- the system denies access to a place, or reading or writing of the file there
 abbrev pub IsBarredAt : Files → Path → Type 0
 IsBarredAt f place = (p : Path) × (place_of f p ≡ place) × (f.paths.is_barred p ≡ true)
 
--- so it is with what a path leads to
+-- likewise for the file that a path resolves to
 abbrev pub IsBarred : Files → Path → Type 0
 IsBarred f path = IsBarredAt f (place_of f path)
 
--- nothing stands at the path's end, or the system lets nobody read it
+-- there is nothing at the path's end, or the system denies reading it
 abbrev pub CantBeRead : Files → Path → Type 0
 CantBeRead f path = (f.now.stands (place_of f path) ≡ None) ⊎ IsBarred f path
 
@@ -35,7 +35,7 @@ Caused (Err refusal) Cause = RefusedFor refusal Cause
 abbrev pub NoneIsFree : Files → Path → Type 0
 NoneIsFree f path = (n : ℕ) → n < name_count → IsTaken f (part_path path n)
 
--- the files failed, or what OUT leads to is barred, or no name beside it is free
+-- the files failed, or access to the file that OUT resolves to is denied, or no name beside it is free
 abbrev pub CauseAt : Path → Files → Files → Type 0
 CauseAt out f g = (f.faults < g.faults) ⊎ IsBarred f out ⊎ NoneIsFree f (target_of f out)
 

@@ -1,4 +1,4 @@
--- How an answer comes to OUT.
+-- The delivery of the output to OUT.
 use Rattle.std.specs.Prelude.{◌≡◌, ◌≢◌, ◌⊎◌, ◌<◌, ℕ, true, false, List, [], ◌++◌, codes, Some, None, IsSome, if◌then◌else◌, Result, Ok, Err}
 use Rattle.std.specs.Fmt.{decimal}
 use Rattle.dexasm_world.specs.State.{Path, FileState, Files, IsThere, place_of}
@@ -13,11 +13,11 @@ part_path path n = path ++ codes "." ++ decimal n ++ codes ".part"
 abbrev pub name_count : ℕ
 name_count = 4294967295
 
--- what an answer to OUT is written beside: OUT itself, or where a link OUT leads
+-- the place beside which the output is written: OUT itself, or the target if OUT is a link
 abbrev pub target_of : Files → Path → Path
 target_of f out = if f.paths.is_plain out then out else place_of f out
 
--- the place of a file beside OUT, or beside what a link OUT leads to, where nothing stood, not even a link
+-- the place of a file beside OUT, or beside the target of a link OUT, where there was nothing, not even a link
 pub record IsPartPlace (f : Files) (out place : Path) : Type 0 where
   pub number : ℕ
   pub is : place ≡ place_of f (part_path (target_of f out) number)
@@ -33,7 +33,7 @@ pub record IsAsBefore (out : Path) (s t : FileState) : Type 0 where
   pub name : t.stands out ≡ s.stands out
   pub file : KeepsFile out s t
 
--- the whole answer stands at a place, and where OUT held something, it has that mode, and the disk has it
+-- the complete output is at a place; if OUT held something, it has that mode, and the disk has it
 pub record HasAnswer (out : Path) (answer : List ℕ) (s : FileState) (place : Path) (t : FileState) : Type 0 where
   pub number : ℕ
   pub here : t.stands place ≡ Some number
@@ -41,11 +41,11 @@ pub record HasAnswer (out : Path) (answer : List ℕ) (s : FileState) (place : P
   pub mode : (n : ℕ) → s.stands out ≡ Some n → (t.file number).mode ≡ (s.file n).mode
   pub kept : IsSome (s.stands out) → (t.file number).kept ≡ true
 
--- OUT holds what it held, or the whole answer
+-- OUT holds what it held, or the complete output
 abbrev pub IsWholeAt : Path → List ℕ → FileState → FileState → Type 0
 IsWholeAt out answer s t = IsAsBefore out s t ⊎ HasAnswer out answer s out t
 
--- something stands there, or a link does
+-- there is something, or a link
 abbrev pub IsTaken : Files → Path → Type 0
 IsTaken f path = (f.paths.is_plain path ≡ false) ⊎ IsSome (f.now.stands (place_of f path))
 
@@ -61,7 +61,7 @@ pub record HasRoomBeside (f : Files) (out : Path) : Type 0 where
   pub leads : (f.paths.is_plain out ≡ true) ⊎ IsSome (f.now.stands (place_of f out))
   pub takes : (n : ℕ) → n < name_count → ((k : ℕ) → k < n → IsTaken f (part_path (target_of f out) k)) → f.paths.is_closed (part_path (target_of f out) n) ≡ false
 
--- no other name is one of the file that stands at a place
+-- no other name is one of the file at a place
 abbrev pub IsAlone : Path → FileState → Type 0
 IsAlone place s = (n : ℕ) (p : Path) → s.stands place ≡ Some n → s.stands p ≡ Some n → p ≡ place
 
@@ -71,13 +71,13 @@ pub record CanGive (f : Files) (out : Path) : Type 0 where
   pub free : f.paths.is_fixed (place_of f out) ≡ false
   pub alone : IsAlone (place_of f out) f.now
 
--- A moment on the way, since f, of this answer to OUT.
+-- A moment of the delivery, since f, of this output to OUT.
 pub record IsSafe (f : Files) (out : Path) (answer : List ℕ) (t : FileState) : Type 0 where
   -- No other name is touched, but for free ones beside OUT.
   pub names : (p : Path) → p ≢ place_of f out → ¬ IsPartPlace f out p → t.stands p ≡ f.now.stands p
   -- No other file that was there is touched.
   pub files : (n : ℕ) → IsThere f.now n → f.now.stands (place_of f out) ≢ Some n → t.file n ≡ f.now.file n
-  -- Nothing is lost: OUT holds what it held, or the whole answer, or the whole answer stands beside it.
+  -- Nothing is lost: OUT holds what it held, or the complete output, or the complete output is beside it.
   pub never_lost : HasRoomBeside f out → IsWholeAt (place_of f out) answer f.now t
       ⊎ ((p : Path) × IsPartPlace f out p × HasAnswer (place_of f out) answer f.now p t)
   -- And where OUT can be replaced, it is never in between, and what it gives way to leaves it as it was.
@@ -86,7 +86,7 @@ pub record IsSafe (f : Files) (out : Path) (answer : List ℕ) (t : FileState) :
   -- A file beside OUT is never open to more readers than OUT was.
   pub narrow : (p : Path) → IsPartPlace f out p → IsNarrow (place_of f out) p f.now t
 
--- The answer has come to OUT.
+-- The output has reached OUT.
 pub record IsDelivered (f : Files) (out : Path) (answer : List ℕ) (t : FileState) : Type 0 where
   pub number : ℕ
   pub here : t.stands (place_of f out) ≡ Some number
@@ -106,7 +106,7 @@ IsClean f out t = (p : Path) → p ≢ place_of f out → t.stands p ≡ f.now.s
 abbrev pub IsTidy : Files → Path → Files → Type 0
 IsTidy f out g = IsClean f out g.now ⊎ (f.leftovers < g.leftovers)
 
--- the whole answer stands beside an OUT that can't be replaced, and nothing else is left there
+-- the complete output is beside an OUT that cannot be replaced, and nothing else is left there
 pub record StandsBeside (f : Files) (out : Path) (answer : List ℕ) (t : FileState) : Type 0 where
   pub place : Path
   pub part : IsPartPlace f out place
@@ -114,7 +114,7 @@ pub record StandsBeside (f : Files) (out : Path) (answer : List ℕ) (t : FileSt
   pub fixed : CanGive f out → ⊥
   pub clean : (p : Path) → p ≢ place_of f out → p ≢ place → t.stands p ≡ f.now.stands p
 
--- The answer hasn't come, and nothing is left of it beside OUT, unless a call failed that was to take it away, or OUT can't be replaced.
+-- The output has not arrived, and nothing is left of it beside OUT, unless a call failed that was to remove it, or OUT cannot be replaced.
 abbrev pub IsGivenUp : Files → Path → List ℕ → Files → Type 0
 IsGivenUp f out answer g = IsTidy f out g ⊎ StandsBeside f out answer g.now
 

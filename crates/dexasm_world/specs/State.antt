@@ -12,28 +12,28 @@ pub record Stored : Type 0 where
   pub mode : ℕ
   pub kept : Bool
 
--- which file stands at a place, by a number, and what each file holds
+-- which file is at a place, by a number, and what each file holds
 pub record FileState : Type 0 where
   pub stands : Path → Option ℕ
   pub file : ℕ → Stored
 
--- a file stands at some place
+-- a file is at some place
 abbrev pub IsThere : FileState → ℕ → Type 0
 IsThere s n = (p : Path) × (s.stands p ≡ Some n)
 
 -- what stays as it is while a program runs
 pub record Paths : Type 0 where
-  -- the place that a path leads to, through links
+  -- the place that a path resolves to, through links
   pub place : Path → Path
   -- the path is no link
   pub is_plain : Path → Bool
   -- the folder takes no new file of this path
   pub is_closed : Path → Bool
-  -- what stands at this place is a device, a pipe or a folder, so that it can only be written where it is
+  -- the file at this place is a device, a pipe or a folder, so that it can only be written in place
   pub is_device : Path → Bool
-  -- what stands at this place can be written, and nothing can be put in its place
+  -- the file at this place can be written, and cannot be replaced
   pub is_fixed : Path → Bool
-  -- the system lets nobody look at what the path leads to, or write it
+  -- the system denies access to the file that the path resolves to
   pub is_barred : Path → Bool
 
 -- the files as a run sees them: where paths lead, what there is now, each moment before now, the first one first, how often a call on
@@ -46,11 +46,11 @@ pub record Files : Type 0 where
   pub faults : ℕ
   pub leftovers : ℕ
 
--- the place that a path leads to
+-- the place that a path resolves to
 abbrev pub place_of : Files → Path → Path
 place_of files path = files.paths.place path
 
--- A call went from old to new: paths lead where they led, and each moment since, the new one too, has P.
+-- A call went from old to new: paths resolve as before, and each moment since, the new one too, has P.
 pub record Passes (old new : Files) (P : FileState → Type 0) : Type 0 where
   pub same_paths : new.paths ≡ old.paths
   pub moments : List FileState

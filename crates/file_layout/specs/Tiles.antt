@@ -1,4 +1,4 @@
--- Items that stand one after the other, and the places by which they are referred to.
+-- Items one after the other, and the places by which they are referred to.
 -- Page: "Dalvik Executable format", "alignment" of each item.
 use Rattle.std.specs.Prelude.{◌≡◌, ℕ, ◌+◌, ◌-◌, ◌%◌, ◌<◌, ◌==◌, ◌||◌, if◌then◌else◌, List, [], ◌∷◌, ◌++◌, replicate, ◌⊎◌}
 use Rattle.std.specs.List.{fold, list_any}
@@ -12,12 +12,12 @@ zeros n = replicate n 0
 abbrev pub gap : ℕ → ℕ → ℕ
 gap align at = (align - at % align) % align
 
--- An item stands after `at`, at the next place that `align` divides; zeros stand between.
+-- An item is after `at`, at the next place that `align` divides, with zeros between.
 pub record IsNext (align : ℕ) (b : List ℕ) (at place : ℕ) : Type 0 where
   pub there : place ≡ at + gap align at
   pub clear : slice b at (gap align at) ≡ zeros (gap align at)
 
--- From `at` to `end` stand these items and nothing else: each at its place, with its value, in at least one byte.
+-- From `at` to `end` are these items and nothing else: each at its place, with its value, in at least one byte.
 pub data Tiles {V : Type 0} (G : List ℕ → V → Type 0) (align : ℕ) (b : List ℕ) : ℕ → ℕ → List (ℕ × V) → Type 0 where
   Done : {at : ℕ} → Tiles G align b at at []
   Item : {at end place size : ℕ} {v : V} {items : List (ℕ × V)}

@@ -53,7 +53,7 @@ pub record Fits (p : Program) : Type 0 where
 
 -- The program breaks the limit of this number at this place.
 pub data LimitBreaks (p : Program) : ℕ → ℕ → Type 0 where
-  -- more types or prototypes are needed than type_ids_size and proto_ids_size may say: at how many
+  -- more types or prototypes are needed than type_ids_size and proto_ids_size may be: the place is how many
   TooManyTypes : 65535 < length (needed p).types → LimitBreaks p 80 (length (needed p).types)
   TooManyProtos : 65535 < length (needed p).protos → LimitBreaks p 81 (length (needed p).protos)
   -- a body breaks one of 82 to 88: at the first class with such a body

@@ -3,6 +3,6 @@
 use Rattle.std.specs.Prelude.{ℕ, List, map}
 use Rattle.file_classes.specs.ClassData.{MethodEntry, code_off}
 
--- where the bodies of methods stand
+-- the offsets of the bodies of methods
 abbrev pub code_offs : List MethodEntry → List ℕ
 code_offs es = map (λ e. code_off e) es

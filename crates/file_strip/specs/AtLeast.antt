@@ -1,4 +1,4 @@
--- The tables of a file hold at least these names, and codes fit the fields of files in which no name stands further after.
+-- The tables of a file hold at least these names, and codes fit the fields of files in which no name has a higher index.
 -- Page: "Dalvik Executable format", "File layout": string_ids to method_ids; "code_item".
 use Rattle.std.specs.Prelude.{ℕ, ◌≤◌, List, length}
 use Rattle.dex_container.specs.Layout.{size_of}
@@ -9,13 +9,13 @@ use Rattle.program_types.specs.Content.{Name, Proto}
 use Rattle.program_types.specs.Key.{proto_key}
 use Rattle.tables_rows.specs.Stands.{NameStands, ProtoStands}
 
--- Some row from row i on stands for the name.
+-- Some row from row i on denotes the name.
 pub record NameStandsFrom (b : List ℕ) (i : ℕ) (name : Name) : Type 0 where
   pub row : ℕ
   pub stands : NameStands b row name
   pub after : i ≤ row
 
--- Some row from row i on stands for the prototype.
+-- Some row from row i on denotes the prototype.
 pub record ProtoStandsFrom (b : List ℕ) (i : ℕ) (proto : Proto) : Type 0 where
   pub row : ℕ
   pub stands : ProtoStands b row proto

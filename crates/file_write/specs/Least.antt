@@ -9,7 +9,7 @@ use Rattle.program_types.specs.Content.{Name, Proto}
 use Rattle.program_types.specs.Key.{proto_key}
 use Rattle.tables_rows.specs.Stands.{NameStands, ProtoStands}
 
--- Each table has as many rows as there are such names, and a row stands for the name of its rank and for no other.
+-- Each table has as many rows as there are such names, and a row denotes the name of its rank and no other.
 pub record HoldsExactly (b : List ℕ) (s : Five) : Type 0 where
   pub strings : size_of b section.string_ids ≡ length s.strings
   pub types : size_of b section.type_ids ≡ length s.types

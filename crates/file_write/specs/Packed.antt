@@ -22,14 +22,14 @@ use Rattle.dex_value.specs.Spelling.{SpellsArray}
 
 -- ---- sections
 
--- The map says of a kind whose items stand at these places how many they are, and where there are some, that they begin at the first
+-- The map has for a kind whose items are at these places their number and, if there are some, as their begin the first
 -- ("offset from the start of the file to the items in question").
 pub record MapSays (b : List ℕ) (kind : ℕ) (places : List ℕ) : Type 0 where
   pub counted : (i : ℕ) → i < entry_count b → kind_at b i ≡ kind → items_at b i ≡ length places
   pub named : 0 < length places → (i : ℕ) × (i < entry_count b) × (kind_at b i ≡ kind) × (place_at b i ≡ slice_index places 0)
 
--- From `begin` to `end` stand the items that these references name, in the order of their first references, with zeros
--- where alignment asks for them, and nothing else; no two of them are equal.
+-- From `begin` to `end` are the items of these references, in the order of their first references, with zeros for alignment, and
+-- nothing else; no two of them are equal.
 pub record IsPackedSection {V : Type 0} (G : List ℕ → V → Type 0) (align : ℕ) (b : List ℕ) (kind begin end : ℕ)
     (references : List ℕ) : Type 0 where
   pub items : List (ℕ × V)
@@ -44,7 +44,7 @@ pub record IsPackedSection {V : Type 0} (G : List ℕ → V → Type 0) (align :
 abbrev pub SomeTypes : List ℕ → List ℕ → Type 0
 SomeTypes bytes indexes = SpellsIndexes bytes indexes × (0 < length indexes)
 
--- a code_item, which spells the code, in the bytes that are written of it
+-- a code_item, which encodes the code, in the bytes that are written for it
 pub record SomeCode (b bytes : List ℕ) (c : Code) : Type 0 where
   pub spelled : SpellsCode (NameStands b) bytes c
   pub packed : PacksCode (NameStands b) bytes c
@@ -92,12 +92,12 @@ code_places e = code_offs e.directs ++ code_offs e.virtuals
 
 -- ---- the file
 
--- where the first k tables end, if they stand end to end after the header
+-- where the first k tables end, if they are end to end after the header
 abbrev pub table_end : List ℕ → ℕ → ℕ
 table_end b zero = 112
 table_end b (suc k) = table_end b k + row_bytes k * size_of b k
 
--- Tables stand end to end after the header, and one without rows has the offset 0; the data section goes from where
+-- Tables are end to end after the header, and one without rows has the offset 0; the data section goes from where
 -- they end to the file's end.
 pub record TablesArePacked (b : List ℕ) : Type 0 where
   pub offsets : (k : ℕ) → k < 6 → offset_of b k ≡ (if size_of b k == 0 then 0 else table_end b k)
@@ -112,7 +112,7 @@ pub record DataEnds : Type 0 where
   pub arrays : ℕ
   pub datas : ℕ
 
--- Type lists, code, texts, static values, class data and the map stand one after the other.
+-- Type lists, code, texts, static values, class data and the map follow one another.
 pub record DataIsPacked (b : List ℕ) (ends : DataEnds) (entries : List Entries) : Type 0 where
   pub lists : IsPackedSection SomeTypes 4 b 0x1001 (data_begin b) ends.lists (list_places b)
   pub codes : IsPackedSection (SomeCode b) 4 b 0x2001 ends.lists ends.codes (flat_map code_places entries)
@@ -122,7 +122,7 @@ pub record DataIsPacked (b : List ℕ) (ends : DataEnds) (entries : List Entries
   pub map : IsNext 4 b ends.datas (map_place b)
   pub map_last : map_end b ≡ length b
 
--- What no reader looks at is 0: link_off, annotations_off, the half word after the kind of a map entry.
+-- Fields that no reader uses are 0: link_off, annotations_off, the half word after the kind of a map entry.
 pub record UnusedIsZero (b : List ℕ) : Type 0 where
   pub link : u32_at b 48 ≡ 0
   pub annotations : (i : ℕ) → i < size_of b section.class_defs → annotations_off b i ≡ 0
@@ -133,8 +133,8 @@ pub record MapIsPacked (b : List ℕ) : Type 0 where
   pub kinds : (i : ℕ) → i < entry_count b → IsWrittenKind (kind_at b i)
   pub some : (i : ℕ) → i < entry_count b → 0 < items_at b i
 
--- A file without slack: bytes, whose tables and sections stand end to end, each item is referred to and in its place, equal ones are
--- one, numbers take the fewest bytes, the map lists what there is, and what no reader looks at is 0.
+-- A file without slack: tables and sections are end to end, each item is referenced and in its place, equal ones are one, numbers are in
+-- the fewest bytes, the map lists what there is, and fields that no reader uses are 0.
 pub record Packed (b : List ℕ) : Type 0 where
   pub bytes : AreBytes b
   pub tables : TablesArePacked b

@@ -1,4 +1,4 @@
--- Labels of the second form: how they are spelled, what they mark, and what a word says where a target stands.
+-- Labels of the second form: how they are written, what they mark, and the value of a word in the slot of a target.
 -- Page: docs/LISTING.md, "Labels".
 use Rattle.std.specs.Prelude.{◌≡◌, ℕ, ◌+◌, ◌==◌, ◌&&◌, ◌||◌, nat_lt, nat_le, min, Bool, true, false, if◌then◌else◌, ◌⊎◌, List, [], ◌∷◌, ◌++◌, length, Option, Some, None, is_some}
 use Rattle.std.specs.List.{list_all}
@@ -32,7 +32,7 @@ is_label (c ∷ name) = (c == 58) && (nat_lt 0 (length name) && (nat_le (length 
 
 -- ---- what labels mark
 
--- A label, the line that it stands on, and the instruction that it marks.
+-- A label, its line, and the instruction that it marks.
 pub record Label : Type 0 where
   pub name : List ℕ
   pub line : ℕ
@@ -70,9 +70,9 @@ abbrev pub marked_by : Option Label → ℕ
 marked_by None = 4294967295
 marked_by (Some l) = min l.number 4294967295
 
--- ---- what words say
+-- ---- the values of words
 
--- A target stands in the slot.
+-- The slot is that of a target.
 abbrev pub is_target : Slot → Bool
 is_target (slot.Word mark.Target most) = true
 is_target _ = false
@@ -86,21 +86,21 @@ abbrev pub SpellsBy : Bool → List Label → Slot → Word → Datum → Type 0
 SpellsBy true ls s w d = SpellsLabel ls w d
 SpellsBy false ls s w d = SpellsSlot s w d
 
--- In the second form labels stand where targets do.
+-- In the second form targets are labels.
 abbrev pub SpellsHere : List Label → Slot → Word → Datum → Type 0
 SpellsHere ls s w d = SpellsBy (is_target s) ls s w d
 
--- The fault of a word that says nothing there.
+-- The fault of a word without a value there.
 abbrev pub fault_here : Slot → ℕ
 fault_here s = if is_target s then 101 else fault_of s
 
--- Each word says this in its slot.
+-- Each word has this value in its slot.
 abbrev pub SpellsAll : List Label → List Slot → List Word → List Datum → Type 0
 SpellsAll ls [] [] [] = Unit {0}
 SpellsAll ls (s ∷ ss) (w ∷ ws) (d ∷ ds) = SpellsHere ls s w d × SpellsAll ls ss ws ds
 SpellsAll _ _ _ _ = ⊥
 
--- From the left, the first word that says nothing in its slot has this fault.
+-- From the left, the first word without a value in its slot has this fault.
 abbrev pub MisspellsAll : List Label → List Slot → List Word → ℕ → Type 0
 MisspellsAll ls (s ∷ ss) (w ∷ ws) code =
     (((d : Datum) → SpellsHere ls s w d → ⊥) × (code ≡ fault_here s))

@@ -10,7 +10,7 @@ abbrev pub most_needed : List ℕ → ℕ
 most_needed [] = 0
 most_needed (t ∷ ts) = max (t + 1) (most_needed ts)
 
--- A target leads to one of the instructions.
+-- A target is one of the instructions.
 abbrev pub insn_needs : Insn → ℕ
 insn_needs i = most_needed (insn_leads i)
 

@@ -1,4 +1,4 @@
--- Which line may stand where.
+-- Which line is allowed where.
 -- Page: docs/LISTING.md, "The lines", "Faults" (103).
 use Rattle.std.specs.Prelude.{Bool, true, false}
 use Rattle.listing_slots.specs.declared.kind.Kind.{Kind}
@@ -16,36 +16,36 @@ abbrev pub is_top : Stage → Bool
 is_top Top = true
 is_top _ = false
 
--- A superclass, an interface or a source file may stand there.
+-- A superclass, an interface or a source file is allowed there.
 abbrev pub is_heads : Stage → Bool
 is_heads Heads = true
 is_heads _ = false
 
--- a member or a class's end may stand there
+-- a member or a class's end is allowed there
 abbrev pub is_in_class : Stage → Bool
 is_in_class Heads = true
 is_in_class Members = true
 is_in_class After = true
 is_in_class _ = false
 
--- A code may stand there: the line before is a method.
+-- A code is allowed there: the line before is a method.
 abbrev pub is_after : Stage → Bool
 is_after After = true
 is_after _ = false
 
--- An instruction may stand there.
+-- An instruction is allowed there.
 abbrev pub is_insns : Stage → Bool
 is_insns Insns = true
 is_insns _ = false
 
--- a try or a code's end may stand there
+-- a try or a code's end is allowed there
 abbrev pub is_in_code : Stage → Bool
 is_in_code Insns = true
 is_in_code Tries = true
 is_in_code Caught = true
 is_in_code _ = false
 
--- A catch may stand there: a try is open.
+-- A catch is allowed there: a try is open.
 abbrev pub is_caught : Stage → Bool
 is_caught Caught = true
 is_caught _ = false
@@ -58,7 +58,7 @@ is_insn kind.Sparse = true
 is_insn kind.Elements = true
 is_insn _ = false
 
--- Whether a line of this kind may stand there.
+-- Whether a line of this kind is allowed there.
 unfoldable pub may_stand : Stage → Kind → Bool
 may_stand s kind.First = is_start s
 may_stand s kind.OpenClass = is_top s

@@ -18,6 +18,6 @@ abbrev pub is_comment : List ℕ → Bool
 is_comment [] = true
 is_comment (c ∷ cs) = c == 35
 
--- A line that says nothing: spaces alone, or a comment.
+-- A line that is ignored: spaces alone, or a comment.
 abbrev pub is_skipped : List ℕ → Bool
 is_skipped line = is_comment (after_spaces line)

@@ -37,7 +37,7 @@ try_lines t = try_line t.from t.to ∷ (catch_lines t.catches ++ catch_all_lines
 abbrev pub inner_lines : Code → List Line
 inner_lines c = insn_lines c.insns ++ flat_map try_lines c.tries
 
--- `code REGISTERS INS OUTS`, what stands in it, `end code`.
+-- `code REGISTERS INS OUTS`, the lines in it, `end code`.
 abbrev pub code_lines : Code → List Line
 code_lines c = open_code c.registers c.ins c.outs ∷ (inner_lines c ++ end_code ∷ [])
 

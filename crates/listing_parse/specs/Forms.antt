@@ -17,17 +17,17 @@ abbrev pub HasShapeInForm : Form → List Word → Shape → Type 0
 HasShapeInForm One ws s = HasShape ws s
 HasShapeInForm Two ws s = HasBareShape ws s
 
--- A line of this shape may stand after what was read, in a listing of this form.
+-- A line of this shape is allowed after the lines so far, in a listing of this form.
 abbrev pub may_stand_in_form : Form → State → Shape → Bool
 may_stand_in_form One s sh = stands s sh
 may_stand_in_form Two s sh = may_stand (stage_of s.block) sh.kind
 
--- Each word says this in its slot, in a listing of this form.
+-- Each word has this value in its slot, in a listing of this form.
 abbrev pub SpellsInForm : Form → List Label → List Slot → List Word → List Datum → Type 0
 SpellsInForm One ls ss ws ds = SpellsSlots ss ws ds
 SpellsInForm Two ls ss ws ds = SpellsAll ls ss ws ds
 
--- One of the words says nothing in its slot, in a listing of this form, and this is its fault.
+-- One of the words has no value in its slot, in a listing of this form, and this is its fault.
 abbrev pub MisspellsInForm : Form → List Label → List Slot → List Word → ℕ → Type 0
 MisspellsInForm One ls ss ws code = MisspellsSlots ss ws code
 MisspellsInForm Two ls ss ws code = MisspellsAll ls ss ws code

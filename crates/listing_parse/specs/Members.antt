@@ -1,4 +1,4 @@
--- Members stand in any order in the text, and rise in the program.
+-- Members are in any order in the text, and rise in the program.
 -- Page: docs/LISTING.md, "The lines", "Values".
 use Rattle.std.specs.Prelude.{ℕ, ◌+◌, nat_lt, Bool, true, false, if◌then◌else◌, List, [], ◌∷◌, take, map, Option, Some, None}
 use Rattle.std.specs.List.{list_any}
@@ -13,7 +13,7 @@ pub record Given : Type 0 where
   pub field : Member
   pub value : Option Value
 
--- A static field is told by its field, whatever value the text gives it.
+-- A static field is determined by its field, whatever its value in the text.
 abbrev pub given_key : Given → Key
 given_key g = member_key g.field
 

@@ -82,19 +82,19 @@ start = record { done = []; block = at_start; lines = 0; late = None }
 
 -- ---- which line may follow
 
--- Where the next line of a class stands.
+-- The position of the next line of a class.
 abbrev pub class_stage : ClassPart → Stage
 class_stage at_heads = Heads
 class_stage at_members = Members
 class_stage (after_method m) = After
 
--- Where the next line of a code stands.
+-- The position of the next line of a code.
 abbrev pub code_stage : CodePart → Stage
 code_stage at_insns = Insns
 code_stage after_try = Tries
 code_stage (in_try t) = Caught
 
--- Where the next line stands.
+-- The position of the next line.
 abbrev pub stage_of : Block → Stage
 stage_of at_start = Start
 stage_of at_top = Top
@@ -106,7 +106,7 @@ abbrev pub insn_count : Block → ℕ
 insn_count (in_code o b p) = length b.insns
 insn_count _ = 0
 
--- A line of this shape may stand there; an instruction gives itself the next number.
+-- A line of this shape is allowed there; an instruction has the next number.
 abbrev pub stands : State → Shape → Bool
 stands s sh =
     may_stand (stage_of s.block) sh.kind && (if is_insn sh.kind then is_number sh.label (insn_count s.block) else true)
@@ -147,31 +147,31 @@ with_code_at o m c =
 abbrev pub is_among : List Descriptor → Descriptor → Bool
 is_among es d = list_any (same d) es
 
--- A static field in its place: none where it is given already.
+-- A static field in its place: none if the class has it.
 unfoldable pub with_static : Open → Given → Option Open
 with_static o g = option_map (λ gs. record o { statics = gs }) (with_member given_key g o.statics)
 
--- An instance field in its place: none where it is given already.
+-- An instance field in its place: none if the class has it.
 unfoldable pub with_instance : Open → Member → Option Open
 with_instance o m = option_map (λ ms. record o { instances = ms }) (with_member member_key m o.instances)
 
--- A direct method in its place: none where it is given already.
+-- A direct method in its place: none if the class has it.
 unfoldable pub with_direct : Open → Method → Option Open
 with_direct o m = option_map (λ ms. record o { directs = ms }) (with_member method_key m o.directs)
 
--- A virtual method in its place: none where it is given already.
+-- A virtual method in its place: none if the class has it.
 unfoldable pub with_virtual : Open → Method → Option Open
 with_virtual o m = option_map (λ ms. record o { virtuals = ms }) (with_member method_key m o.virtuals)
 
--- The class has this superclass: none where one is given already.
+-- The class with this superclass: none if it has one.
 unfoldable pub with_superclass : Open → Descriptor → Option Open
 with_superclass o d = elim o.superclass [ None ↦ Some (record o { superclass = Some d }) | Some e ↦ None ]
 
--- The class has this source file: none where one is given already.
+-- The class with this source file: none if it has one.
 unfoldable pub with_source : Open → Units → Option Open
 with_source o us = elim o.source [ None ↦ Some (record o { source = Some us }) | Some e ↦ None ]
 
--- One interface more, after the others: none where it is given already.
+-- One interface more, after the others: none if the class has it.
 unfoldable pub with_interface : Open → Descriptor → Option Open
 with_interface o d = if is_among o.interfaces d then None else Some (record o { interfaces = o.interfaces ++ d ∷ [] })
 
@@ -280,7 +280,7 @@ late_in _ = None
 abbrev pub with_block : State → Block → State
 with_block s b = record s { block = b }
 
--- A line that may stand there is added to the listing: none where it gives again what may be given once.
+-- A line that is allowed there is added to the listing: none if it repeats what may occur once.
 unfoldable pub add : State → Line → Option State
 add s first_line = if is_start (stage_of s.block) then Some (with_block s at_top) else None
 add s (open_class d f) =
@@ -294,4 +294,4 @@ add s line = option_map (λ b. with_block s b) (inside s.block s.lines line)
 abbrev pub counted : State → State
 counted s = record s { lines = s.lines + 1 }
 
--- ---- what a private helper says
+-- ---- contracts of private helpers

@@ -28,7 +28,7 @@ pub record Reading : Type 0 where
   pub labels : List Label
   pub base : State
 
--- Nothing was read; until a first line tells the form it is the first.
+-- Nothing was read; the form is the first one until a first line decides.
 abbrev pub begin : Reading
 begin = record { form = One; labels = []; base = start }
 
@@ -36,7 +36,7 @@ begin = record { form = One; labels = []; base = start }
 abbrev pub line_counted : Reading → Reading
 line_counted r = record r { base = counted r.base }
 
--- ---- lines that say nothing of the program
+-- ---- lines that are not about the program
 
 -- The word is this one.
 abbrev pub word_is : List ℕ → Word → Bool
@@ -53,7 +53,7 @@ abbrev pub begins_mark : List Word → Bool
 begins_mark (plain_word w ∷ ws) = is_mark w
 begins_mark _ = false
 
--- The label stands on this line, or nowhere.
+-- The label is on this line, or nowhere.
 abbrev pub is_on : ℕ → Option Label → Bool
 is_on line None = true
 is_on line (Some l) = l.line == line
@@ -67,7 +67,7 @@ abbrev pub line_of_mark : Reading → List Word → FormLine
 line_of_mark r (plain_word w ∷ []) = if is_insns (stage_of r.base.block) then line_of_label r w else Refused 103
 line_of_mark r _ = Refused 100
 
--- What a line is that says nothing of the program: the first line of the second form, or a label's line, or why neither.
+-- What a line is that is not about the program: the first line of the second form, or a label's line, or why neither.
 unfoldable pub line_of_form : Reading → List Word → FormLine
 line_of_form r ws =
     if is_second ws && (is_two r.form || is_start (stage_of r.base.block)) then (if is_start (stage_of r.base.block) then First else Refused 103)
@@ -85,7 +85,7 @@ labels_after Two kind.OpenCode line ls es = labels_ahead [] line 0 ls
 labels_after Two kind.EndCode line ls es = []
 labels_after _ _ line ls es = es
 
--- The line says this of the program, and these lines follow it.
+-- The line has this meaning for the program, and these lines follow it.
 pub record LineSays (r : Reading) (ls : List (List ℕ)) (ws : List Word) (t : Reading) : Type 0 where
   pub shape : Shape
   pub has_shape : HasShapeInForm r.form ws shape
@@ -102,7 +102,7 @@ pub record AddsLine (r : Reading) (ls : List (List ℕ)) (line : List ℕ) (t : 
   pub has_words : HasWords line words
   pub makes : ((line_of_form r words ≡ First) × (t ≡ in_second r)) ⊎ ((line_of_form r words ≡ Mark) × (t ≡ r)) ⊎ ((line_of_form r words ≡ Nothing) × LineSays r ls words t)
 
--- A line is read, whether it is skipped or says something: it counts in any case.
+-- A line is read, whether it is ignored or not: it counts in any case.
 abbrev pub TakesLine : Reading → List (List ℕ) → List ℕ → Reading → Type 0
 TakesLine r ls line t = ((is_skipped line ≡ true) × (t ≡ line_counted r)) ⊎ ((is_skipped line ≡ false) × AddsLine (line_counted r) ls line t)
 
@@ -127,13 +127,13 @@ pub record IsListing (text : List ℕ) (p : Program) : Type 0 where
 abbrev pub IsWordless : List ℕ → Type 0
 IsWordless line = (ws : List Word) → HasWords line ws → ⊥
 
--- 103 Order: it may not stand after these lines.
+-- 103 Order: it is not allowed after these lines.
 pub record IsMisplaced (r : Reading) (ws : List Word) : Type 0 where
   pub shape : Shape
   pub has_shape : HasShapeInForm r.form ws shape
   pub refused : may_stand_in_form r.form r.base shape ≡ false
 
--- 101 Name, 102 Number: from the left, a word says nothing in its slot.
+-- 101 Name, 102 Number: from the left, the first word without a value in its slot.
 pub record IsMisspelled (r : Reading) (ws : List Word) (code : ℕ) : Type 0 where
   pub shape : Shape
   pub has_shape : HasShapeInForm r.form ws shape
@@ -149,7 +149,7 @@ pub record IsTwice (r : Reading) (ws : List Word) : Type 0 where
   pub spelled : SpellsInForm r.form r.labels shape.slots shape.words says
   pub refused : add r.base (line_of shape.kind says) ≡ None
 
--- Why these words say nothing of the program: 100 Word where they have no shape, or one of the others.
+-- Why these words have no meaning for the program: 100 Word if they have no shape, or one of the others.
 abbrev pub IsUnsaid : Reading → List Word → ℕ → Type 0
 IsUnsaid r ws code = ((code ≡ 100) × ((sh : Shape) → HasShapeInForm r.form ws sh → ⊥)) ⊎ ((code ≡ 103) × IsMisplaced r ws) ⊎ IsMisspelled r ws code ⊎ ((code ≡ 104) × IsTwice r ws)
 
@@ -203,4 +203,4 @@ ListingBreaks text code place =
     ⊎ ((code ≡ 105) × IsLate (lines text) place)
     ⊎ IsIllFormed (lines text) code place
 
--- ---- what a private helper says
+-- ---- contracts of private helpers

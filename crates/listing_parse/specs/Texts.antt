@@ -1,4 +1,4 @@
--- The lines of a text, and which lines of a program they say, in both forms.
+-- The lines of a text, and the lines of a program that they mean, in both forms.
 -- Page: docs/LISTING.md, "Lines and words", "The two forms", "Labels", "A grammar", "The first form".
 use Rattle.std.specs.Prelude.{◌≡◌, ℕ, ◌+◌, Bool, true, false, if◌then◌else◌, List, [], ◌∷◌, ◌++◌, length, map}
 use Rattle.std.specs.List.{AllByRecursion}
@@ -77,7 +77,7 @@ pub data Where : Type 0 where
 pub data SayLines (form : Form) : Where → ℕ → List (List ℕ) → List Numbered → Type 0 where
   -- the text's end
   no_lines : {n : ℕ} → SayLines form outside n [] []
-  -- a line that says nothing
+  -- a line that is ignored
   silent : {w : Where} {n : ℕ} {l : List ℕ} {ls : List (List ℕ)} {xs : List Numbered}
       → is_skipped l ≡ true → SayLines form w (n + 1) ls xs
       → SayLines form w n (l ∷ ls) xs

@@ -1,4 +1,4 @@
--- Operands: what stands on a line after its first words, each word in its slot.
+-- Operands: the words of a line after its first words, each in its slot.
 -- Page: docs/LISTING.md, "The lines", "Values".
 use Rattle.std.specs.Prelude.{ℕ, ℤ, Bool, true, false, List, [], ◌∷◌, ◌++◌, take, map}
 use Rattle.std.specs.List.{flat_map}
@@ -17,7 +17,7 @@ use Rattle.listing_lines.specs.declared.form.Form.{Form}
 use Rattle.listing_lines.specs.declared.form.Form.TheVariants.{One, Two}
 use Rattle.listing_slots.specs.Shapes.{register4, register8, register16, target, size}
 
--- A slot, and what its word says.
+-- A slot, and the value of its word.
 pub record Operand : Type 0 where
   pub slot : Slot
   pub says : Datum
@@ -44,7 +44,7 @@ operand_text os = flat_map (λ o. 32 ∷ word_bytes (shown o.slot o.says)) os
 abbrev pub operand_text_in : Form → List Operand → List ℕ
 operand_text_in form os = flat_map (λ o. 32 ∷ word_bytes (shown_in form o.slot o.says)) os
 
--- What a slot says.
+-- The value of a slot.
 abbrev pub operand : Slot → Datum → Operand
 operand s d = record { slot = s; says = d }
 
@@ -128,7 +128,7 @@ abbrev pub truth_key : Bool → Key
 truth_key true = key.True
 truth_key false = key.False
 
--- A value: its keyword, and its operand; an array's values stand between braces.
+-- A value: its keyword, and its operand; an array's values are between braces.
 abbrev mutual
   pub value_operands : Value → List Operand
   value_operands (content.Byte z) = keyword key.Byte ∷ operand slot.Tiny (tiny z) ∷ []

@@ -58,7 +58,7 @@ method_operands m = operand slot.Member (named (OfText m.name)) ∷ operand slot
 abbrev pub type_operand : Descriptor → Operand
 type_operand d = operand slot.Desc (named (OfDesc d))
 
--- The keyword of a line that is no instruction, and what stands after it.
+-- The keyword of a line that is no instruction, and its operands.
 abbrev pub line_key : Line → Key
 line_key first_line = key.Dex
 line_key (open_class d f) = key.Class
@@ -77,7 +77,7 @@ line_key (try_line f t) = key.Try
 line_key (catch_line d k) = key.Catch
 line_key (catch_all_line k) = key.CatchAll
 
--- What stands after a line's keyword.
+-- The operands after a line's keyword.
 abbrev pub line_operands : Line → List Operand
 line_operands first_line = keyword key.Version ∷ []
 line_operands (open_class d f) = type_operand d ∷ operand slot.Flags (word f) ∷ []

@@ -1,10 +1,10 @@
--- What the words of a line say.
+-- The values of the words of a line.
 use Rattle.std.specs.Prelude.{ℕ, ℤ, pos, List, [], get_or}
 use Rattle.program_types.specs.Content.{Units, Descriptor, Proto, FieldRef, Name, OfText, OfDesc}
 use Rattle.listing_slots.specs.declared.key.Key.{Key}
 use Rattle.listing_slots.specs.declared.key.Key.TheVariants.{Equals}
 
--- What a word says: a number of so many bits, the bytes of an array, a name, or nothing but the keyword that it is.
+-- The value of a word: a number of so many bits, the bytes of an array, a name, or the keyword itself.
 pub data Datum : Type 0 where
   byte : ℕ → Datum
   half : ℕ → Datum
@@ -20,7 +20,7 @@ pub data Datum : Type 0 where
   prototype : Proto → Datum
   said : Key → Datum
 
--- ---- what the word at a place says; 0 or empty where it says another thing
+-- ---- the value of the word at a place; 0 or empty if it is of another kind
 
 -- The word at a place.
 abbrev pub at : List Datum → ℕ → Datum

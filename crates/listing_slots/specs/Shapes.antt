@@ -1,4 +1,4 @@
--- Which shapes a line can have: what it is, and which slots stand on it.
+-- The shapes that a line can have: its kind, and its slots.
 -- Page: docs/LISTING.md, "The lines", "Values"; "Dalvik Executable instruction formats", "The formats".
 use Rattle.std.specs.Prelude.{◌≡◌, ℕ, zero, suc, ◌+◌, ◌-◌, ◌/◌, Bool, true, false, nat_le, if◌then◌else◌, ◌⊎◌, List, [], ◌∷◌, ◌++◌, length, drop, replicate, Option, Some, None, option_map}
 use Rattle.dex_insn.specs.declared.opcode.Format.{Format}
@@ -51,13 +51,13 @@ abbrev pub is_key : Key → Word → Bool
 is_key k (plain_word w) = same (key_text k) w
 is_key k (text_in_quotes us) = false
 
--- How many words stand before the first `}`, five at most.
+-- How many words are before the first `}`, five at most.
 unfoldable pub before_close : ℕ → List Word → ℕ
 before_close most [] = 0
 before_close zero (w ∷ ws) = 0
 before_close (suc most) (w ∷ ws) = if is_key key.Close w then 0 else before_close most ws + 1
 
--- The operands of a format; the words decide how many registers stand in braces.
+-- The operands of a format; the words decide how many registers are in braces.
 abbrev pub format_slots : Format → Option IndexKind → List Word → List Slot
 format_slots format.F10x i ws = []
 format_slots format.F12x i ws = register4 ∷ register4 ∷ []

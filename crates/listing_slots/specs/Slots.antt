@@ -1,4 +1,4 @@
--- What a word says in a slot.
+-- The value of a word in a slot.
 -- Page: docs/LISTING.md, "What a word can be", "Faults".
 use Rattle.std.specs.Prelude.{◌≡◌, ℕ, ◌≤◌, ◌⊎◌, ℤ, pos, negsuc, Bool, true, false, ◌&&◌, if◌then◌else◌, List, [], ◌∷◌, ◌++◌}
 use Rattle.dex_base.specs.Descriptor.{IsDescriptor, IsMemberName}
@@ -13,7 +13,7 @@ use Rattle.listing_slots.specs.declared.slot.Slot.TheVariants as slot
 use Rattle.listing_slots.specs.Keys.{key_text, same}
 use Rattle.listing_slots.specs.Data.{Datum, byte, half, word, wide, tiny, short, int, long, elements, named, constant, prototype, said}
 
--- What stands before a number.
+-- The mark before a number.
 abbrev pub mark_text : Mark → List ℕ
 mark_text mark.Nothing = []
 mark_text mark.Register = 118 ∷ []
@@ -38,11 +38,11 @@ pub record SpellsInteger (most : ℕ) (w : Word) (z : ℤ) : Type 0 where
   pub spelled : SpellsWhole digits z
   pub small : IsSignedWithin most z
 
--- A word without quotes, whose bytes are as G says.
+-- A word without quotes, whose bytes are in G.
 abbrev pub SpellsPlain : {V : Type 0} → (List ℕ → V → Type 0) → Word → V → Type 0
 SpellsPlain G w v = (text : List ℕ) × (w ≡ plain_word text) × G text v
 
--- A word without quotes, whose units are as G says.
+-- A word without quotes, whose units are in G.
 abbrev pub SpellsNamed : {V : Type 0} → (List ℕ → V → Type 0) → Word → V → Type 0
 SpellsNamed G w v = (text : List ℕ) × (us : List ℕ) × (w ≡ plain_word text) × SpellsUnits text us × G us v
 
@@ -54,7 +54,7 @@ IsMember us n = IsMemberName us × (n ≡ us)
 abbrev pub IsType : List ℕ → List ℕ → Type 0
 IsType us d = IsDescriptor us × (d ≡ us)
 
--- The word says this in the slot.
+-- The word has this value in the slot.
 abbrev pub SpellsSlot : Slot → Word → Datum → Type 0
 SpellsSlot (slot.Byte m most) w d = (n : ℕ) × SpellsNumber m most w n × (d ≡ byte n)
 SpellsSlot (slot.Half m most) w d = (n : ℕ) × SpellsNumber m most w n × (d ≡ half n)
@@ -77,13 +77,13 @@ SpellsSlot slot.Enum w d = (f : FieldRef) × SpellsNamed IsFieldText w f × (d �
 SpellsSlot slot.Proto w d = (p : Proto) × SpellsNamed IsProtoText w p × (d ≡ prototype p)
 SpellsSlot (slot.Key k) w d = d ≡ said k
 
--- Each word says this in its slot.
+-- Each word has this value in its slot.
 abbrev pub SpellsSlots : List Slot → List Word → List Datum → Type 0
 SpellsSlots [] [] [] = Unit {0}
 SpellsSlots (s ∷ ss) (w ∷ ws) (d ∷ ds) = SpellsSlot s w d × SpellsSlots ss ws ds
 SpellsSlots _ _ _ = ⊥
 
--- Names stand in the slot.
+-- The slot is that of a name.
 abbrev pub is_name_slot : Slot → Bool
 is_name_slot slot.Member = true
 is_name_slot slot.Desc = true
@@ -93,11 +93,11 @@ is_name_slot slot.Enum = true
 is_name_slot slot.Proto = true
 is_name_slot _ = false
 
--- The fault of a word that says nothing in its slot: 101 Name, 102 Number.
+-- The fault of a word without a value in its slot: 101 Name, 102 Number.
 abbrev pub fault_of : Slot → ℕ
 fault_of s = if is_name_slot s then 101 else 102
 
--- From the left, the first word that says nothing in its slot has this fault.
+-- From the left, the first word without a value in its slot has this fault.
 abbrev pub MisspellsSlots : List Slot → List Word → ℕ → Type 0
 MisspellsSlots (s ∷ ss) (w ∷ ws) code =
     (((d : Datum) → SpellsSlot s w d → ⊥) × (code ≡ fault_of s))

@@ -1,4 +1,4 @@
--- Names in words: units that stand for themselves or are escaped, and the texts of fields, methods and prototypes.
+-- Names in words: units that are plain or escaped, and the texts of fields, methods and prototypes.
 -- Page: docs/LISTING.md, "What a word can be"; "Dalvik Executable format", "String syntax".
 use Rattle.std.specs.Prelude.{◌≡◌, ◌≢◌, ℕ, ◌+◌, ◌⊎◌, List, [], ◌∷◌, ◌++◌}
 use Rattle.std.specs.List.{flat_map, AllByRecursion}
@@ -36,4 +36,4 @@ pub record IsMethodText (us : List ℕ) (m : MethodRef) : Type 0 where
   pub proto : IsProtoText tail m.proto
   pub joined : us ≡ m.class ++ (45 ∷ 62 ∷ (m.name ++ tail))
 
--- ---- what private helpers say
+-- ---- contracts of private helpers

@@ -1,4 +1,4 @@
--- Numbers as they are spelled: in decimal or hexadecimal digits of either case, with any number of leading zeros.
+-- Numbers as they are written: in decimal or hexadecimal digits of either case, with any number of leading zeros.
 -- Page: docs/LISTING.md, "What a word can be".
 use Rattle.std.specs.Prelude.{◌≡◌, ℕ, ◌<◌, ◌+◌, ◌*◌, ◌==◌, ◌&&◌, Bool, nat_lt, if◌then◌else◌, ℤ, pos, neg_ℤ, ◌⊎◌, List, [], ◌∷◌, length, drop, slice_index}
 use Rattle.std.specs.List.{list_all}
@@ -33,7 +33,7 @@ SpellsElements (a ∷ b ∷ ds) bytes = (digit_value a < 16) × (digit_value b <
 abbrev pub all_digits : ℕ → List ℕ → Bool
 all_digits radix ds = nat_lt 0 (length ds) && list_all (λ c. nat_lt (digit_value c) radix) ds
 
--- `0x` stands at the front.
+-- `0x` is at the front.
 abbrev pub has_prefix : List ℕ → Bool
 has_prefix word = (slice_index word 0 == 48) && (slice_index word 1 == 120)
 
@@ -45,6 +45,6 @@ is_natural word = if has_prefix word then all_digits 16 (drop 2 word) else all_d
 abbrev pub natural_value : List ℕ → ℕ
 natural_value word = if has_prefix word then digits_value 16 (drop 2 word) else digits_value 10 word
 
--- The word is this number, spelled in any way.
+-- The word is this number, written in any way.
 abbrev pub is_number : List ℕ → ℕ → Bool
 is_number word n = is_natural word && (natural_value word == n)

@@ -1,4 +1,4 @@
--- Texts in quotes: units that stand for themselves or are escaped.
+-- Texts in quotes: units that are plain or escaped.
 -- Page: docs/LISTING.md, "Lines and words".
 use Rattle.std.specs.Prelude.{◌≡◌, ◌≢◌, ℕ, ◌+◌, ◌*◌, ◌<◌, ◌≤◌, ◌⊎◌, ◌||◌, ◌&&◌, nat_lt, ◌==◌, if◌then◌else◌, List, [], ◌∷◌, ◌++◌}
 use Rattle.std.specs.List.{flat_map}
@@ -8,7 +8,7 @@ pub use Rattle.program_types.specs.Written.{glyph, escape_text}
 
 -- An escape is written in a text as in a name.
 
--- A unit that stands for itself.
+-- A plain unit.
 pub record IsUnescaped (u : ℕ) : Type 0 where
   pub low : 32 ≤ u
   pub high : u < 127
@@ -55,4 +55,4 @@ unit_text u =
 abbrev pub text_word : List ℕ → List ℕ
 text_word us = 34 ∷ (flat_map unit_text us ++ 34 ∷ [])
 
--- ---- what a private helper says
+-- ---- contracts of private helpers

@@ -15,7 +15,7 @@ abbrev pub after_spaces : List ℕ → List ℕ
 after_spaces [] = []
 after_spaces (c ∷ cs) = if c == 32 then after_spaces cs else c ∷ cs
 
--- What stands before the first space.
+-- The front before the first space.
 abbrev pub up_to_space : List ℕ → List ℕ
 up_to_space [] = []
 up_to_space (c ∷ cs) = if c == 32 then [] else c ∷ up_to_space cs
@@ -37,7 +37,7 @@ pub record TakesPlain (text : List ℕ) (w : List ℕ) (rest : List ℕ) : Type 
   pub word : w ≡ up_to_space text
   pub after : rest ≡ from_space text
 
--- A text in quotes, after which a space or the line's end stands.
+-- A text in quotes, followed by a space or the line's end.
 pub record TakesText (text : List ℕ) (us : List ℕ) (rest : List ℕ) : Type 0 where
   pub inner : List ℕ
   pub quote : text ≡ 34 ∷ inner
@@ -49,7 +49,7 @@ abbrev pub TakesWord : List ℕ → Word → List ℕ → Type 0
 TakesWord text (plain_word w) rest = TakesPlain (after_spaces text) w rest
 TakesWord text (text_in_quotes us) rest = TakesText (after_spaces text) us rest
 
--- The words of a line: between them and at both ends stand spaces.
+-- The words of a line: between them and at both ends are spaces.
 pub record HasWords (line : List ℕ) (ws : List Word) : Type 0 where
   pub end : List ℕ
   pub words : EachTaken TakesWord line ws end

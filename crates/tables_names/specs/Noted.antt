@@ -34,7 +34,7 @@ pub record AddsNoted (old new : Notes) (names : List Name) : Type 0 where
   pub added : sets new.names ≡ with_names (sets old.names) names
   pub noted : (before : List Name) → AreNoted old before → AreNoted new (before ++ names)
 
--- each name keeps its number, and what was noted stands in front
+-- each name keeps its number, and the notes so far are in front
 pub record Continues (old new : Notes) : Type 0 where
   pub grows : AllGrow old.names new.names
   pub front : (more : List Number) × (new.numbers ≡ old.numbers ++ more)

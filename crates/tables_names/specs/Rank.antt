@@ -36,7 +36,7 @@ pub record IsSubset (ks js : List Key) : Type 0 where
 abbrev pub IsAt : List Key → ℕ → Key → Type 0
 IsAt ks i k = slice_get ks i ≡ Some k
 
--- what a look-up of k answers: the rank, where k is held and the rank has 32 bits
+-- the result of a look-up of k: the rank, if k is in the set and the rank has 32 bits
 abbrev pub LookUpAnswers : List Key → Key → Option ℕ → Type 0
 LookUpAnswers ks k r = SomeIff r (IsTrue (is_member ks k) × (rank_of ks k < 2 ^ 32)) (rank_of ks k)
 

@@ -1,4 +1,4 @@
--- The rows of a file's tables by index, and the names that they stand for: tables that are sorted by indices are sorted by
+-- The rows of a file's tables by index, and the names that they denote: tables that are sorted by indices are sorted by
 -- names.
 -- Page: "Dalvik Executable format", "File layout": type_ids are sorted by string index; proto_ids by return type, then by
 -- parameters, by type index; field_ids by class, name and type; method_ids by class, name and proto.
