@@ -75,7 +75,6 @@ pub use Rattle.file_layout.specs.Tiles
 pub use Rattle.file_limits.specs.Limits
 pub use Rattle.file_limits.specs.Wide as FileLimitsWide
 pub use Rattle.file_put.specs.Data
-pub use Rattle.file_read.specs.Groups
 pub use Rattle.file_read.specs.Means
 pub use Rattle.file_read.specs.Refused
 pub use Rattle.file_strip.specs.AtLeast

@@ -26,7 +26,8 @@ use Rattle.code_read.proofs.StandLaws.{code_body, body_code}
 use Rattle.file_classes.specs.ClassData.{MethodEntry, Entries, steps, index_of, EntriesAre}
 use Rattle.file_classes.specs.ClassRows.{class_word}
 use Rattle.file_classes.specs.Classes.{IsMethod, StaticsAt, CodeAt, SomeCodeStands, SpellsClass}
-use Rattle.file_classes.specs.ClassFaults.{ValuesStand, SomeBodyStands, BodyAt, BodyHolds, BodyFails, CodeHolds, RegistersFail, EachCodeHolds, SomeCodeFails, ClassCodesHold, MethodsBreak, BodiesHold, IsFirstClass, RowRegistersHold, RowRegistersBreak}
+use Rattle.file_classes.specs.ClassFaults.{ValuesStand, SomeBodyStands, BodyAt, BodyHolds, BodyFails, CodeHolds, RegistersFail, EachCodeHolds, SomeCodeFails, ClassCodesHold, MethodsBreak, BodiesHold, RowRegistersHold, RowRegistersBreak}
+use Rattle.file_classes.specs.inner.ClassFaults.{IsFirstClass}
 use Rattle.file_classes.specs.inner.Reading.{bare, head, HaveCodes, IsHead, IsDone, AreDone, CodesHoldUpTo, FirstCodeBreaks, CodesUpTo, BodiesAre, SpellsBodies}
 use Rattle.file_classes.specs.declared.members.Bare.{Bare}
 use Rattle.file_classes.specs.declared.heads.Head.{Head}

@@ -16,7 +16,8 @@ use Rattle.tables_rows.proofs.NameLaws.{names_stand}
 use Rattle.dex_value.specs.Standing.{ArrayStands}
 use Rattle.dex_value.specs.Faults.{ArrayBreaksAt}
 use Rattle.file_classes.specs.ClassRows.{class_word}
-use Rattle.file_classes.specs.ClassFaults.{ValuesStand, ValuesBreak, IsFirstClass, at_row}
+use Rattle.file_classes.specs.ClassFaults.{ValuesStand, ValuesBreak, at_row}
+use Rattle.file_classes.specs.inner.ClassFaults.{IsFirstClass}
 use Rattle.file_classes.specs.inner.Reading.{IsHead}
 use Rattle.file_classes.specs.declared.heads.Head.{Head}
 use Rattle.file_classes.proofs.ClearLaws.{array_weaker}

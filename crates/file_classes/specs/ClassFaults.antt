@@ -2,17 +2,14 @@
 -- is asked only where the groups before, and the rows before, hold.
 use Rattle.std.specs.Prelude.{◌≡◌, ◌≢◌, ℕ, ◌<◌, ◌==◌, ◌||◌, if◌then◌else◌, MatchBool, None, List, length, Option, Some, slice_index}
 use Rattle.std.specs.List.{slice_get}
-use Rattle.dex_base.specs.FirstFault.{or_later, or_else, First, FirstEntry}
+use Rattle.dex_base.specs.FirstFault.{or_later, or_else, or_first, FirstEntry}
 use Rattle.dex_base.specs.declared.fault.Fault.{Fault}
 use Rattle.dex_container.specs.Layout.{size_of}
-use Rattle.dex_container.specs.Frame.{IsFramed}
 use Rattle.dex_container.specs.Section as section
 use Rattle.program_types.specs.Content.{Units, FieldRef, MethodRef, Value, Code, Class}
 use Rattle.tables_rows.specs.RowFields.{row_place}
 use Rattle.tables_rows.specs.Names.{Names, AreNamesOf, NameIsAt}
-use Rattle.tables_rows.specs.Sorted.{RowsHold, TablesHold}
 use Rattle.tables_rows.specs.Stands.{TypeStands, FieldStands, MethodStands, NameStands}
-use Rattle.tables_rows.specs.TableFaults.{IsFirstRow}
 use Rattle.dex_value.specs.Faults.{ArrayBreaksAt}
 use Rattle.code_read.specs.Code.{BodyStands}
 use Rattle.code_read.specs.Faults.{CodeBreaks, CodeOverruns}
@@ -112,10 +109,6 @@ pub record ClassRowHolds (b : List ℕ) (i : ℕ) : Type 0 where
   pub class : Class
   pub head : HeadIs b i entries class
   pub order : InOrder b i
-
--- All rows hold.
-abbrev pub ClassRowsHold : List ℕ → Type 0
-ClassRowsHold b = RowsHold ClassRowHolds b (size_of b section.class_defs)
 
 -- ---- static values
 
@@ -218,36 +211,6 @@ RowRegistersBreak = MethodsBreak CodeHolds RegistersFail
 
 -- ---- in the order of the groups
 
--- The fault is that of a class row, and all rows before it hold.
-abbrev pub IsFirstClass : (List ℕ → ℕ → Fault → Type 0) → (List ℕ → ℕ → Type 0) → List ℕ → Fault → Type 0
-IsFirstClass Breaks Holds b = First (size_of b section.class_defs) (Holds b) (Breaks b)
-
--- The first fault of the class rows, where header, map and checksums and all tables hold.
-pub record IsClassFault (b : List ℕ) (fault : Fault) : Type 0 where
-  pub framed : IsFramed b
-  pub tables : TablesHold b
-  pub first : IsFirstRow ClassRowBreaks ClassRowHolds b section.class_defs fault
-
--- The first of the static values, where all class rows hold too.
-pub record IsValueFault (b : List ℕ) (fault : Fault) : Type 0 where
-  pub framed : IsFramed b
-  pub tables : TablesHold b
-  pub classes : ClassRowsHold b
-  pub first : IsFirstClass ValuesBreak ValuesHold b fault
-
--- The first of the code, where all static values hold too.
-pub record IsCodeFault (b : List ℕ) (fault : Fault) : Type 0 where
-  pub framed : IsFramed b
-  pub tables : TablesHold b
-  pub classes : ClassRowsHold b
-  pub values : RowsHold ValuesHold b (size_of b section.class_defs)
-  pub first : IsFirstClass BodiesBreak BodiesHold b fault
-
--- The first of the registers, where all code holds too.
-pub record IsRegisterFault (b : List ℕ) (fault : Fault) : Type 0 where
-  pub framed : IsFramed b
-  pub tables : TablesHold b
-  pub classes : ClassRowsHold b
-  pub values : RowsHold ValuesHold b (size_of b section.class_defs)
-  pub bodies : RowsHold BodiesHold b (size_of b section.class_defs)
-  pub first : IsFirstClass RowRegistersBreak RowRegistersHold b fault
+-- A line of a list of rules: the first fault of a pass over the class rows, or all rows hold and the rest has the fault.
+abbrev pub or_class : (List ℕ → ℕ → Fault → Type 0) → (List ℕ → ℕ → Type 0) → List ℕ → Fault → Type 0 → Type 0
+or_class Breaks Holds b = or_first (size_of b section.class_defs) (Holds b) (Breaks b)

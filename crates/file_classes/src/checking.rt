@@ -5,7 +5,8 @@ ghost use Rattle.dex_container.specs.Layout.{size_of};
 ghost use Rattle.dex_container.specs.Section as section;
 ghost use Rattle.tables_rows.specs.Names.{AreNamesOf, AreRows};
 ghost use Rattle.tables_rows.specs.Sorted.{RowsHold};
-ghost use Rattle.file_classes.specs.ClassFaults.{BodyHolds, BodyFails, CodeHolds, RegistersFail, BodiesHold, BodiesBreak, RowRegistersHold, RowRegistersBreak, IsFirstClass};
+ghost use Rattle.file_classes.specs.ClassFaults.{BodyHolds, BodyFails, CodeHolds, RegistersFail, BodiesHold, BodiesBreak, RowRegistersHold, RowRegistersBreak};
+ghost use Rattle.file_classes.specs.inner.ClassFaults.{IsFirstClass};
 ghost use Rattle.tables_rows.specs.inner.Cached.{AreCached};
 ghost use Rattle.file_classes.specs.inner.Reading.{IsHead, CodesHoldUpTo, FirstCodeBreaks, CodesUpTo, IsChecked};
 

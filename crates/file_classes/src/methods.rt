@@ -8,7 +8,8 @@ ghost use Rattle.program_types.specs.View as view;
 ghost use Rattle.tables_rows.specs.Names.{AreNamesOf, AreRows};
 ghost use Rattle.tables_rows.specs.Sorted.{RowsHold};
 ghost use Rattle.file_classes.specs.Classes.{SpellsClass};
-ghost use Rattle.file_classes.specs.ClassFaults.{BodyAt, BodyHolds, BodyFails, CodeHolds, RegistersFail, BodiesHold, BodiesBreak, RowRegistersHold, RowRegistersBreak, IsFirstClass};
+ghost use Rattle.file_classes.specs.ClassFaults.{BodyAt, BodyHolds, BodyFails, CodeHolds, RegistersFail, BodiesHold, BodiesBreak, RowRegistersHold, RowRegistersBreak};
+ghost use Rattle.file_classes.specs.inner.ClassFaults.{IsFirstClass};
 ghost use Rattle.tables_rows.specs.inner.Cached.{AreCached};
 ghost use Rattle.file_classes.specs.inner.Reading.{IsHead, AreStatics, AreDone, FirstCodeBreaks, CodesUpTo, IsFound, SpellsBodies};
 

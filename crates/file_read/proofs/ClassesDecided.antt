@@ -15,11 +15,13 @@ use Rattle.dex_base.specs.Deciding.{Decided}
 use Rattle.dex_base.proofs.Deciding.{decide_like, decide_both, decide_le, decide_eq, decide_list, decide_all, decide_below}
 use Rattle.dex_base.proofs.NamesDecided.{decide_class}
 use Rattle.tables_rows.proofs.RowsDecided.{decide_list_at, decide_types, decide_not}
+use Rattle.tables_rows.specs.inner.TableFaults.{IsFirstRow}
 use Rattle.tables_rows.proofs.RowsBreak.{HoldsOrBreaks, first_break}
 use Rattle.file_classes.specs.ClassRows.{class_word, no_index, IndexOrNone, InterfaceIndexes, NoneDefines, InOrder}
 use Rattle.file_classes.specs.ClassData.{FieldEntry, MethodEntry, Entries, EntriesAt, steps, index_of, FirstEntriesAre, EntriesAre}
 use Rattle.file_classes.specs.Classes.{NoTypeTwice, InterfacesAt, RowIs, IsField, IsMethod}
-use Rattle.file_classes.specs.ClassFaults.{FieldOwner, MethodOwner, EntryBreaks, EntriesBreak, FieldEntriesBreak, MethodEntriesBreak, MembersBreak, ClassRowBreaks, ClassRowHolds, ClassRowsHold, IsClassFault}
+use Rattle.file_classes.specs.ClassFaults.{FieldOwner, MethodOwner, EntryBreaks, EntriesBreak, FieldEntriesBreak, MethodEntriesBreak, MembersBreak, ClassRowBreaks, ClassRowHolds}
+use Rattle.file_classes.specs.inner.ClassFaults.{ClassRowsHold}
 use Rattle.file_classes.proofs.EntryFaults.{run_holds, field_owned, method_owned, field_owner_one, method_owner_one, fields_hold, methods_hold}
 use Rattle.file_classes.proofs.EntryLaws.{entry_at, runs_none, runs_more}
 use Rattle.file_classes.proofs.HeadLaws.{to_each, no_classes, not_distinct}
@@ -261,11 +263,8 @@ module _ (b : List ℕ) (framed : IsFramed b) (tables : TablesHold b) (i : ℕ) 
     ]
   ]
 
-pub classes_are_decided : (b : List ℕ) → IsFramed b → TablesHold b → ClassRowsHold b ⊎ ((e : Fault) × IsClassFault b e)
-classes_are_decided b framed tables = elim (first_break ClassRowBreaks ClassRowHolds b 5 (λ i lt. class_row b framed tables i lt)) [
-  | inl hold ↦ inl hold
-  | inr f ↦ inr (f.0, record { framed = framed; tables = tables; first = f.1 })
-]
+pub classes_are_decided : (b : List ℕ) → IsFramed b → TablesHold b → ClassRowsHold b ⊎ ((e : Fault) × IsFirstRow ClassRowBreaks ClassRowHolds b 5 e)
+classes_are_decided b framed tables = first_break ClassRowBreaks ClassRowHolds b 5 (λ i lt. class_row b framed tables i lt)
 
 pub row_is_decided : (b : List ℕ) → IsFramed b → TablesHold b → (i : ℕ) → i < size_of b 5 → ClassRowHolds b i ⊎ ((code : ℕ) × ClassRowBreaks b i code)
 unfolding HoldsOrBreaks

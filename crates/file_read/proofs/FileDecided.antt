@@ -23,12 +23,12 @@ use Rattle.code_read.proofs.StandLaws.{body_code}
 use Rattle.file_read.specs.inner.Broken.{Broken}
 use Rattle.file_classes.specs.ClassRows.{class_word}
 use Rattle.file_classes.specs.ClassData.{MethodEntry, Entries, EntriesAt}
-use Rattle.file_classes.specs.ClassFaults.{ClassRowHolds, ValuesHold, ValuesBreak, at_row, SomeBodyStands, BodyHolds, BodyFails, CodeHolds, RegistersFail, EachCodeHolds, SomeCodeFails, ClassCodesHold, MethodsBreak, BodiesHold, BodiesBreak, RowRegistersHold, RowRegistersBreak, IsFirstClass}
-use Rattle.file_read.specs.Groups.{Classes, Values, Codes, Registers}
+use Rattle.file_classes.specs.ClassFaults.{ClassRowHolds, ValuesHold, ValuesBreak, at_row, SomeBodyStands, BodyHolds, BodyFails, CodeHolds, RegistersFail, EachCodeHolds, SomeCodeFails, ClassCodesHold, MethodsBreak, BodiesHold, BodiesBreak, RowRegistersHold, RowRegistersBreak}
+use Rattle.file_classes.specs.inner.ClassFaults.{IsFirstClass}
 use Rattle.file_read.specs.Means.{Means}
 use Rattle.file_read.specs.Refused.{IsRefused}
 use Rattle.file_classes.proofs.EntryLaws.{at_some}
-use Rattle.file_read.proofs.PassLaws.{program_meant, table_refused}
+use Rattle.file_read.proofs.PassLaws.{program_meant, table_refused, class_refused, value_refused, last_refused}
 use Rattle.file_read.proofs.FirstLaws.{means_clear, refused_broken}
 use Rattle.code_read.proofs.CodesDecided.{body-decided, registers-decided}
 use Rattle.file_read.specs.inner.FileDeciding.{MeansOrRefused}
@@ -127,14 +127,14 @@ pub framed_is_decided : (b : List ℕ) → AreBytes b → IsFramed b → MeansOr
 framed_is_decided b are framed = elim (tables_are_decided b framed) [
   | inr f ↦ inr (f.0, table_refused b f.0 f.1)
   | inl tables ↦ elim (classes_are_decided b framed tables) [
-    | inr f ↦ inr (f.0, (Classes, f.1))
+    | inr f ↦ inr (f.0, class_refused b f.0 framed tables f.1)
     | inl classes ↦ elim (first_class_break ValuesBreak ValuesHold b (λ i lt. value_row b are framed tables i (classes i lt))) [
-      | inr f ↦ inr (f.0, (Values, record { framed = framed; tables = tables; classes = classes; first = f.1 }))
+      | inr f ↦ inr (f.0, value_refused b f.0 framed tables classes f.1)
       | inl values ↦
           elim (first_class_break BodiesBreak BodiesHold b (λ i lt. bodies_decided b are framed tables i (classes i lt))) [
-            | inr f ↦ inr (f.0, (Codes, record { framed = framed; tables = tables; classes = classes; values = values; first = f.1 }))
+            | inr f ↦ inr (f.0, last_refused b f.0 framed tables classes values (inl f.1))
             | inl bodies ↦ elim (first_class_break RowRegistersBreak RowRegistersHold b (λ i lt. registers_decided b framed tables i (bodies i lt))) [
-              | inr f ↦ inr (f.0, (Registers, record { framed = framed; tables = tables; classes = classes; values = values; bodies = bodies; first = f.1 }))
+              | inr f ↦ inr (f.0, last_refused b f.0 framed tables classes values (inr (bodies, f.1)))
               | inl methods ↦ inl (program_meant b framed tables classes values methods)
             ]
           ]

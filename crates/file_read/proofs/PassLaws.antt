@@ -6,11 +6,12 @@ use Rattle.dex_container.specs.Layout.{size_of}
 use Rattle.program_types.specs.Content.{Class, Program}
 use Rattle.tables_rows.specs.Names.{AreRows}
 use Rattle.tables_rows.specs.Sorted.{RowsHold, TablesHold}
-use Rattle.tables_rows.specs.TableFaults.{IsFirstRow, IsTableFault}
-use Rattle.file_classes.specs.ClassFaults.{ClassRowBreaks, ClassRowHolds, ClassRowsHold, ValuesBreak, ValuesHold, BodiesBreak, BodiesHold, RowRegistersBreak, RowRegistersHold, IsFirstClass}
+use Rattle.tables_rows.specs.TableFaults.{or_tables, IsTableFault}
+use Rattle.tables_rows.specs.inner.TableFaults.{IsFirstRow}
+use Rattle.file_classes.specs.ClassFaults.{ClassRowBreaks, ClassRowHolds, ValuesBreak, ValuesHold, BodiesBreak, BodiesHold, RowRegistersBreak, RowRegistersHold}
+use Rattle.file_classes.specs.inner.ClassFaults.{ClassRowsHold, IsFirstClass}
 use Rattle.file_classes.specs.Classes.{SpellsClass}
 use Rattle.file_classes.specs.ClassRows.{InOrder}
-use Rattle.file_read.specs.Groups.{Strings, Types, Protos, Fields, Methods, Codes, Registers}
 use Rattle.file_read.specs.Means.{Means}
 use Rattle.file_read.specs.Refused.{IsRefused}
 use Rattle.file_classes.proofs.EntryLaws.{entry_at, list_same}
@@ -67,18 +68,32 @@ pub no_last_fault : (b : List ℕ) (p : Program) (e : Fault) → Means b p → I
 no_last_fault b p e m (inl f) = no_code_fault b p e m f
 no_last_fault b p e m (inr f) = no_register_fault b p e m f.1
 
--- the tables refuse by one of their groups
-pub table_refused : (b : List ℕ) (e : Fault) → IsTableFault b e → IsRefused b e
-table_refused b e (inl f) = (Strings, f)
-table_refused b e (inr (inl f)) = (Types, f)
-table_refused b e (inr (inr (inl f))) = (Protos, f)
-table_refused b e (inr (inr (inr (inl f)))) = (Fields, f)
-table_refused b e (inr (inr (inr (inr f)))) = (Methods, f)
+-- ---- a refusal of each pass, where those before it refuse nothing
 
--- where the passes before it refuse nothing, the third refuses by one of its groups
-pub last_refused : (b : List ℕ) (e : Fault) → IsFramed b → TablesHold b → ClassRowsHold b → RowsHold ValuesHold b (size_of b 5) → IsFirstClass BodiesBreak BodiesHold b e ⊎ (RowsHold BodiesHold b (size_of b 5) × IsFirstClass RowRegistersBreak RowRegistersHold b e) → IsRefused b e
-last_refused b e framed tables classes values (inl f) = (Codes, record { framed = framed; tables = tables; classes = classes; values = values; first = f })
-last_refused b e framed tables classes values (inr f) = (Registers, record { framed = framed; tables = tables; classes = classes; values = values; bodies = f.0; first = f.1 })
+after_tables : {P : Type 0} (b : List ℕ) (e : Fault) → TablesHold b → P → or_tables b e P
+after_tables b e tables p = inr (tables.strings, inr (tables.types, inr (tables.protos, inr (tables.fields, inr (tables.methods, p)))))
+
+tables_then : {P : Type 0} (b : List ℕ) (e : Fault) → or_tables b e ⊥ → or_tables b e P
+tables_then b e (inl x) = inl x
+tables_then b e (inr (s, inl x)) = inr (s, inl x)
+tables_then b e (inr (s, inr (t, inl x))) = inr (s, inr (t, inl x))
+tables_then b e (inr (s, inr (t, inr (p, inl x)))) = inr (s, inr (t, inr (p, inl x)))
+tables_then b e (inr (s, inr (t, inr (p, inr (f, inl x))))) = inr (s, inr (t, inr (p, inr (f, inl x))))
+tables_then b e (inr (s, inr (t, inr (p, inr (f, inr (m, none)))))) = absurd none
+
+pub table_refused : (b : List ℕ) (e : Fault) → IsTableFault b e → IsRefused b e
+table_refused b e x = inr (x.0, tables_then b e x.1)
+
+module _ (b : List ℕ) (e : Fault) (framed : IsFramed b) (tables : TablesHold b) where
+  pub class_refused : IsFirstRow ClassRowBreaks ClassRowHolds b 5 e → IsRefused b e
+  class_refused x = inr (framed, after_tables b e tables (inl x))
+
+  pub value_refused : ClassRowsHold b → IsFirstClass ValuesBreak ValuesHold b e → IsRefused b e
+  value_refused classes x = inr (framed, after_tables b e tables (inr (classes, inl x)))
+
+  pub last_refused : ClassRowsHold b → RowsHold ValuesHold b (size_of b 5) → IsFirstClass BodiesBreak BodiesHold b e ⊎ (RowsHold BodiesHold b (size_of b 5) × IsFirstClass RowRegistersBreak RowRegistersHold b e) → IsRefused b e
+  last_refused classes values (inl x) = inr (framed, after_tables b e tables (inr (classes, inr (values, inl x))))
+  last_refused classes values (inr x) = inr (framed, after_tables b e tables (inr (classes, inr (values, inr (x.0, inl x.1)))))
 
 -- the program of classes that the rows spell
 pub means_these : (b : List ℕ) (p : Program) → IsFramed b → TablesHold b → ClassRowsHold b → AreRows SpellsClass b 5 p → Means b p

@@ -7,7 +7,8 @@ use Rattle.dex_container.specs.Layout.{size_of}
 use Rattle.program_types.specs.Content.{Class}
 use Rattle.tables_rows.specs.Sorted.{RowsHold}
 use Rattle.tables_rows.proofs.RowReading.{first_more}
-use Rattle.file_classes.specs.ClassFaults.{BodiesBreak, BodiesHold, RowRegistersBreak, RowRegistersHold, IsFirstClass}
+use Rattle.file_classes.specs.ClassFaults.{BodiesBreak, BodiesHold, RowRegistersBreak, RowRegistersHold}
+use Rattle.file_classes.specs.inner.ClassFaults.{IsFirstClass}
 use Rattle.file_classes.specs.inner.Reading.{SpellsBodies}
 use Rattle.file_classes.proofs.MethodLaws.{RowsUpTo, rows_turn, bodies_hold, all_spelled}
 use Rattle.file_classes.proofs.StaticsLaws.{first_class}

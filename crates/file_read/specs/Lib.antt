@@ -1,4 +1,3 @@
-pub mod Groups
 pub mod Means
 pub mod Refused
 pub mod inner

@@ -11,10 +11,12 @@ ghost use Rattle.dex_container.specs.Frame.{IsFramed};
 ghost use Rattle.program_types.specs.Content.{Program};
 ghost use Rattle.program_rules.specs.WellFormed.{WellFormed};
 ghost use Rattle.tables_rows.specs.Sorted.{TablesHold};
+ghost use Rattle.tables_rows.specs.inner.TableFaults.{IsFirstRow};
 ghost use Rattle.tables_laws.specs.inner.FileNames.{IsMentionedIn};
 ghost use Rattle.dex_container.specs.Layout.{size_of};
 ghost use Rattle.dex_container.specs.Section as section;
-ghost use Rattle.file_classes.specs.ClassFaults.{ClassRowHolds, ClassRowBreaks, ClassRowsHold, IsClassFault, ValuesHold, ValuesBreak, BodiesHold, BodiesBreak, RowRegistersHold, RowRegistersBreak};
+ghost use Rattle.file_classes.specs.ClassFaults.{ClassRowHolds, ClassRowBreaks, ValuesHold, ValuesBreak, BodiesHold, BodiesBreak, RowRegistersHold, RowRegistersBreak};
+ghost use Rattle.file_classes.specs.inner.ClassFaults.{ClassRowsHold};
 ghost use Rattle.file_read.specs.inner.Broken.{Broken};
 ghost use Rattle.file_read.specs.Means.{Means};
 ghost use Rattle.file_read.specs.inner.FileDeciding.{MeansOrRefused};
@@ -24,7 +26,8 @@ use dex_container::open;
 
 /// If the tables are valid, the class rows are valid, or have a fault.
 pub fn classes_are_decided()
-    ensures { (b : List ℕ) → IsFramed b → TablesHold b → ClassRowsHold b ⊎ ((e : Fault) × IsClassFault b e) }
+    ensures { (b : List ℕ) → IsFramed b → TablesHold b → ClassRowsHold b
+        ⊎ ((e : Fault) × IsFirstRow ClassRowBreaks ClassRowHolds b section.class_defs e) }
 {}
 
 /// A row of class_defs keeps the rules of each pass of reading, or has a fault of that pass: names and members, static values,

@@ -2,10 +2,9 @@
 ghost use Rattle.std.specs.Prelude.{◌≡◌, ℕ, List};
 ghost use Rattle.dex_base.specs.declared.fault.Fault.{Fault};
 ghost use Rattle.file_read.specs.inner.Broken.{Broken, GroupBreaks};
-ghost use Rattle.file_read.specs.Groups.{Group};
-ghost use Rattle.file_read.specs.inner.Groups.{IsAskedBefore};
+ghost use Rattle.file_read.specs.inner.Groups.{IsAskedBefore, Group};
 ghost use Rattle.file_read.specs.Means.{Means};
-ghost use Rattle.file_read.specs.Refused.{IsGroupFault, IsRefused};
+ghost use Rattle.file_read.specs.Refused.{IsRefused};
 ghost use Rattle.program_types.specs.Content.{Program};
 
 /// A file means one program.
@@ -24,8 +23,8 @@ pub fn one_refusal()
     ensures none { (b : List ℕ) (e : Fault) (p : Program) → IsRefused b e → ¬ Means b p }
 {}
 
-/// A returned fault is present, and none of an earlier group is.
+/// A refusal's fault is in one group, and no earlier group has a fault.
 pub fn refusals_are_first()
-    ensures stands { (b : List ℕ) (g : Group) (e : Fault) → IsGroupFault g b e → GroupBreaks g b e }
-    ensures first { (b : List ℕ) (g h : Group) (e f : Fault) → IsGroupFault g b e → IsAskedBefore h g → ¬ GroupBreaks h b f }
+    ensures { (b : List ℕ) (e : Fault) → IsRefused b e
+        → (g : Group) × GroupBreaks g b e × ((h : Group) (f : Fault) → IsAskedBefore h g → ¬ GroupBreaks h b f) }
 {}

@@ -44,25 +44,13 @@ fn is_plain(text: &[u8], one: Word<'_, '_>) -> bool
 fn is_second(words: &[Word<'_, '_>]) -> bool
     ensures { result ≡ is_second (map word words.now) }
 {
-    let Some((first, words)) = words.split_first() else {
+    let [first, second, third, fourth] = *words else {
         return false;
     };
-    let Some((second, words)) = words.split_first() else {
-        return false;
-    };
-    let Some((third, words)) = words.split_first() else {
-        return false;
-    };
-    let Some((fourth, words)) = words.split_first() else {
-        return false;
-    };
-    if words.len() > 0
-        || !is_plain("dex".as_bytes(), *first)
-        || !is_plain("035".as_bytes(), *second)
-    {
+    if !is_plain("dex".as_bytes(), first) || !is_plain("035".as_bytes(), second) {
         return false;
     }
-    is_plain("listing".as_bytes(), *third) && is_plain("2".as_bytes(), *fourth)
+    is_plain("listing".as_bytes(), third) && is_plain("2".as_bytes(), fourth)
 }
 
 /// Whether the first word begins with `:`.

@@ -13,8 +13,9 @@ use Rattle.dex_container.specs.Where.{slice, At, IsInSection}
 use Rattle.tables_rows.specs.RowFields.{string_place, type_string, proto_shorty, proto_return, proto_parameters, member_class, member_kind, member_name}
 use Rattle.program_types.specs.Kinds.{void}
 use Rattle.program_types.specs.Shorty.{shorty}
-use Rattle.tables_rows.specs.Sorted.{RowRises, StringIsBelow, TypeIsBelow, ProtoIsBelow, MemberIsBelow, StringHolds, TypeHolds, ProtoHolds, FieldHolds, MethodHolds, RowsHold}
-use Rattle.tables_rows.specs.TableFaults.{StringBreaks, TypeBreaks, ProtoBreaks, FieldBreaks, MethodBreaks, ParametersAt, MemberIsIn, IsFirstRow}
+use Rattle.tables_rows.specs.Sorted.{RowRises, StringIsBelow, TypeIsBelow, ProtoIsBelow, MemberIsBelow, RowsHold}
+use Rattle.tables_rows.specs.TableFaults.{StringHolds, TypeHolds, ProtoHolds, FieldHolds, MethodHolds, StringBreaks, TypeBreaks, ProtoBreaks, FieldBreaks, MethodBreaks, ParametersAt, MemberIsIn}
+use Rattle.tables_rows.specs.inner.TableFaults.{IsFirstRow}
 use Rattle.tables_rows.specs.Stands.{StringStands, TypeStands, ProtoStands, FieldStands, MethodStands}
 use Rattle.dex_container.proofs.Standing.{at_place}
 use Rattle.tables_rows.proofs.RowReading.{string_one}

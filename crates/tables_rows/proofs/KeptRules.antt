@@ -9,8 +9,8 @@ use Rattle.program_types.specs.Kinds.{void}
 use Rattle.program_types.specs.Shorty.{shorty}
 use Rattle.tables_rows.specs.RowFields.{string_place, type_string, proto_shorty, proto_return, proto_parameters, member_class, member_kind, member_name}
 use Rattle.tables_rows.specs.Stands.{StringStands, TypeStands}
-use Rattle.tables_rows.specs.Sorted.{RowRises, StringIsBelow, TypeIsBelow, ProtoIsBelow, MemberIsBelow, StringHolds, TypeHolds, ProtoHolds, FieldHolds, MethodHolds}
-use Rattle.tables_rows.specs.TableFaults.{ParametersAt, MemberIsIn}
+use Rattle.tables_rows.specs.Sorted.{RowRises, StringIsBelow, TypeIsBelow, ProtoIsBelow, MemberIsBelow}
+use Rattle.tables_rows.specs.TableFaults.{StringHolds, TypeHolds, ProtoHolds, FieldHolds, MethodHolds, ParametersAt, MemberIsIn}
 use Rattle.tables_rows.proofs.RowReading.{string_one}
 use Rattle.tables_rows.proofs.TypeLists.{type_one}
 use Rattle.tables_rows.proofs.ClearRows.{text_placed, shorty_same}

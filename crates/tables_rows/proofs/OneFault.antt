@@ -1,11 +1,9 @@
 -- The tables of a file have one fault.
-use Rattle.std.proofs.Common.{◌≡◌, ℕ, inl, inr, List, sym, ◌∙◌}
+use Rattle.std.proofs.Common.{◌≡◌, ℕ, List, sym, ◌∙◌}
 use Rattle.dex_base.specs.declared.fault.Fault.{Fault}
-use Rattle.dex_base.specs.FirstFault.{or_first}
 use Rattle.dex_base.proofs.FirstFaultLaws.{else_one, none_one, first_one, later_one}
-use Rattle.dex_container.specs.Layout.{size_of}
-use Rattle.tables_rows.specs.Sorted.{StringHolds, TypeHolds, ProtoHolds, FieldHolds, MethodHolds}
-use Rattle.tables_rows.specs.TableFaults.{StringBreaks, TypeBreaks, ProtoBreaks, FieldBreaks, MethodBreaks, BreaksAt, IsFirstRow, IsTableFault}
+use Rattle.tables_rows.specs.TableFaults.{StringHolds, TypeHolds, ProtoHolds, FieldHolds, MethodHolds, StringBreaks, TypeBreaks, ProtoBreaks, FieldBreaks, MethodBreaks, or_table, or_tables, IsTableFault}
+use Rattle.tables_rows.specs.inner.TableFaults.{IsFirstRow}
 use Rattle.tables_rows.proofs.ClearRows.{string_clear, type_clear, proto_clear, field_clear, method_clear, no_first}
 
 -- ---- a row breaks one rule
@@ -43,34 +41,17 @@ first_row_one Breaks Holds b k e f clear one = first_one (λ i x h broken. clear
 -- ---- one of the five tables is the first that has a fault
 
 module _ (b : List ℕ) where
-  -- the first fault of a table, or its rows hold and so on
-  abbrev Table : (List ℕ → ℕ → ℕ → Type 0) → (List ℕ → ℕ → Type 0) → ℕ → Fault → Type 0 → Type 0
-  Table Breaks Holds k = or_first (size_of b k) (Holds b) (BreaksAt Breaks b k)
-
-  -- the five tables as a list
-  abbrev Tables : Fault → Type 0
-  Tables e =
-      Table StringBreaks StringHolds 0 e (
-      Table TypeBreaks TypeHolds 1 e (
-      Table ProtoBreaks ProtoHolds 2 e (
-      Table FieldBreaks FieldHolds 3 e (
-      Table MethodBreaks MethodHolds 4 e ⊥))))
-
-  listed : (e : Fault) → IsTableFault b e → Tables e
-  listed e (inl x) = inl x.first
-  listed e (inr (inl x)) = inr (x.strings, inl x.first)
-  listed e (inr (inr (inl x))) = inr (x.strings, inr (x.types, inl x.first))
-  listed e (inr (inr (inr (inl x)))) = inr (x.strings, inr (x.types, inr (x.protos, inl x.first)))
-  listed e (inr (inr (inr (inr x)))) = inr (x.strings, inr (x.types, inr (x.protos, inr (x.fields, inl x.first))))
-
-  table_one : (Breaks : List ℕ → ℕ → ℕ → Type 0) (Holds : List ℕ → ℕ → Type 0) (k : ℕ) → ((i code : ℕ) → Holds b i → Breaks b i code → ⊥) → ((i m n : ℕ) → Breaks b i m → Breaks b i n → m ≡ n)
-      → {e f : Fault} {P Q : Type 0} → (P → Q → e ≡ f) → Table Breaks Holds k e P → Table Breaks Holds k f Q → e ≡ f
+  pub table_one : (Breaks : List ℕ → ℕ → ℕ → Type 0) (Holds : List ℕ → ℕ → Type 0) (k : ℕ) → ((i code : ℕ) → Holds b i → Breaks b i code → ⊥) → ((i m n : ℕ) → Breaks b i m → Breaks b i n → m ≡ n)
+      → {e f : Fault} {P Q : Type 0} → (P → Q → e ≡ f) → or_table Breaks Holds b k e P → or_table Breaks Holds b k f Q → e ≡ f
   table_one Breaks Holds k clear one {e} {f} = later_one (λ hold. no_first Breaks Holds b k e clear hold) (λ hold. no_first Breaks Holds b k f clear hold) (first_row_one Breaks Holds b k e f clear one)
 
+  pub tables_one : {e f : Fault} {P Q : Type 0} → (P → Q → e ≡ f) → or_tables b e P → or_tables b f Q → e ≡ f
+  tables_one after =
+      table_one StringBreaks StringHolds 0 (string_clear b) (string_number b) (
+      table_one TypeBreaks TypeHolds 1 (type_clear b) (type_number b) (
+      table_one ProtoBreaks ProtoHolds 2 (proto_clear b) (proto_number b) (
+      table_one FieldBreaks FieldHolds 3 (field_clear b) (field_number b) (
+      table_one MethodBreaks MethodHolds 4 (method_clear b) (method_number b) after))))
+
 pub one_table_fault : (b : List ℕ) (e f : Fault) → IsTableFault b e → IsTableFault b f → e ≡ f
-one_table_fault b e f x y =
-    table_one b StringBreaks StringHolds 0 (string_clear b) (string_number b) (
-    table_one b TypeBreaks TypeHolds 1 (type_clear b) (type_number b) (
-    table_one b ProtoBreaks ProtoHolds 2 (proto_clear b) (proto_number b) (
-    table_one b FieldBreaks FieldHolds 3 (field_clear b) (field_number b) (
-    table_one b MethodBreaks MethodHolds 4 (method_clear b) (method_number b) none_one)))) (listed b e x) (listed b f y)
+one_table_fault b e f x y = tables_one b none_one x.1 y.1

@@ -13,7 +13,8 @@ use Rattle.tables_rows.specs.inner.Reading.{AreFirst, LastIsBelow}
 use Rattle.tables_rows.specs.RowFields.{string_place}
 use Rattle.tables_rows.specs.Sorted.{RowRises, IsBelow, StringIsBelow, RowsHold}
 use Rattle.tables_rows.specs.Stands.{StringStands}
-use Rattle.tables_rows.specs.TableFaults.{BreaksAt, IsFirstRow}
+use Rattle.tables_rows.specs.TableFaults.{BreaksAt}
+use Rattle.tables_rows.specs.inner.TableFaults.{IsFirstRow}
 use Rattle.dex_base.specs.declared.fault.Fault.{Fault}
 use Rattle.dex_container.proofs.Standing.{At-one, stands_at, stands_not, mod_one}
 use Rattle.dex_container.specs.declared.section.Section.{Section}

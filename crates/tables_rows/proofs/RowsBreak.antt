@@ -10,10 +10,11 @@ use Rattle.dex_container.specs.Layout.{size_of}
 use Rattle.program_types.specs.Content.{Units, Proto, FieldRef, MethodRef}
 use Rattle.program_types.specs.Shorty.{shorty}
 use Rattle.tables_rows.specs.RowFields.{row_place, string_place, type_string, proto_shorty, proto_return, proto_parameters, member_class, member_kind, member_name, member_indices}
-use Rattle.tables_rows.specs.Sorted.{IsBelow, RowRises, StringIsBelow, TypeIsBelow, ProtoIsBelow, MemberIsBelow, StringHolds, TypeHolds, ProtoHolds, FieldHolds, MethodHolds, RowsHold, StringsHold, TypesHold, ProtosHold, TablesHold}
+use Rattle.tables_rows.specs.Sorted.{IsBelow, RowRises, StringIsBelow, TypeIsBelow, ProtoIsBelow, MemberIsBelow, RowsHold, TablesHold, AllRows}
 use Rattle.program_types.specs.Kinds.{void}
 use Rattle.tables_rows.specs.Stands.{TypeStands, ProtoStands, FieldStands, MethodStands}
-use Rattle.tables_rows.specs.TableFaults.{StringBreaks, TypeBreaks, ProtoBreaks, FieldBreaks, MethodBreaks, IsFirstRow, IsTableFault}
+use Rattle.tables_rows.specs.TableFaults.{StringHolds, TypeHolds, ProtoHolds, FieldHolds, MethodHolds, StringBreaks, TypeBreaks, ProtoBreaks, FieldBreaks, MethodBreaks, IsTableFault}
+use Rattle.tables_rows.specs.inner.TableFaults.{IsFirstRow}
 use Rattle.tables_rows.proofs.ClearRows.{string_unplaced, string_spelling, string_order, type_index, type_text, type_order, proto_index, parameter_list, other_shorty, proto_order, field_index, field_kind, field_order, method_index, method_kind, method_order}
 use Rattle.tables_rows.proofs.RowReading.{string_one}
 use Rattle.tables_rows.proofs.TypeLists.{protos_below, below_protos, protos_below_none, protos_none_below}
@@ -82,7 +83,7 @@ module _ (b : List ℕ) (framed : IsFramed b) (i : ℕ) where
     | inr out ↦ inr (20, string_unplaced b i out)
   ]
 
-  pub type_row : StringsHold b → i < size_of b 1 → HoldsOrBreaks TypeHolds TypeBreaks b i
+  pub type_row : AllRows StringHolds b 0 → i < size_of b 1 → HoldsOrBreaks TypeHolds TypeBreaks b i
   unfolding HoldsOrBreaks
   type_row strings lt = elim (cases_lt (type_string b i) (size_of b 0)) [
     | inl in_table ↦
@@ -99,7 +100,7 @@ module _ (b : List ℕ) (framed : IsFramed b) (i : ℕ) where
     | inr past ↦ inr (23, type_index b i past)
   ]
 
-  pub proto_row : StringsHold b → TypesHold b → i < size_of b 2 → HoldsOrBreaks ProtoHolds ProtoBreaks b i
+  pub proto_row : AllRows StringHolds b 0 → AllRows TypeHolds b 1 → i < size_of b 2 → HoldsOrBreaks ProtoHolds ProtoBreaks b i
   unfolding HoldsOrBreaks
   proto_row strings types lt = elim (cases_lt (proto_shorty b i) (size_of b 0)) [
     | inl s_in ↦ elim (cases_lt (proto_return b i) (size_of b 1)) [
@@ -125,7 +126,7 @@ module _ (b : List ℕ) (framed : IsFramed b) (i : ℕ) where
     | inr past ↦ inr (26, proto_index b i (inl past))
   ]
 
-  pub field_row : StringsHold b → TypesHold b → i < size_of b 3 → HoldsOrBreaks FieldHolds FieldBreaks b i
+  pub field_row : AllRows StringHolds b 0 → AllRows TypeHolds b 1 → i < size_of b 3 → HoldsOrBreaks FieldHolds FieldBreaks b i
   unfolding HoldsOrBreaks
   field_row strings types lt = elim (cases_lt (member_class b 3 i) (size_of b 1)) [
     | inl c_in ↦ elim (cases_lt (member_kind b 3 i) (size_of b 1)) [
@@ -157,7 +158,7 @@ module _ (b : List ℕ) (framed : IsFramed b) (i : ℕ) where
     | inr past ↦ inr (30, field_index b i (inl past))
   ]
 
-  pub method_row : StringsHold b → TypesHold b → ProtosHold b → i < size_of b 4 → HoldsOrBreaks MethodHolds MethodBreaks b i
+  pub method_row : AllRows StringHolds b 0 → AllRows TypeHolds b 1 → AllRows ProtoHolds b 2 → i < size_of b 4 → HoldsOrBreaks MethodHolds MethodBreaks b i
   unfolding HoldsOrBreaks
   method_row strings types protos lt = elim (cases_lt (member_class b 4 i) (size_of b 1)) [
     | inl c_in ↦ elim (cases_lt (member_kind b 4 i) (size_of b 2)) [
@@ -199,19 +200,19 @@ first_break Breaks Holds b k row = first_decided (λ i lt. elim (row i lt) [
 pub tables_are_decided : (b : List ℕ) → IsFramed b → TablesHold b ⊎ ((e : Fault) × IsTableFault b e)
 tables_are_decided b framed =
     elim (first_break StringBreaks StringHolds b 0 (string_row b framed)) [
-      | inr f ↦ inr (f.0, inl (record { framed = framed; first = f.1 }))
+      | inr f ↦ inr (f.0, (framed, inl f.1))
       | inl strings ↦
           elim (first_break TypeBreaks TypeHolds b 1 (λ i. type_row b framed i strings)) [
-            | inr f ↦ inr (f.0, inr (inl (record { framed = framed; strings = strings; first = f.1 })))
+            | inr f ↦ inr (f.0, (framed, inr (strings, inl f.1)))
             | inl types ↦
                 elim (first_break ProtoBreaks ProtoHolds b 2 (λ i. proto_row b framed i strings types)) [
-                  | inr f ↦ inr (f.0, inr (inr (inl (record { framed = framed; strings = strings; types = types; first = f.1 }))))
+                  | inr f ↦ inr (f.0, (framed, inr (strings, inr (types, inl f.1))))
                   | inl protos ↦
                       elim (first_break FieldBreaks FieldHolds b 3 (λ i. field_row b framed i strings types)) [
-                        | inr f ↦ inr (f.0, inr (inr (inr (inl (record { framed = framed; strings = strings; types = types; protos = protos; first = f.1 })))))
+                        | inr f ↦ inr (f.0, (framed, inr (strings, inr (types, inr (protos, inl f.1)))))
                         | inl fields ↦
                             elim (first_break MethodBreaks MethodHolds b 4 (λ i. method_row b framed i strings types protos)) [
-                              | inr f ↦ inr (f.0, inr (inr (inr (inr (record { framed = framed; strings = strings; types = types; protos = protos; fields = fields; first = f.1 })))))
+                              | inr f ↦ inr (f.0, (framed, inr (strings, inr (types, inr (protos, inr (fields, inl f.1))))))
                               | inl methods ↦
                                   inl (record { strings = strings; types = types; protos = protos; fields = fields; methods = methods })
                             ]

@@ -12,10 +12,10 @@ use Rattle.program_types.specs.Content.{Units}
 use Rattle.tables_rows.specs.inner.Halves.{halves}
 use Rattle.dex_container.specs.Where.{At, AtOrNone}
 use Rattle.tables_rows.specs.RowFields.{string_place}
-use Rattle.tables_rows.specs.Sorted.{TypesHold}
+use Rattle.tables_rows.specs.Sorted.{AllRows}
 use Rattle.program_types.specs.Kinds.{void}
 use Rattle.tables_rows.specs.Stands.{StringStands, TypeStands, TypesAt, SpellsIndexes}
-use Rattle.tables_rows.specs.TableFaults.{ParametersAt}
+use Rattle.tables_rows.specs.TableFaults.{TypeHolds, ParametersAt}
 use Rattle.tables_rows.proofs.HalvesLaws.{spelled_numbers, list_or_none_one}
 use Rattle.tables_rows.proofs.TypeLists.{indexes_of, types_of, types_one}
 use Rattle.dex_base.specs.Deciding.{Decided, DecidedFront}
@@ -46,7 +46,7 @@ decide_list_at b framed off = by (off == 0)
     by true = inl ([], refl)
     by false = decide_at SpellsIndexes decide_indexes b framed 0x1001 4 off
 
-decide_zip : (b : List ℕ) → TypesHold b → (indexes : List ℕ) → Decided ((ts : List Units) × AllZip (TypeStands b) indexes ts)
+decide_zip : (b : List ℕ) → AllRows TypeHolds b 1 → (indexes : List ℕ) → Decided ((ts : List Units) × AllZip (TypeStands b) indexes ts)
 decide_zip b types [] = inl ([], tt)
 decide_zip b types (i ∷ is) = elim (cases_lt i (size_of b 1)) [
   | inl lt ↦ elim (decide_zip b types is) [
@@ -64,7 +64,7 @@ decide_zip b types (i ∷ is) = elim (cases_lt i (size_of b 1)) [
     no_first [] ge z = z
     no_first (t ∷ ts) ge z = let row = z.0.row in omega (arith, row, ge)
 
-pub decide_types : (b : List ℕ) → IsFramed b → TypesHold b → (off : ℕ) → Decided ((ts : List Units) × TypesAt b off ts)
+pub decide_types : (b : List ℕ) → IsFramed b → AllRows TypeHolds b 1 → (off : ℕ) → Decided ((ts : List Units) × TypesAt b off ts)
 decide_types b framed types off = elim (decide_list_at b framed off) [
   | inl x ↦ elim (decide_zip b types x.0) [
     | inl y ↦ inl (y.0, types_of b off x.0 y.0 x.1 y.1)
@@ -80,7 +80,7 @@ pub decide_not : {P : Type 0} → Decided P → Decided (P → ⊥)
 decide_not (inl p) = inr (λ nay. nay p)
 decide_not (inr nay) = inl nay
 
-pub decide_parameters : (b : List ℕ) → IsFramed b → TypesHold b → (off : ℕ) → Decided ((ts : List Units) × ParametersAt b off ts)
+pub decide_parameters : (b : List ℕ) → IsFramed b → AllRows TypeHolds b 1 → (off : ℕ) → Decided ((ts : List Units) × ParametersAt b off ts)
 decide_parameters b framed types off = elim (decide_types b framed types off) [
   | inl x ↦ elim (decide_all (λ (t : Units). t ≢ void) (λ t. decide_not (decide_list t void)) x.0) [
     | inl all ↦ inl (x.0, record { types = x.1; values = all })

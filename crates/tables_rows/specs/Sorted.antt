@@ -47,54 +47,18 @@ pub record RowHolds {V : Type 0} (Stands : List ℕ → ℕ → V → Type 0) (B
   pub stands : Stands b i name
   pub rises : RowRises Below b i
 
--- A row of string_ids holds: it denotes a string, above the row before by its units.
-abbrev pub StringHolds : List ℕ → ℕ → Type 0
-StringHolds = RowHolds StringStands StringIsBelow
-
--- A row of type_ids holds: it denotes a type, above the row before by string index.
-abbrev pub TypeHolds : List ℕ → ℕ → Type 0
-TypeHolds = RowHolds TypeStands TypeIsBelow
-
--- A row of proto_ids holds: it denotes a prototype, above the row before by type indices.
-abbrev pub ProtoHolds : List ℕ → ℕ → Type 0
-ProtoHolds = RowHolds ProtoStands ProtoIsBelow
-
--- A row of field_ids holds: it denotes a field, above the row before by the indices of class, name and type.
-abbrev pub FieldHolds : List ℕ → ℕ → Type 0
-FieldHolds = RowHolds FieldStands (MemberIsBelow 3)
-
--- A row of method_ids holds: it denotes a method, above the row before by the indices of class, name and prototype.
-abbrev pub MethodHolds : List ℕ → ℕ → Type 0
-MethodHolds = RowHolds MethodStands (MemberIsBelow 4)
-
 -- The rows before this one hold.
 abbrev pub RowsHold : (List ℕ → ℕ → Type 0) → List ℕ → ℕ → Type 0
 RowsHold Holds b n = (i : ℕ) → i < n → Holds b i
 
--- All rows of string_ids hold.
-abbrev pub StringsHold : List ℕ → Type 0
-StringsHold b = RowsHold StringHolds b (size_of b section.string_ids)
-
--- All rows of type_ids hold.
-abbrev pub TypesHold : List ℕ → Type 0
-TypesHold b = RowsHold TypeHolds b (size_of b section.type_ids)
-
--- All rows of proto_ids hold.
-abbrev pub ProtosHold : List ℕ → Type 0
-ProtosHold b = RowsHold ProtoHolds b (size_of b section.proto_ids)
-
--- All rows of field_ids hold.
-abbrev pub FieldsHold : List ℕ → Type 0
-FieldsHold b = RowsHold FieldHolds b (size_of b section.field_ids)
-
--- All rows of method_ids hold.
-abbrev pub MethodsHold : List ℕ → Type 0
-MethodsHold b = RowsHold MethodHolds b (size_of b section.method_ids)
+-- All rows of table k hold.
+abbrev pub AllRows : (List ℕ → ℕ → Type 0) → List ℕ → ℕ → Type 0
+AllRows Holds b k = RowsHold Holds b (size_of b k)
 
 -- All five tables hold: every row denotes a name, used or not, and the rows strictly rise.
 pub record TablesHold (b : List ℕ) : Type 0 where
-  pub strings : StringsHold b
-  pub types : TypesHold b
-  pub protos : ProtosHold b
-  pub fields : FieldsHold b
-  pub methods : MethodsHold b
+  pub strings : AllRows (RowHolds StringStands StringIsBelow) b section.string_ids
+  pub types : AllRows (RowHolds TypeStands TypeIsBelow) b section.type_ids
+  pub protos : AllRows (RowHolds ProtoStands ProtoIsBelow) b section.proto_ids
+  pub fields : AllRows (RowHolds FieldStands (MemberIsBelow 3)) b section.field_ids
+  pub methods : AllRows (RowHolds MethodStands (MemberIsBelow 4)) b section.method_ids

@@ -1,9 +1,9 @@
 -- The faults of the five tables: for each table the rules of a row, in the order in which they are checked. Each has a meaning for any
 -- file; it is checked only if header, map and checksums, the tables before, and the rows before are valid.
-use Rattle.std.specs.Prelude.{◌≡◌, ◌≢◌, ℕ, ◌<◌, ◌⊎◌, List}
+use Rattle.std.specs.Prelude.{◌≡◌, ◌≢◌, ℕ, ◌<◌, List}
 use Rattle.std.specs.List.{AllByRecursion}
 use Rattle.dex_base.specs.declared.fault.Fault.{Fault}
-use Rattle.dex_base.specs.FirstFault.{or_else, First}
+use Rattle.dex_base.specs.FirstFault.{or_else, or_first}
 use Rattle.dex_container.specs.Layout.{size_of}
 use Rattle.dex_container.specs.Frame.{IsFramed}
 use Rattle.program_types.specs.Content.{Units, Proto, FieldRef, MethodRef}
@@ -12,7 +12,27 @@ use Rattle.dex_container.specs.Section as section
 use Rattle.tables_rows.specs.RowFields.{row_place, string_place, type_string, proto_shorty, proto_return, proto_parameters, member_class, member_kind, member_name}
 use Rattle.program_types.specs.Kinds.{void}
 use Rattle.tables_rows.specs.Stands.{StringStands, TypeStands, TypesAt, ProtoStands, FieldStands, MethodStands}
-use Rattle.tables_rows.specs.Sorted.{RowRises, StringIsBelow, TypeIsBelow, ProtoIsBelow, MemberIsBelow, StringHolds, TypeHolds, ProtoHolds, FieldHolds, MethodHolds, StringsHold, TypesHold, ProtosHold, FieldsHold}
+use Rattle.tables_rows.specs.Sorted.{RowRises, RowHolds, StringIsBelow, TypeIsBelow, ProtoIsBelow, MemberIsBelow}
+
+-- A row of string_ids holds: it denotes a string, above the row before by its units.
+abbrev pub StringHolds : List ℕ → ℕ → Type 0
+StringHolds = RowHolds StringStands StringIsBelow
+
+-- A row of type_ids holds: it denotes a type, above the row before by string index.
+abbrev pub TypeHolds : List ℕ → ℕ → Type 0
+TypeHolds = RowHolds TypeStands TypeIsBelow
+
+-- A row of proto_ids holds: it denotes a prototype, above the row before by type indices.
+abbrev pub ProtoHolds : List ℕ → ℕ → Type 0
+ProtoHolds = RowHolds ProtoStands ProtoIsBelow
+
+-- A row of field_ids holds: it denotes a field, above the row before by the indices of class, name and type.
+abbrev pub FieldHolds : List ℕ → ℕ → Type 0
+FieldHolds = RowHolds FieldStands (MemberIsBelow 3)
+
+-- A row of method_ids holds: it denotes a method, above the row before by the indices of class, name and prototype.
+abbrev pub MethodHolds : List ℕ → ℕ → Type 0
+MethodHolds = RowHolds MethodStands (MemberIsBelow 4)
 
 -- The rule that row i of string_ids violates: the first, since each is checked only if those before it are satisfied.
 unfoldable pub StringBreaks : List ℕ → ℕ → ℕ → Type 0
@@ -66,46 +86,19 @@ pub record BreaksAt (Breaks : List ℕ → ℕ → ℕ → Type 0) (b : List ℕ
   pub breaks : Breaks b i fault.code
   pub place : fault.place ≡ row_place b k i
 
--- The fault is that of a row of table k, and all rows before it hold.
-abbrev pub IsFirstRow : (List ℕ → ℕ → ℕ → Type 0) → (List ℕ → ℕ → Type 0) → List ℕ → ℕ → Fault → Type 0
-IsFirstRow Breaks Holds b k = First (size_of b k) (Holds b) (BreaksAt Breaks b k)
+-- A line of a list of rules: the first fault of table k, or its rows hold and the rest has the fault.
+abbrev pub or_table : (List ℕ → ℕ → ℕ → Type 0) → (List ℕ → ℕ → Type 0) → List ℕ → ℕ → Fault → Type 0 → Type 0
+or_table Breaks Holds b k = or_first (size_of b k) (Holds b) (BreaksAt Breaks b k)
 
--- The first fault of string_ids, in a framed file.
-pub record IsStringFault (b : List ℕ) (fault : Fault) : Type 0 where
-  pub framed : IsFramed b
-  pub first : IsFirstRow StringBreaks StringHolds b section.string_ids fault
+-- The first fault of the first table that has one, or all tables hold and the rest has the fault.
+abbrev pub or_tables : List ℕ → Fault → Type 0 → Type 0
+or_tables b fault after =
+    or_table StringBreaks StringHolds b section.string_ids fault (
+    or_table TypeBreaks TypeHolds b section.type_ids fault (
+    or_table ProtoBreaks ProtoHolds b section.proto_ids fault (
+    or_table FieldBreaks FieldHolds b section.field_ids fault (
+    or_table MethodBreaks MethodHolds b section.method_ids fault after))))
 
--- The first of type_ids, where all strings hold.
-pub record IsTypeFault (b : List ℕ) (fault : Fault) : Type 0 where
-  pub framed : IsFramed b
-  pub strings : StringsHold b
-  pub first : IsFirstRow TypeBreaks TypeHolds b section.type_ids fault
-
--- The first of proto_ids, where all strings and types hold.
-pub record IsProtoFault (b : List ℕ) (fault : Fault) : Type 0 where
-  pub framed : IsFramed b
-  pub strings : StringsHold b
-  pub types : TypesHold b
-  pub first : IsFirstRow ProtoBreaks ProtoHolds b section.proto_ids fault
-
--- The first of field_ids, where the three tables before it hold.
-pub record IsFieldFault (b : List ℕ) (fault : Fault) : Type 0 where
-  pub framed : IsFramed b
-  pub strings : StringsHold b
-  pub types : TypesHold b
-  pub protos : ProtosHold b
-  pub first : IsFirstRow FieldBreaks FieldHolds b section.field_ids fault
-
--- The first of method_ids, where the four tables before it hold.
-pub record IsMethodFault (b : List ℕ) (fault : Fault) : Type 0 where
-  pub framed : IsFramed b
-  pub strings : StringsHold b
-  pub types : TypesHold b
-  pub protos : ProtosHold b
-  pub fields : FieldsHold b
-  pub first : IsFirstRow MethodBreaks MethodHolds b section.method_ids fault
-
--- A fault of the tables: of the first table that has one, at its first row.
+-- The fault of the tables of a framed file.
 abbrev pub IsTableFault : List ℕ → Fault → Type 0
-IsTableFault b fault =
-    IsStringFault b fault ⊎ IsTypeFault b fault ⊎ IsProtoFault b fault ⊎ IsFieldFault b fault ⊎ IsMethodFault b fault
+IsTableFault b fault = IsFramed b × or_tables b fault ⊥

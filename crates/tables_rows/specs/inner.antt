@@ -4,3 +4,4 @@ pub mod Halves
 pub mod Known
 pub mod Reading
 pub mod RowFields
+pub mod TableFaults

@@ -6,9 +6,10 @@ ghost use Rattle.dex_container.specs.Section as section;
 ghost use Rattle.program_types.specs.View.{str, desc, field_ref};
 ghost use Rattle.tables_rows.specs.Names.{AreRows};
 ghost use Rattle.tables_rows.specs.inner.Reading.{AreNameMarks};
-ghost use Rattle.tables_rows.specs.Sorted.{FieldHolds, FieldsHold};
+ghost use Rattle.tables_rows.specs.Sorted.{AllRows};
 ghost use Rattle.tables_rows.specs.Stands.{StringStands, TypeStands, FieldStands};
-ghost use Rattle.tables_rows.specs.TableFaults.{FieldBreaks, BreaksAt, IsFirstRow};
+ghost use Rattle.tables_rows.specs.TableFaults.{FieldHolds, FieldBreaks, BreaksAt};
+ghost use Rattle.tables_rows.specs.inner.TableFaults.{IsFirstRow};
 
 use crate::kinds::is_class_row;
 use crate::look_up::{string_at, type_at};
@@ -35,7 +36,7 @@ pub(crate) fn read_fields<'a>(
     requires names { AreNameMarks (map str strings.now) names.now }
     requires types { AreRows TypeStands sections.now section.type_ids (map desc types.now) }
     ensures rows { IfOk result (λ fields. AreRows FieldStands sections.now section.field_ids (map field_ref fields.now)) }
-    ensures hold { IfOk result (λ _. FieldsHold sections.now) }
+    ensures hold { IfOk result (λ _. AllRows FieldHolds sections.now section.field_ids) }
     ensures err { IfErr result (λ e. e ≢ memory → IsFirstRow FieldBreaks FieldHolds sections.now section.field_ids e) }
 {
     let (count, _) = sections.table(kind::FIELD_ID_ITEM);

@@ -6,9 +6,10 @@ ghost use Rattle.dex_container.specs.Section as section;
 ghost use Rattle.program_types.specs.View.{str, desc, proto, method_ref};
 ghost use Rattle.tables_rows.specs.Names.{AreRows};
 ghost use Rattle.tables_rows.specs.inner.Reading.{AreNameMarks};
-ghost use Rattle.tables_rows.specs.Sorted.{MethodHolds, MethodsHold};
+ghost use Rattle.tables_rows.specs.Sorted.{AllRows};
 ghost use Rattle.tables_rows.specs.Stands.{StringStands, TypeStands, ProtoStands, MethodStands};
-ghost use Rattle.tables_rows.specs.TableFaults.{MethodBreaks, BreaksAt, IsFirstRow};
+ghost use Rattle.tables_rows.specs.TableFaults.{MethodHolds, MethodBreaks, BreaksAt};
+ghost use Rattle.tables_rows.specs.inner.TableFaults.{IsFirstRow};
 
 use crate::kinds::is_class_or_array_row;
 use crate::look_up::{proto_at, string_at, type_at};
@@ -38,7 +39,7 @@ pub(crate) fn read_methods<'a>(
     requires types { AreRows TypeStands sections.now section.type_ids (map desc types.now) }
     requires protos { AreRows ProtoStands sections.now section.proto_ids (map proto protos.now) }
     ensures rows { IfOk result (λ methods. AreRows MethodStands sections.now section.method_ids (map method_ref methods.now)) }
-    ensures hold { IfOk result (λ _. MethodsHold sections.now) }
+    ensures hold { IfOk result (λ _. AllRows MethodHolds sections.now section.method_ids) }
     ensures err { IfErr result (λ e. e ≢ memory → IsFirstRow MethodBreaks MethodHolds sections.now section.method_ids e) }
 {
     let (count, _) = sections.table(kind::METHOD_ID_ITEM);

@@ -13,9 +13,10 @@ ghost use Rattle.tables_rows.specs.inner.Known.{IsKnown};
 ghost use Rattle.tables_rows.specs.Names.{AreRows};
 ghost use Rattle.dex_container.specs.Where.{IsSectionOf};
 ghost use Rattle.dex_container.specs.Section as section;
-ghost use Rattle.tables_rows.specs.Sorted.{RowRises, ProtoHolds, ProtosHold, ProtoIsBelow};
+ghost use Rattle.tables_rows.specs.Sorted.{RowRises, ProtoIsBelow, AllRows};
 ghost use Rattle.tables_rows.specs.Stands.{StringStands, TypeStands, ProtoStands};
-ghost use Rattle.tables_rows.specs.TableFaults.{ProtoBreaks, ParametersAt, BreaksAt, IsFirstRow};
+ghost use Rattle.tables_rows.specs.TableFaults.{ProtoHolds, ProtoBreaks, ParametersAt, BreaksAt};
+ghost use Rattle.tables_rows.specs.inner.TableFaults.{IsFirstRow};
 
 use crate::look_up::{string_at, type_at};
 use crate::row_fields::{proto_parameters, proto_return, proto_row, proto_shorty};
@@ -50,7 +51,7 @@ pub(crate) fn read_protos<'a>(
     requires strings { AreRows StringStands sections.now section.string_ids (map str strings.now) }
     requires types { AreRows TypeStands sections.now section.type_ids (map desc types.now) }
     ensures rows { IfOk result (λ protos. AreRows ProtoStands sections.now section.proto_ids (map proto protos.now)) }
-    ensures hold { IfOk result (λ _. ProtosHold sections.now) }
+    ensures hold { IfOk result (λ _. AllRows ProtoHolds sections.now section.proto_ids) }
     ensures err { IfErr result (λ e. e ≢ memory → IsFirstRow ProtoBreaks ProtoHolds sections.now section.proto_ids e) }
 {
     let (count, _) = sections.table(kind::PROTO_ID_ITEM);

@@ -12,8 +12,8 @@ ghost use Rattle.program_types.specs.Shorty.{shorty};
 ghost use Rattle.dex_container.specs.Layout.{size_of};
 ghost use Rattle.dex_container.specs.Section as section;
 ghost use Rattle.tables_rows.specs.RowFields.{string_place, type_string, proto_shorty, proto_return, proto_parameters, member_class, member_kind, member_name};
-ghost use Rattle.tables_rows.specs.Sorted.{RowRises, StringIsBelow, TypeIsBelow, ProtoIsBelow, MemberIsBelow, StringHolds, TypeHolds, ProtoHolds, FieldHolds, MethodHolds, StringsHold, TypesHold, ProtosHold, TablesHold};
-ghost use Rattle.tables_rows.specs.TableFaults.{ParametersAt, MemberIsIn, StringBreaks, TypeBreaks, ProtoBreaks, FieldBreaks, MethodBreaks, IsTableFault};
+ghost use Rattle.tables_rows.specs.Sorted.{RowRises, StringIsBelow, TypeIsBelow, ProtoIsBelow, MemberIsBelow, TablesHold, AllRows};
+ghost use Rattle.tables_rows.specs.TableFaults.{StringHolds, TypeHolds, ProtoHolds, FieldHolds, MethodHolds, ParametersAt, MemberIsIn, StringBreaks, TypeBreaks, ProtoBreaks, FieldBreaks, MethodBreaks, IsTableFault};
 
 /// A row denotes one name.
 pub fn row_denotes_one_name()
@@ -68,10 +68,10 @@ pub fn tables_hold_without_fault()
 /// A row that no rule is broken at holds, where the tables before hold.
 pub fn clear_rows_hold()
     ensures string { (b : List ℕ) → IsFramed b → (i : ℕ) → i < size_of b section.string_ids → ((code : ℕ) → ¬ StringBreaks b i code) → StringHolds b i }
-    ensures ty { (b : List ℕ) → IsFramed b → (i : ℕ) → StringsHold b → i < size_of b section.type_ids → ((code : ℕ) → ¬ TypeBreaks b i code) → TypeHolds b i }
-    ensures proto { (b : List ℕ) → IsFramed b → (i : ℕ) → StringsHold b → TypesHold b → i < size_of b section.proto_ids → ((code : ℕ) → ¬ ProtoBreaks b i code) → ProtoHolds b i }
-    ensures field { (b : List ℕ) → IsFramed b → (i : ℕ) → StringsHold b → TypesHold b → i < size_of b section.field_ids → ((code : ℕ) → ¬ FieldBreaks b i code) → FieldHolds b i }
-    ensures method { (b : List ℕ) → IsFramed b → (i : ℕ) → StringsHold b → TypesHold b → ProtosHold b → i < size_of b section.method_ids → ((code : ℕ) → ¬ MethodBreaks b i code) → MethodHolds b i }
+    ensures ty { (b : List ℕ) → IsFramed b → (i : ℕ) → AllRows StringHolds b section.string_ids → i < size_of b section.type_ids → ((code : ℕ) → ¬ TypeBreaks b i code) → TypeHolds b i }
+    ensures proto { (b : List ℕ) → IsFramed b → (i : ℕ) → AllRows StringHolds b section.string_ids → AllRows TypeHolds b section.type_ids → i < size_of b section.proto_ids → ((code : ℕ) → ¬ ProtoBreaks b i code) → ProtoHolds b i }
+    ensures field { (b : List ℕ) → IsFramed b → (i : ℕ) → AllRows StringHolds b section.string_ids → AllRows TypeHolds b section.type_ids → i < size_of b section.field_ids → ((code : ℕ) → ¬ FieldBreaks b i code) → FieldHolds b i }
+    ensures method { (b : List ℕ) → IsFramed b → (i : ℕ) → AllRows StringHolds b section.string_ids → AllRows TypeHolds b section.type_ids → AllRows ProtoHolds b section.proto_ids → i < size_of b section.method_ids → ((code : ℕ) → ¬ MethodBreaks b i code) → MethodHolds b i }
 {}
 
 /// The tables of a framed file are valid, or have a fault.

@@ -8,9 +8,10 @@ ghost use Rattle.tables_rows.specs.Names.{AreRows};
 ghost use Rattle.dex_container.specs.Where.{IsSectionOf};
 ghost use Rattle.dex_container.specs.Section as section;
 ghost use Rattle.tables_rows.specs.inner.Reading.{LastIsBelow, AreFirst};
-ghost use Rattle.tables_rows.specs.Sorted.{StringHolds, StringsHold};
+ghost use Rattle.tables_rows.specs.Sorted.{AllRows};
 ghost use Rattle.tables_rows.specs.Stands.{StringStands};
-ghost use Rattle.tables_rows.specs.TableFaults.{StringBreaks, BreaksAt, IsFirstRow};
+ghost use Rattle.tables_rows.specs.TableFaults.{StringHolds, StringBreaks, BreaksAt};
+ghost use Rattle.tables_rows.specs.inner.TableFaults.{IsFirstRow};
 
 use crate::row_fields::{string_place, string_row};
 use bumpalo::Bump;
@@ -29,7 +30,7 @@ pub(crate) fn read_strings<'a>(
 ) -> Result<&'a [Str<'a>], Fault>
     ensures framed { IsFramed sections.now }
     ensures rows { IfOk result (λ strings. AreRows StringStands sections.now section.string_ids (map str strings.now)) }
-    ensures hold { IfOk result (λ _. StringsHold sections.now) }
+    ensures hold { IfOk result (λ _. AllRows StringHolds sections.now section.string_ids) }
     ensures err { IfErr result (λ e. e ≢ memory → IsFirstRow StringBreaks StringHolds sections.now section.string_ids e) }
 {
     let (count, _) = sections.table(kind::STRING_ID_ITEM);

@@ -5,9 +5,10 @@ ghost use Rattle.dex_container.specs.Layout.{size_of};
 ghost use Rattle.dex_container.specs.Section as section;
 ghost use Rattle.program_types.specs.View.{str, desc};
 ghost use Rattle.tables_rows.specs.Names.{AreRows};
-ghost use Rattle.tables_rows.specs.Sorted.{RowRises, TypeHolds, TypesHold, TypeIsBelow};
+ghost use Rattle.tables_rows.specs.Sorted.{RowRises, TypeIsBelow, AllRows};
 ghost use Rattle.tables_rows.specs.Stands.{StringStands, TypeStands};
-ghost use Rattle.tables_rows.specs.TableFaults.{TypeBreaks, BreaksAt, IsFirstRow};
+ghost use Rattle.tables_rows.specs.TableFaults.{TypeHolds, TypeBreaks, BreaksAt};
+ghost use Rattle.tables_rows.specs.inner.TableFaults.{IsFirstRow};
 
 use crate::look_up::string_at;
 use crate::row_fields::{type_row, type_string};
@@ -25,7 +26,7 @@ pub(crate) fn read_types<'a>(
 ) -> Result<&'a [Desc<'a>], Fault>
     requires strings { AreRows StringStands sections.now section.string_ids (map str strings.now) }
     ensures rows { IfOk result (λ types. AreRows TypeStands sections.now section.type_ids (map desc types.now)) }
-    ensures hold { IfOk result (λ _. TypesHold sections.now) }
+    ensures hold { IfOk result (λ _. AllRows TypeHolds sections.now section.type_ids) }
     ensures err { IfErr result (λ e. e ≢ memory → IsFirstRow TypeBreaks TypeHolds sections.now section.type_ids e) }
 {
     let (count, _) = sections.table(kind::TYPE_ID_ITEM);

@@ -6,7 +6,7 @@ use Rattle.dex_container.specs.Faults.{FrameBreaks}
 use Rattle.dex_container.specs.Section as section
 use Rattle.tables_rows.specs.TableFaults.{StringBreaks, TypeBreaks, ProtoBreaks, FieldBreaks, MethodBreaks, BreaksAt}
 use Rattle.file_classes.specs.ClassFaults.{ClassRowBreaks, ValuesBreak, BodiesBreak, RowRegistersBreak}
-use Rattle.file_read.specs.Groups.{Group, Frame, Strings, Types, Protos, Fields, Methods, Classes, Values, Codes, Registers}
+use Rattle.file_read.specs.inner.Groups.{Group, Frame, Strings, Types, Protos, Fields, Methods, Classes, Values, Codes, Registers}
 
 -- in some row of a table
 abbrev pub RowBroken : (List ℕ → ℕ → ℕ → Type 0) → List ℕ → ℕ → Fault → Type 0

@@ -8,7 +8,8 @@ use Rattle.program_types.specs.Content.{Class}
 use Rattle.tables_rows.specs.Names.{AreNamesOf, AreRows}
 use Rattle.tables_rows.specs.Sorted.{RowsHold, TablesHold}
 use Rattle.tables_rows.specs.inner.Reading.{AreFirst}
-use Rattle.file_classes.specs.ClassFaults.{ClassRowsHold, ValuesHold, BodiesHold, RowRegistersHold, RowRegistersBreak, IsFirstClass}
+use Rattle.file_classes.specs.ClassFaults.{ValuesHold, BodiesHold, RowRegistersHold, RowRegistersBreak}
+use Rattle.file_classes.specs.inner.ClassFaults.{ClassRowsHold, IsFirstClass}
 use Rattle.file_classes.specs.inner.Reading.{IsHead, AreStatics, SpellsBodies}
 use Rattle.file_read.specs.declared.class_reader.ClassReader.{ClassReader}
 

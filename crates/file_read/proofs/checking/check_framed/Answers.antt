@@ -1,6 +1,5 @@
 use Rattle.tables_rows.proofs.ClearRows.{only_memory}
-use Rattle.file_read.proofs.PassLaws.{no_class_fault, no_value_fault, no_last_fault, last_refused, program_meant, table_refused}
-use Rattle.file_read.specs.Groups.{Classes, Values}
+use Rattle.file_read.proofs.PassLaws.{no_class_fault, no_value_fault, no_last_fault, class_refused, value_refused, last_refused, program_meant, table_refused}
 use Rattle.file_read.proofs.checking.check_framed.Goals as goal
 use Rattle.dex_base.proofs.ListFacts.{passed}
 
@@ -10,11 +9,11 @@ returns-in_err-tables-clause-refused c =
 
 pub returns-in_err-heads-clause-refused : goal.returns-in_err-heads-clause-refused
 returns-in_err-heads-clause-refused c =
-    passed _ _ _ c.from_residual-in_err-heads.ensures.1 (λ ne. (Classes, record { framed = c.framed.ensures; tables = c.in_ok-tables.ensures.hold; first = c.in_err-heads.ensures.err ne }))
+    passed _ _ _ c.from_residual-in_err-heads.ensures.1 (λ ne. class_refused _ _ c.framed.ensures c.in_ok-tables.ensures.hold (c.in_err-heads.ensures.err ne))
 
 pub returns-in_err-check_statics-clause-refused : goal.returns-in_err-check_statics-clause-refused
 returns-in_err-check_statics-clause-refused c =
-    passed _ _ _ c.from_residual-in_err-check_statics.ensures.1 (λ ne. (Values, record { framed = c.framed.ensures; tables = c.in_ok-tables.ensures.hold; classes = c.in_ok-heads.ensures.hold; first = c.in_err-check_statics.ensures.err ne }))
+    passed _ _ _ c.from_residual-in_err-check_statics.ensures.1 (λ ne. value_refused _ _ c.framed.ensures c.in_ok-tables.ensures.hold c.in_ok-heads.ensures.hold (c.in_err-check_statics.ensures.err ne))
 
 pub returns-in_err-check_codes-clause-refused : goal.returns-in_err-check_codes-clause-refused
 returns-in_err-check_codes-clause-refused c =

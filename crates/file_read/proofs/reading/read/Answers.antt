@@ -1,15 +1,13 @@
-use Rattle.std.proofs.Common.{subst, List, ℕ}
+use Rattle.std.proofs.Common.{inl, subst, List, ℕ}
 use Rattle.tables_rows.proofs.ClearRows.{only_memory}
-use Rattle.file_classes.specs.ClassFaults.{IsClassFault, IsValueFault}
-use Rattle.file_read.specs.Groups.{Frame, Classes, Values}
 use Rattle.file_read.specs.Refused.{IsRefused}
-use Rattle.file_read.proofs.PassLaws.{no_class_fault, no_value_fault, no_last_fault, last_refused, table_refused, means_these, program_one}
+use Rattle.file_read.proofs.PassLaws.{no_class_fault, no_value_fault, no_last_fault, class_refused, value_refused, last_refused, table_refused, means_these, program_one}
 use Rattle.file_read.proofs.RangeLaws.{well_formed}
 use Rattle.file_read.proofs.reading.read.Goals as goal
 use Rattle.dex_base.proofs.ListFacts.{passed}
 
 pub returns-in_err-sections-clause-refused : goal.returns-in_err-sections-clause-refused
-returns-in_err-sections-clause-refused c = passed _ _ _ c.from_residual.ensures.1 (λ ne. (Frame, c.in_err-sections.ensures.fault))
+returns-in_err-sections-clause-refused c = passed _ _ _ c.from_residual.ensures.1 (λ ne. inl c.in_err-sections.ensures.fault)
 
 pub returns-in_err-tables-clause-refused : goal.returns-in_err-tables-clause-refused
 returns-in_err-tables-clause-refused c =
@@ -19,20 +17,14 @@ returns-in_err-tables-clause-refused c =
 pub returns-in_err-heads-clause-refused : goal.returns-in_err-heads-clause-refused
 returns-in_err-heads-clause-refused c =
     let same = c.in_ok-sections.ensures.framed.0 in
-    passed _ _ _ c.from_residual-in_err-heads.ensures.1 (λ ne. (
-      Classes,
-      subst (λ (b : List ℕ). IsClassFault b c.in_err-heads.field-0.0) same
-          (record { framed = rw same c.in_ok-sections.ensures.framed.1; tables = c.in_ok-tables.ensures.hold; first = c.in_err-heads.ensures.err ne }),
-    ))
+    passed _ _ _ c.from_residual-in_err-heads.ensures.1 (λ ne. subst (λ (b : List ℕ). IsRefused b c.in_err-heads.field-0.0) same
+    (class_refused _ _ (rw same c.in_ok-sections.ensures.framed.1) c.in_ok-tables.ensures.hold (c.in_err-heads.ensures.err ne)))
 
 pub returns-in_err-statics-clause-refused : goal.returns-in_err-statics-clause-refused
 returns-in_err-statics-clause-refused c =
     let same = c.in_ok-sections.ensures.framed.0 in
-    passed _ _ _ c.from_residual-in_err-statics.ensures.1 (λ ne. (
-      Values,
-      subst (λ (b : List ℕ). IsValueFault b c.in_err-statics.field-0.0) same
-          (record { framed = rw same c.in_ok-sections.ensures.framed.1; tables = c.in_ok-tables.ensures.hold; classes = c.in_ok-heads.ensures.hold; first = c.in_err-statics.ensures.err ne }),
-    ))
+    passed _ _ _ c.from_residual-in_err-statics.ensures.1 (λ ne. subst (λ (b : List ℕ). IsRefused b c.in_err-statics.field-0.0) same
+    (value_refused _ _ (rw same c.in_ok-sections.ensures.framed.1) c.in_ok-tables.ensures.hold c.in_ok-heads.ensures.hold (c.in_err-statics.ensures.err ne)))
 
 pub returns-in_err-classes-clause-refused : goal.returns-in_err-classes-clause-refused
 returns-in_err-classes-clause-refused c =

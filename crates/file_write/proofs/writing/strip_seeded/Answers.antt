@@ -1,6 +1,5 @@
 use Rattle.std.proofs.Common.{inl, subst, sym}
 use Rattle.file_read.proofs.RangeLaws as law
-use Rattle.file_read.specs.Groups.{Frame}
 use Rattle.file_read.specs.Means.{Means}
 use Rattle.file_read.specs.Refused.{IsRefused}
 use Rattle.tables_rows.proofs.ClearRows.{only_memory}
@@ -18,7 +17,7 @@ returns-clause-ok c =
     stripped b c.in_ok-strip_framed.field-0.items p meant fits (file_of c.in_ok-strip_framed.field-0.items p (law.well_formed b c.are_bytes.ensures.each p meant) fits (c.in_ok-strip_framed.ensures.assembled p m))
 
 pub returns-in_err-sections-clause-refused : goal.returns-in_err-sections-clause-refused
-returns-in_err-sections-clause-refused c = passed _ _ _ c.from_residual.ensures.1 (λ ne. inl (Frame, c.in_err-sections.ensures.fault))
+returns-in_err-sections-clause-refused c = passed _ _ _ c.from_residual.ensures.1 (λ ne. inl (inl c.in_err-sections.ensures.fault))
 
 pub returns-in_err-check_framed-clause-only : goal.returns-in_err-check_framed-clause-only
 returns-in_err-check_framed-clause-only c = λ p m fits.

@@ -2,9 +2,8 @@ use Rattle.std.proofs.Common.{arith}
 use Rattle.std.proofs.lemmas.Grind.{common_steps}
 use Rattle.std.proofs.lemmas.List.{map-append}
 use Rattle.program_types.specs.View.{field_ref}
-use Rattle.tables_rows.specs.Sorted.{FieldHolds}
 use Rattle.tables_rows.specs.Stands.{FieldStands}
-use Rattle.tables_rows.specs.TableFaults.{FieldBreaks}
+use Rattle.tables_rows.specs.TableFaults.{FieldHolds, FieldBreaks}
 use Rattle.tables_rows.proofs.RowReading.{first_row, first_more, first_rows}
 use Rattle.tables_rows.proofs.field_ids.read_fields.Goals as goal
 use Rattle.dex_base.proofs.ListFacts.{passed}

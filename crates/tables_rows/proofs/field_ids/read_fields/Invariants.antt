@@ -1,7 +1,7 @@
 use Rattle.std.proofs.Common.{map}
 use Rattle.program_types.specs.View.{field_ref}
 use Rattle.tables_rows.specs.inner.Reading.{AreFirst}
-use Rattle.tables_rows.specs.Sorted.{FieldHolds}
+use Rattle.tables_rows.specs.TableFaults.{FieldHolds}
 use Rattle.tables_rows.specs.Stands.{FieldStands}
 use Rattle.tables_rows.proofs.field_ids.read_fields.Given as goal
 

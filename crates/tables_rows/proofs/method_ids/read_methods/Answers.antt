@@ -2,9 +2,8 @@ use Rattle.std.proofs.Common.{arith}
 use Rattle.std.proofs.lemmas.Grind.{common_steps}
 use Rattle.std.proofs.lemmas.List.{map-append}
 use Rattle.program_types.specs.View.{method_ref}
-use Rattle.tables_rows.specs.Sorted.{MethodHolds}
 use Rattle.tables_rows.specs.Stands.{MethodStands}
-use Rattle.tables_rows.specs.TableFaults.{MethodBreaks}
+use Rattle.tables_rows.specs.TableFaults.{MethodHolds, MethodBreaks}
 use Rattle.tables_rows.proofs.RowReading.{first_row, first_more, first_rows}
 use Rattle.tables_rows.proofs.method_ids.read_methods.Goals as goal
 use Rattle.dex_base.proofs.ListFacts.{passed}

@@ -1,7 +1,7 @@
 use Rattle.std.proofs.Common.{map}
 use Rattle.program_types.specs.View.{method_ref}
 use Rattle.tables_rows.specs.inner.Reading.{AreFirst}
-use Rattle.tables_rows.specs.Sorted.{MethodHolds}
+use Rattle.tables_rows.specs.TableFaults.{MethodHolds}
 use Rattle.tables_rows.specs.Stands.{MethodStands}
 use Rattle.tables_rows.proofs.method_ids.read_methods.Given as goal
 

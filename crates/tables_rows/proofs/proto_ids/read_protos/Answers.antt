@@ -3,9 +3,8 @@ use Rattle.tables_rows.proofs.CachedLaws.{cached_none}
 use Rattle.std.proofs.lemmas.Grind.{common_steps}
 use Rattle.std.proofs.lemmas.List.{map-append}
 use Rattle.program_types.specs.View.{proto}
-use Rattle.tables_rows.specs.Sorted.{ProtoHolds}
 use Rattle.tables_rows.specs.Stands.{ProtoStands}
-use Rattle.tables_rows.specs.TableFaults.{ProtoBreaks}
+use Rattle.tables_rows.specs.TableFaults.{ProtoHolds, ProtoBreaks}
 use Rattle.tables_rows.proofs.RowReading.{first_row, first_more, first_rows}
 use Rattle.tables_rows.proofs.proto_ids.read_protos.Goals as goal
 use Rattle.dex_base.proofs.ListFacts.{passed}

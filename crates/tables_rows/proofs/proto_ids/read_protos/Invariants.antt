@@ -3,7 +3,7 @@ use Rattle.program_types.specs.View.{proto}
 use Rattle.tables_rows.specs.inner.Cached.{AreCached}
 use Rattle.tables_rows.specs.inner.Known.{IsKnown}
 use Rattle.tables_rows.specs.inner.Reading.{AreFirst}
-use Rattle.tables_rows.specs.Sorted.{ProtoHolds}
+use Rattle.tables_rows.specs.TableFaults.{ProtoHolds}
 use Rattle.tables_rows.specs.Stands.{ProtoStands}
 use Rattle.tables_rows.proofs.proto_ids.read_protos.Given as goal
 

@@ -2,9 +2,8 @@ use Rattle.std.proofs.Common.{arith}
 use Rattle.std.proofs.lemmas.Grind.{common_steps}
 use Rattle.std.proofs.lemmas.List.{map-append}
 use Rattle.program_types.specs.View.{str}
-use Rattle.tables_rows.specs.Sorted.{StringHolds}
 use Rattle.tables_rows.specs.Stands.{StringStands}
-use Rattle.tables_rows.specs.TableFaults.{StringBreaks}
+use Rattle.tables_rows.specs.TableFaults.{StringHolds, StringBreaks}
 use Rattle.tables_rows.proofs.RowReading.{first_row, first_more, first_rows}
 use Rattle.tables_rows.proofs.string_ids.read_strings.Goals as goal
 use Rattle.dex_base.proofs.ListFacts.{passed}

@@ -1,5 +1,4 @@
-use Rattle.tables_rows.specs.Sorted.{StringHolds, TypeHolds, ProtoHolds, FieldHolds, MethodHolds}
-use Rattle.tables_rows.specs.TableFaults.{StringBreaks, TypeBreaks, ProtoBreaks, FieldBreaks, MethodBreaks}
+use Rattle.tables_rows.specs.TableFaults.{StringHolds, TypeHolds, ProtoHolds, FieldHolds, MethodHolds, StringBreaks, TypeBreaks, ProtoBreaks, FieldBreaks, MethodBreaks}
 use Rattle.tables_rows.proofs.ClearRows.{only_memory, no_first, string_clear, type_clear, proto_clear, field_clear, method_clear}
 use Rattle.tables_rows.proofs.tables.read_tables.Goals as goal
 use Rattle.dex_base.proofs.ListFacts.{passed}

@@ -2,9 +2,8 @@ use Rattle.std.proofs.Common.{arith}
 use Rattle.std.proofs.lemmas.Grind.{common_steps}
 use Rattle.std.proofs.lemmas.List.{map-append}
 use Rattle.program_types.specs.View.{desc}
-use Rattle.tables_rows.specs.Sorted.{TypeHolds}
 use Rattle.tables_rows.specs.Stands.{TypeStands}
-use Rattle.tables_rows.specs.TableFaults.{TypeBreaks}
+use Rattle.tables_rows.specs.TableFaults.{TypeHolds, TypeBreaks}
 use Rattle.tables_rows.proofs.RowReading.{first_row, first_more, first_rows}
 use Rattle.tables_rows.proofs.type_ids.read_types.Goals as goal
 use Rattle.dex_base.proofs.ListFacts.{passed}

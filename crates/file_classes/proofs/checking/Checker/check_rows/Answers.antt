@@ -3,7 +3,8 @@ use Rattle.std.specs.Prelude.{IfSome, IfNone}
 use Rattle.dex_base.specs.declared.fault.Fault.{Fault}
 use Rattle.dex_container.specs.Layout.{size_of}
 use Rattle.tables_rows.specs.Sorted.{RowsHold}
-use Rattle.file_classes.specs.ClassFaults.{BodiesBreak, BodiesHold, RowRegistersBreak, RowRegistersHold, IsFirstClass}
+use Rattle.file_classes.specs.ClassFaults.{BodiesBreak, BodiesHold, RowRegistersBreak, RowRegistersHold}
+use Rattle.file_classes.specs.inner.ClassFaults.{IsFirstClass}
 use Rattle.file_classes.proofs.StaticsLaws.{first_class}
 use Rattle.file_classes.proofs.MethodLaws.{rows_none, rows_turn}
 use Rattle.file_classes.proofs.checking.Checker.check_rows.Goals as goal
