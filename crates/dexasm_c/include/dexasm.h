@@ -28,7 +28,7 @@ extern "C" {
 #endif
 
 /* The version that this header belongs to: dexasm_version answers that of the library. */
-#define DEXASM_VERSION "0.6.0"
+#define DEXASM_VERSION "0.7.0-dev"
 
 /* How a call ends: 0, 1 and 4 are the exit status of the command dexasm. */
 typedef uint32_t dexasm_status;
@@ -72,7 +72,7 @@ dexasm_status dexasm_strip(const uint8_t *bytes, size_t length, uint8_t *out, si
  * DEXASM_ANSWERED or DEXASM_TOO_SMALL. */
 dexasm_status dexasm_fault_name(uint16_t code, uint8_t *out, size_t capacity, size_t *needed) DEXASM_NO_NULL;
 
-/* The version of the library, as "0.6.0": the same. */
+/* The version of the library, as "0.7.0": the same. */
 dexasm_status dexasm_version(uint8_t *out, size_t capacity, size_t *needed) DEXASM_NO_NULL;
 
 #ifdef __cplusplus

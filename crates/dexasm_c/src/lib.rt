@@ -88,10 +88,10 @@ pub extern "C" fn dexasm_fault_name(code: u16, out: &mut [u8], needed: &mut usiz
     status(put(fault_name(code).as_bytes(), out, needed))
 }
 
-/// The version, as `0.6.0`.
+/// The version, as `0.7.0`.
 #[unsafe(no_mangle)]
 pub extern "C" fn dexasm_version(out: &mut [u8], needed: &mut usize) -> u32
-    ensures { (way : Way) × (result ≡ status_of way) × Puts way (codes "0.6.0") out.old out.new needed.new }
+    ensures { (way : Way) × (result ≡ status_of way) × Puts way (codes "0.7.0-dev") out.old out.new needed.new }
 {
-    status(put(b"0.6.0", out, needed))
+    status(put(b"0.7.0-dev", out, needed))
 }

@@ -1,10 +1,10 @@
-//! The words of the help. The manual page docs/man/dexasm.1 is made of them too, by tools/generate.
+//! The texts of the help. tools/generate makes the manual page docs/man/dexasm.1 from them, too.
 
 /// The version of the tool, its crates and its manual pages; CHANGELOG.md has a section for it.
-pub(crate) const VERSION: &str = "0.6.0";
+pub(crate) const VERSION: &str = "0.7.0-dev";
 
-/// What the help begins with: what `--version` prints.
-pub(crate) const HEAD: &str = "dexasm 0.6.0";
+/// The first line of the help, which `--version` prints.
+pub(crate) const HEAD: &str = "dexasm 0.7.0-dev";
 
 /// The tool: what it does.
 pub(crate) const TOOL: &str =
@@ -13,10 +13,10 @@ pub(crate) const TOOL: &str =
 /// More on it.
 pub(crate) const TOOL_MORE: &str = "\
 A .dex file holds the classes of an Android program. Only version 035 is read and written.
-Without FILE, or where it is -, it reads standard input; without --output, or where OUT is -,
-it writes to standard output. A .dex file isn't written to a terminal.
+Without FILE, or if FILE is -, it reads standard input; without --output, or if OUT is -,
+it writes to standard output. A .dex file is not written to a terminal.
 
-Exit status: 0 done, 1 the file or the listing is refused, 2 a bad command line,
+Exit status: 0 success, 1 the file or the listing is refused, 2 usage error,
 3 reading or writing failed, 4 out of memory.
 
 Example: dexasm check classes.dex";
@@ -27,7 +27,7 @@ pub(crate) const CHECK: &str = "Checks whether a .dex file keeps every rule of i
 /// More on it.
 pub(crate) const CHECK_MORE: &str = "\
 Reads the whole file: header, map and checksums, the tables of names, classes, static values
-and code. Prints ok, or a rule that the file breaks and the byte where it breaks it.
+and code. Prints ok, or the violated rule and its byte offset.
 Annotations and debug information are ignored. The format is Dalvik Executable, version 035.
 
 Example: dexasm check classes.dex";
@@ -37,10 +37,10 @@ pub(crate) const LIST: &str = "Disassembles: prints the program of a .dex file a
 
 /// More on it.
 pub(crate) const LIST_MORE: &str = "\
-A listing is plain text: a line for each class, member and instruction, and labels where
-branches lead (its first line is 'dex 035 listing 2'). You can edit it, and turn it back into
-a file with 'dexasm assemble'. Annotations and debug information are not listed. A file that
-breaks a rule of its format (Dalvik Executable, version 035) is refused.
+A listing is plain text: a line for each class, member and instruction, and labels at branch
+targets (its first line is 'dex 035 listing 2'). You can edit it, and turn it back into a file
+with 'dexasm assemble'. Annotations and debug information are not listed. A file that violates
+a rule of its format (Dalvik Executable, version 035) is refused.
 
 Example: dexasm list classes.dex --output classes.txt";
 
@@ -49,29 +49,30 @@ pub(crate) const ASSEMBLE: &str = "Assembles: turns a listing into a .dex file";
 
 /// More on it.
 pub(crate) const ASSEMBLE_MORE: &str = "\
-Writes the listed program as a .dex file (Dalvik Executable, version 035), with nothing else
-in it. Payloads (the tables of switches and the data of arrays) must have even addresses: if
-one hasn't, the listing is refused; with --align, a nop is put before it.
+Writes the listed program, and nothing else, as a .dex file (Dalvik Executable, version 035).
+Payloads (the tables of switches and the data of arrays) must have even addresses; otherwise
+the listing is refused or, with --align, a nop is put before each.
 
 Example: dexasm assemble classes.txt --output classes.dex";
 
 /// The subcommand strip: what it does.
-pub(crate) const STRIP: &str = "Rewrites a .dex file without what its program doesn't need";
+pub(crate) const STRIP: &str =
+    "Rewrites a .dex file without the parts that its program does not need";
 
 /// More on it.
 pub(crate) const STRIP_MORE: &str = "\
-Classes, members, static values and code stay. Annotations (programs that read them at run
-time will miss them), debug information (line numbers too) and unneeded names are dropped.
-The format is Dalvik Executable, version 035.
+Keeps classes, members, static values and code. Drops annotations (programs that read them at
+run time will miss them), debug information with line numbers, and unneeded names. The format
+is Dalvik Executable, version 035.
 
 Example: dexasm strip classes.dex --output small.dex";
 
 /// FILE.
-pub(crate) const FILE: &str = "Read FILE instead of standard input (a FILE of the name - is ./-)";
+pub(crate) const FILE: &str = "Read FILE instead of standard input (use ./- for a file named -)";
 
 /// -o, --output OUT.
 pub(crate) const OUTPUT: &str =
-    "Write to OUT instead of standard output; it isn't touched until the answer is complete";
+    "Write to OUT instead of standard output; OUT is replaced only when the output is complete";
 
 /// --align.
 pub(crate) const ALIGN: &str = "Put a nop before each payload at an odd address";

@@ -217,7 +217,7 @@ public final class Dexasm {
   /**
    * The version of the library.
    *
-   * @return as {@code 0.6.0}
+   * @return as {@code 0.7.0}
    */
   public static String version() {
     Library.ready();

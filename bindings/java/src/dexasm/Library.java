@@ -14,7 +14,7 @@ import java.nio.charset.StandardCharsets;
  */
 final class Library {
   /** The version that these calls belong to. */
-  static final String VERSION = "0.6.0";
+  static final String VERSION = "0.7.0-dev";
 
   static final int ANSWERED = 0;
   static final int REFUSED = 1;

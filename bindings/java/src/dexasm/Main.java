@@ -28,16 +28,16 @@ public final class Main {
           + "       java -jar dexasm.jar assemble [FILE] [--output OUT] [--align]\n"
           + "       java -jar dexasm.jar strip    [FILE] [--output OUT]\n"
           + "\n"
-          + "Without FILE, or where it is -, it reads standard input; without --output, or where OUT is -,\n"
-          + "it writes to standard output. A .dex file isn't written to a terminal. OUT isn't touched until\n"
-          + "the answer is complete.\n"
+          + "Without FILE, or if FILE is -, it reads standard input; without --output, or if OUT is -,\n"
+          + "it writes to standard output. A .dex file is not written to a terminal. OUT is replaced only when\n"
+          + "the output is complete.\n"
           + "\n"
           + "  -o, --output OUT  Write to OUT\n"
           + "      --align       Put a nop before each payload at an odd address\n"
           + "  -h, --help        Print help\n"
           + "  -V, --version     Print version\n"
           + "\n"
-          + "Exit status: 0 done, 1 the file or the listing is refused, 2 a bad command line,\n"
+          + "Exit status: 0 success, 1 the file or the listing is refused, 2 usage error,\n"
           + "3 reading or writing failed, 4 out of memory, 70 there is no library or no JNA.\n";
 
   private final Job job;
