@@ -3,11 +3,12 @@
 use dexasm_world::Job;
 use std::alloc::Global;
 
-/// Bytes of the largest block from which glibc learns: 32 MiB less two pages, for its own header.
-const LARGEST: usize = 33_546_240;
+/// Bytes of the largest block that comes from the heap: 4 MiB less two pages. A larger one is mapped, so that its memory goes back to the
+/// system when it is freed: a listing is, before its file is written.
+const LARGEST: usize = 4_186_112;
 
-/// Lets the C library keep freed memory for `assemble`, which frees and requests large blocks again and again. glibc maps a block
-/// from 128 KiB on by itself and gives it back when it is freed, so that each of its pages costs a fault again; once it has freed a
+/// Lets the C library keep freed memory for `assemble`, which frees and requests blocks of some hundred KiB again and again. glibc maps a
+/// block from 128 KiB on by itself and gives it back when it is freed, so that each of its pages costs a fault again; once it has freed a
 /// mapped block of some size, blocks up to that size come from the heap. Without memory for the block nothing is changed.
 pub(crate) fn prepare(alloc: Global, job: Job) {
     if let Job::Assemble { align: _ } = job {
