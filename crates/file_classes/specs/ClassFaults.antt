@@ -2,7 +2,7 @@
 -- is asked only where the groups before, and the rows before, hold.
 use Rattle.std.specs.Prelude.{◌≡◌, ◌≢◌, ℕ, ◌<◌, ◌==◌, ◌||◌, if◌then◌else◌, MatchBool, None, List, length, Option, Some, slice_index}
 use Rattle.std.specs.List.{slice_get}
-use Rattle.dex_base.specs.FirstFault.{or_later, or_else, or_first, FirstEntry}
+use Rattle.dex_base.specs.FirstFault.{or_later, or_else, First, or_first, FirstEntry}
 use Rattle.dex_base.specs.declared.fault.Fault.{Fault}
 use Rattle.dex_container.specs.Layout.{size_of}
 use Rattle.dex_container.specs.Section as section
