@@ -3,7 +3,7 @@ docs/FORMAT.md and docs/LISTING.md. This compares it with a second reading of bo
 definitions, by hand. Where the two differ, one of them or a page is wrong; where they agree, both may be wrong in the
 same way.
 
-There are three comparisons, each on worked examples and on cases made at random:
+There are three comparisons, each on worked examples (those of files with their edge cases) and on cases made at random:
   check  `check` with faults.py, on files changed at random, most of them at fault (3000 of them)
   texts  `assemble` and `list` with listing.py and writing.py, on listings, most of them at fault (1500); where large
          ones are asked for also on those that are at the edges of the limits of a file, which takes a minute or two
@@ -26,6 +26,7 @@ from typing import Any
 from .. import config
 from ..base import LIMIT
 from . import faults
+from .edge_cases import edge_cases
 from .examples import examples
 from .listing import parse, print_listing
 from .loose import file_examples, random_files
@@ -122,6 +123,8 @@ class CheckComparison(Comparison):
     def run(self) -> None:
         for what, data, answer in examples():
             self.compare_sample(what, data, answer)
+        for what, data, answer in edge_cases():
+            self.compare(what, data, answer)
         for path, data in files_below(config.files()):
             self.compare_sample(path, data)
         seed = config.seed()
@@ -184,7 +187,7 @@ class FileComparison(Comparison):
 
     def run(self) -> None:
         found = [*((path, data) for path, data in files_below(config.files())),
-                 *((f"example: {what}", data) for what, data, _ in examples()),
+                 *((f"example: {what}", data) for what, data, _ in (*examples(), *edge_cases())),
                  *((f"example: {what}", data) for what, data in file_examples())]
         for what, data in found:
             if faults.fault(data) is None:

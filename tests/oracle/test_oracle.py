@@ -6,9 +6,9 @@ import sys
 
 from .. import config
 from ..base import TestCase, get
-from . import vectors
+from . import faults, vectors
 from .comparing import CheckComparison, Comparison, FileComparison, TextComparison
-from .pages import DOCS, NUMBERS
+from .pages import DOCS, NUMBERS, Refusal
 
 
 class SecondReading(TestCase):
@@ -48,6 +48,14 @@ class Vectors(TestCase):
             with self.subTest(one.name):
                 wanted = (0, "ok\n", "") if one.expected == "ok" else (1, "", f"{one.expected}\n")
                 self.assertEqual((done.returncode, done.stdout, done.stderr), wanted)
+
+    def test_second_reading(self) -> None:
+        """The second reading expects of each file what the manifest does."""
+        for one in vectors.vectors():
+            if one.command == "check":
+                found = faults.fault(one.data)
+                with self.subTest(one.name):
+                    self.assertEqual(f"{Refusal('file', *found)}".rstrip() if found else "ok", one.expected)
 
     def test_folder(self) -> None:
         """tests/vectors is as it would be written."""

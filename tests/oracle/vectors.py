@@ -1,9 +1,9 @@
-"""Test vectors, tests/vectors: small inputs and the line that is expected of each, for readers in any language. Each fault
-has one that is named by it alone; the other worked examples are named by what they are too.
+"""Test vectors, tests/vectors: small inputs and the line that is expected of each, for readers in any language. Each
+fault has one that is named by it alone; the other worked examples and the edge cases are named by what they are too.
 
-`python3 -m tests.oracle.vectors`, at the top of the repository, writes the folder from the worked examples (whose
-answers are worked out by hand from docs/FORMAT.md and docs/LISTING.md) and from those below. The test in test_oracle.py
-fails if the folder isn't as it would be written.
+`python3 -m tests.oracle.vectors`, at the top of the repository, writes the folder from the worked examples and edge
+cases (whose results are worked out by hand from docs/FORMAT.md and docs/LISTING.md) and from those below. The test in
+test_oracle.py fails if the folder isn't as it would be written.
 """
 import os
 import re
@@ -14,6 +14,7 @@ from collections.abc import Iterator
 from typing import NamedTuple
 
 from .. import TOP
+from .edge_cases import edge_cases
 from .examples import NO_CLASSES, ONE_METHOD, Example, changed, class_row, examples, with_code
 from .making import file_of
 from .pages import Refusal
@@ -95,13 +96,14 @@ def smallest(found: dict[int, Vector], number: int, one: Vector) -> None:
 
 
 def of_files() -> Iterator[Vector]:
-    """The smallest file for each fault, and the other small ones."""
+    """The smallest worked example for each fault, and the other small files."""
     found, others = dict[int, Vector](), list[Vector]()
-    for what, data, answer in [*examples(), *more_files()]:
+    worked = [*examples(), *more_files()]
+    for i, (what, data, answer) in enumerate([*worked, *edge_cases()]):
         refusal = Refusal("file", *answer) if answer else None
         name = f"{refusal.number:03}-{refusal.name}" if refusal else "ok"
         expected = str(refusal).rstrip("\n") if refusal else "ok"
-        if refusal:
+        if refusal and i < len(worked):
             smallest(found, refusal.number, Vector(f"{name}.dex", "check", data, expected))
         if len(data) <= SMALL:
             others.append(Vector(f"{name}-{slug(what)}.dex", "check", data, expected))
