@@ -42,6 +42,7 @@ FILES = {
 FOLDERS = {
     "bindings/rust": "share/doc/dexasm/rust",
     "contrib/vim": "share/vim/vimfiles",
+    "contrib/vscode": "share/doc/dexasm/vscode",
     "crates/example/src": "share/doc/dexasm/examples/rattle",
     "docs": "share/doc/dexasm/docs",
     "python/bin": "bin",
