@@ -65,7 +65,14 @@ def before(folder: str) -> dict[str, Any]:
 
 def worked(step: str, at: str, **env: Any) -> Ended:
     """The step, as GitHub has bash run it."""
+    env = {"RUNNER_TEMP": os.path.dirname(step), **env}
     return run(["bash", "--noprofile", "--norc", "-eo", "pipefail", step], at=at, **env)
+
+
+def uploaded(step: str) -> list[Any]:
+    """The results of the report that the workflow uploads."""
+    found: list[Any] = json.loads(get(os.path.dirname(step), "dexasm.sarif"))["runs"][0]["results"]
+    return found
 
 
 # ---- the line of README
@@ -314,17 +321,18 @@ class ContinuousIntegration(HelperTest):
         is_so = len(lines) == bad + 1 + len(LOOKED_AT)
         is_so = is_so and all(line.startswith("refused: ") or properties(line) for line in lines)
         is_so = is_so and all(line.isprintable() for line in lines)
-        self.check(
-            "workflow, what is refused",
-            status == 1 and said == "" and is_so and "PWNED" not in os.listdir(at),
-            (status, out, said),
-        )
+        self.check_equal("workflow, status and standard error", (status, said), (3, ""))  # (of an archive that is none)
+        self.check("workflow, what is refused", is_so and "PWNED" not in os.listdir(at), out)
+        names = [one["locations"][0]["physicalLocation"]["artifactLocation"]["uri"] for one in uploaded(step)]
+        self.check_equal("workflow, what is uploaded", len(names), bad + len(LOOKED_AT))  # (all but the link)
+        self.check_equal("workflow, an archive that is uploaded", names.count("b.apk"), 1)
         good = room("workflow good")
         put(good, "a.dex", assembled(TEXT))
         put(good, "gradle-wrapper.jar", archive(("a.class", b"x")))
         run(["git", "init", "-q", "."], at=good)
         run(["git", "add", "-A"], at=good)
         self.check_equal("workflow, all is accepted", worked(step, good), (0, "", ""))
+        self.check_equal("workflow, nothing to upload", uploaded(step), [])
         self.check_workflow_fails(step, good)
 
     def check_workflow_fails(self, step: str, good: str) -> None:
@@ -340,12 +348,14 @@ class ContinuousIntegration(HelperTest):
         seen = worked(step, good, TMPDIR="/none")
         self.check("workflow, no folder for the list", seen[0] != 0, seen)
         seen = worked(step, good, PATH=os.path.dirname(git))
-        self.check("workflow, no dexasm", seen[0] == 1, seen)
+        self.check_equal("workflow, no dexasm", seen[0], 127)
+        seen = worked(step, good, RUNNER_TEMP="/none")
+        self.check("workflow, no folder for the report", seen[0] != 0, seen)
         os.mkdir(os.path.join(good, "without"))
         os.symlink("/bin/true", os.path.join(good, "without", "dexasm"))
         ways = os.pathsep.join([alone(), os.path.join(good, "without")])
         seen = worked(step, good, **before(ways), DEXASM_COMMAND="", DEXASM_LIBRARY="")
-        self.check("workflow, a dexasm that answers nothing", seen[0] == 1, seen)
+        self.check_equal("workflow, a dexasm that answers nothing", seen[0], 3)
         os.remove(os.path.join(good, "a.dex"))
         seen = worked(step, good)
-        self.check("workflow, a file that isn't there", seen[0] == 1 and "a.dex" in seen[1], seen)
+        self.check("workflow, a file that isn't there", seen[0] == 3 and "a.dex" in seen[1], seen)
