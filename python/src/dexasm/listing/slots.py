@@ -4,6 +4,7 @@ from __future__ import annotations
 import re
 
 from dexasm.formats import format_of
+from dexasm.listing.hints import hint
 from dexasm.listing.source import KEYS, Class, Code, Diagnostic, Line, Listing, Slot, decoded, number_of, slots
 from dexasm.listing.syntax import FIRST_LINE, flag_words
 from dexasm.names import FieldRef, MethodRef, Name, Proto, Type, member as member_name
@@ -52,7 +53,9 @@ def in_line(read: Listing, number: int, line: Line, before: Class | None) -> Dia
             slot = Slot(slot.word, "@", 32) if read.is_first_form else Slot(slot.word, "label")
         if not _fits(slot):
             is_name = slot.kind in _WHAT
-            return Diagnostic(line, slot.word, _why(line, slot)) if is_name == (number == _NAME) else None
+            code = before.members[-1].code if before and before.members else None
+            why = hint(line, slot, code) or _why(line, slot)
+            return Diagnostic(line, slot.word, why) if is_name == (number == _NAME) else None
     return None
 
 

@@ -172,8 +172,12 @@ class Listing:
         # The number of the line with which each class begins.
         self.heads = [at for at, row in enumerate(self.rows, 1) if row.lstrip(b" ")[:6] == b"class "]
 
+    def text(self, number: int) -> str:
+        """A line's characters; bytes that are none stand as surrogates."""
+        return self.rows[number - 1].decode("utf8", "surrogateescape")
+
     def line(self, number: int) -> Line:
-        words = [Word(word[0], word.start() + 1) for word in _WORD.finditer(self.rows[number - 1].decode("latin1"))]
+        words = [Word(word[0], word.start() + 1) for word in _WORD.finditer(self.text(number))]
         if words and words[0].text[:1] == "#":
             words = []
         has_number = self.is_first_form and len(words) > 1 and words[0].text[-1] == ":"
@@ -181,7 +185,7 @@ class Listing:
 
     def word(self, number: int) -> Word | None:
         """The first word of a row, of an instruction of the first form its number."""
-        found = _WORD.search(self.rows[number - 1].decode("latin1"))
+        found = _WORD.search(self.text(number))
         return None if found is None else Word(found[0], found.start() + 1)
 
     def class_at(self, index: int, last: int | None = None) -> Class | None:

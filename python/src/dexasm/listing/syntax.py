@@ -11,6 +11,7 @@ from collections.abc import Iterator
 
 from dexasm.flags import CLASS_FLAGS, FIELD_FLAGS, METHOD_FLAGS
 from dexasm.formats import MNEMONICS, Format, format_of
+from dexasm.listing.hints import java_proto, of_first_word, quoted
 from dexasm.listing.source import MEMBERS, PAYLOADS, VALUES, Diagnostic, Line, Listing, Word
 
 MOST_CHECKED = 4000  # characters of a line that are looked through
@@ -70,7 +71,7 @@ BARE_TEXT = re.compile(r'"(?:[^"\\]|\\.)*"')
 
 def malformed_line(read: Listing, number: int) -> Diagnostic:
     """The word at fault of a line that isn't of the listing's form, and why."""
-    text = read.rows[number - 1].decode("utf8", "surrogateescape")
+    text = read.text(number)
     line = Line(number, tuple(words_of(text)) or (Word(text, 1),))
     is_first = not any(read.line(other).words for other in range(1, number))
     found = next(common_mistakes(text, is_first), None)
@@ -131,7 +132,8 @@ def _characters(bare: str, text: str) -> Iterator[tuple[int, str]]:
     yield from _texts(bare, text)
     if "," in bare:
         at = bare.index(",")
-        yield at, f"a comma stands at column {at + 1}: words stand between spaces, as in `add-int v0 v1 v2`"
+        why = f"a comma stands at column {at + 1}: words stand between spaces, as in `add-int v0 v1 v2`"
+        yield at, java_proto(word_at(bare, at).text) or why
 
 
 def _texts(bare: str, text: str) -> Iterator[tuple[int, str]]:
@@ -140,7 +142,7 @@ def _texts(bare: str, text: str) -> Iterator[tuple[int, str]]:
         return
     behind = re.search(r'"_*"([^ \r])', bare)
     if behind is not None:
-        yield behind.start(1), "a space has to follow a text"
+        yield behind.start(1), 'a space has to follow a text, and a quote in a text is \\"'
     for found in BARE_TEXT.finditer(text):
         wrong = re.search(r'(?<!\\)(?:\\\\)*\\(?!u[0-9A-Fa-f]{4}|["\\])', found[0])
         if wrong is not None:
@@ -206,7 +208,7 @@ def _structure(read: Listing, line: Line, is_first: bool) -> Diagnostic:
         return _insn(line, first, words)
     if key[:1] == '"':
         return Diagnostic(line, first, "a text can't begin a line")
-    return Diagnostic(line, first, _unknown(key))
+    return Diagnostic(line, first, _unknown(key, not words))
 
 
 def _is_insn(key: str) -> bool:
@@ -221,8 +223,13 @@ def _of_first_form(key: str) -> str:
     return f"in the form that begins with `dex 035` each instruction has its number before it: `0: {key}`"
 
 
-def _unknown(key: str) -> str:
-    return f"no mnemonic or keyword{near(key, (*MNEMONICS, *PAYLOADS, *KEYWORDS, 'end', 'dex'))}"
+def _unknown(key: str, is_alone: bool) -> str:
+    known = (*MNEMONICS, *PAYLOADS, *KEYWORDS, "end", "dex")
+    meant = of_first_word(key, is_alone, lambda word: word in known)
+    others = f"; {meant}" if meant else near(key, known)
+    if not others and is_alone and re.fullmatch(r"\w{1,32}", key, re.ASCII):
+        others = f"; a label is written :{key}"
+    return f"no mnemonic or keyword{others}"
 
 
 def near(word: str, words: tuple[str, ...]) -> str:
@@ -297,7 +304,8 @@ def _value(line: Line, before: Word, words: list[Word]) -> Diagnostic:
         elif text in VALUES:
             operand = next(rest, None)
             if operand is None or (operand.text[:1] == '"') != (text == "string"):
-                return Diagnostic(line, operand or word, f"behind `{text}` stands {OPERANDS.get(text, 'a number')}")
+                meant = quoted(operand.text) if operand and text == "string" else None
+                return Diagnostic(line, operand or word, meant or f"behind `{text}` stands {OPERANDS.get(text, 'a number')}")
             before = operand
         elif text not in ("null", "true", "false"):
             return Diagnostic(line, word, _without_kind(text))
@@ -360,8 +368,20 @@ def _insn(line: Line, first: Word, words: list[Word]) -> Diagnostic:
         return _call(line, first, words, wanted)
     brace = next((word for word in words if word.text in ("{", "}")), None)
     if brace is not None:
-        return Diagnostic(line, brace, f"no braces here: {takes(key, wanted)}")
+        first_and_count = f", but the first register and how many{_range_of(words)}" if form.is_range else ""
+        return Diagnostic(line, brace, f"no braces here{first_and_count}: {takes(key, wanted)}")
     return _compared(line, first, words, wanted)
+
+
+def _range_of(words: list[Word]) -> str:
+    """The registers between braces as the first one and their count, where they rise by one."""
+    listed = [word.text for word in words if re.fullmatch("v[0-9]{1,5}", word.text)]
+    numbers = [int(register[1:]) for register in listed]
+    is_ended = len(numbers) == 2 and any(word.text == ".." for word in words)
+    if not numbers or not is_ended and numbers != [*range(numbers[0], numbers[0] + len(numbers))]:
+        return ""
+    count = numbers[-1] - numbers[0] + 1
+    return f", as in {listed[0]} {count}" if count > 0 else ""
 
 
 def _split_name(form: Format, words: list[Word]) -> tuple[Word, str] | None:
@@ -431,6 +451,7 @@ def _compared(line: Line, first: Word, words: list[Word], wanted: list[str]) -> 
     for word, kind in zip(words, wanted):
         if (word.text[:1] == '"') != (kind == "TEXT"):
             here = "a text in quotes stands here" if kind == "TEXT" else f"{kind} stands here, and no text"
+            here = quoted(word.text) or here if kind == "TEXT" else here
             return Diagnostic(line, word, f"{here}: {usage}")
     at = next((at for at, (word, kind) in enumerate(zip(words, wanted)) if not _fits(kind, word)), len(words))
     here = f"{usage}: {counted(len(words))} here"
