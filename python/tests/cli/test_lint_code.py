@@ -58,6 +58,7 @@ super Ljava/lang/Object;
 end class
 class LD; 0x1
 super Ljava/lang/Object;
+direct p ()V 0x102
 end class
 """
 CLASS = """class L{0}; 0x1

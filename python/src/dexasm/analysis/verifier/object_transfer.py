@@ -335,4 +335,7 @@ def is_kind_right(method: Method, insn: Named, kind: str, call: Call, place: int
         return
     right = "static" if flags & STATIC else "direct" if flags & DIRECT else "virtual"
     if right != {"super": "virtual", "interface": "virtual"}.get(kind, kind):
-        method.report(place, "call-kind", f"the method is {right}: invoke-{right} calls it")
+        text = f"the method is {right}: invoke-{right} calls it"
+        if flags & PRIVATE and method.owner != call.owner:
+            text = f"the method is private to `{call.owner}`: no other class can call it"
+        method.report(place, "call-kind", text)
