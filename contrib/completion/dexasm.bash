@@ -20,7 +20,7 @@ _dexasm_helper() {
   case $name in
     dexasm-apk) first='check list strip extract replace' options='--help --version --close --allow-empty --quiet --output' ;;
     dexasm-browse) first='' options='--help --version --output --graphs' ;;
-    dexasm-check) first='' options='--help --version --json --sarif --github --junit --program --lint --explain --quiet --allow-empty --color --jobs --seconds --memory' ;;
+    dexasm-check) first='' options='--help --version --json --sarif --github --junit --program --lint --explain --quiet --allow-empty --color --jobs --seconds --memory --paths-from --exclude --baseline' ;;
     dexasm-close) first='' options='--help --version --output --in-place --quiet --check' ;;
     dexasm-corpus) first='add merge sum refused same classes callers strings libraries' options='--help --version --processes --seconds --memory --scheduler --again --strict --allow-empty --send --trust --verify --json --csv --csv-raw --pattern --known --classes' ;;
     dexasm-diff) first='' options='--help --version --names --color --textconv --json' ;;

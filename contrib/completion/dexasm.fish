@@ -36,6 +36,9 @@ complete -c dexasm-check -l color -x -a 'auto always never'
 complete -c dexasm-check -l jobs
 complete -c dexasm-check -l seconds
 complete -c dexasm-check -l memory
+complete -c dexasm-check -l paths-from
+complete -c dexasm-check -l exclude
+complete -c dexasm-check -l baseline
 complete -c dexasm-close -l help
 complete -c dexasm-close -l version
 complete -c dexasm-close -l output -r -F

@@ -116,6 +116,7 @@ SAYS = {
     (101, "static a «int» 0"): "int is I",
     (101, "static a «String[]» 0"): "String is Ljava/lang/String;: [Ljava/lang/String;",
     (101, "direct a «(boolean)int» 0"): "boolean is Z and int is I: (Z)I",
+    (101, "direct a «(int,int)void» 0"): "int is I and void is V: (II)V",
     (101, "direct a «(Z)» 0"): "the return type is missing, as in (Z)V",
     (101, "direct a «(LB;[])V» 0"): "the [ of an array comes first: ([LB;)V",
     (101, "direct a «(LB.C;)V» 0"): "packages are separated by /: (LB/C;)V",
@@ -135,6 +136,7 @@ LINES = {
     101: (
         ["super «LA»"], ["super «com.x.Y»"], in_code("sget v0 «LB;->a»"), ["static a «II» ?"], in_code("goto «a»"),
         ["super «Lcom.x.Y;»"], ["static a «int» 0"], ["static a «String[]» 0"], ["direct a «(boolean)int» 0"],
+        ["direct a «(int,int)void» 0"],
         ["direct a «(Z)» 0"], ["direct a «(LB;[])V» 0"], ["direct a «(LB.C;)V» 0"], ["direct 0x9 «a» (Z)I"],
         [f"direct a «({'int' * 5000})V» 0"],
     ),
@@ -245,7 +247,6 @@ OF_CLASSES = (
     ("«metod» m ()V 0", "no mnemonic or keyword"),
     ("«supper» LB;", "no mnemonic or keyword; near it: super"),
     ("«SUPER» LB;", "no mnemonic or keyword; a keyword is lower-case: super"),
-    ("direct a «(int,int)void» 0", "int is I and void is V: (II)V"),
     ("static a LB; 0 = string «'b'»", 'a text is in double quotes: "b"'),
     ("super LB; «LC;»", "super takes TYPE: 2 words here, and this one is too many"),
     ("«super»", "super takes TYPE: 0 words here"),

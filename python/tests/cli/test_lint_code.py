@@ -490,8 +490,8 @@ class LintCode(HelperTest):
         seen = [(name, one["message"]["text"].partition(" (0x")[0]) for name, one in zip(names, sarif)]
         want: list[tuple[str | None, ...]] = [("t(ILjava/lang/String;)V", "instruction 0"), ("t(F)V", "instruction 0")]
         self.check("dexasm-lint --code, SARIF of a file", seen[:2] == want and len(seen) == len(ROWS), seen[:2])
-        put(at, "b.txt", HEAD + b"class LA; 0x10000\nend class\n")
-        put(at, "c.txt", HEAD + b"class LA; 0x1\nend class\n")
+        put(at, "b.txt", HEAD + b"class LA; 0x10000\nsuper LB;\nend class\n")
+        put(at, "c.txt", HEAD + b"class LA; 0x1\nsuper LB;\nend class\n")
         status, out, said = tool("dexasm-lint", "--code", "--json", "none", "b.txt", "c.txt", at=at)
         seen = [(one["file"], one["status"], one["rule"]) for one in map(json.loads, out.splitlines())]
         want = [("none", "failed", None), ("b.txt", "broken", "class-flags"), ("c.txt", "ok", None)]
@@ -523,7 +523,7 @@ class LintCode(HelperTest):
         out = tool("dexasm-lint", "--code", "a.dex", at=at)[1]
         self.check("dexasm-lint --code, marks of a file", out.startswith(r"a.dex: L\u2066\u061c;->\u2067(L\u2066"), out)
         put(at, "bad.txt", HEAD + b"class LA; 0x1\nbad\n")
-        put(at, ESC, HEAD + b"class LA; 0x1\nend class\n")
+        put(at, ESC, HEAD + b"class LA; 0x1\nsuper LB;\nend class\n")
         status, out, said = tool("dexasm-lint", "--code", "bad.txt", ESC, at=at)
         is_so = (status, out) == (1, "\\x1b: ok\n") and said == "dexasm-lint: bad.txt: dexasm: refused 100 Word at 3\n"
         self.check("dexasm-lint --code, a file that is refused", is_so, (status, out, said))
@@ -535,7 +535,7 @@ class LintCode(HelperTest):
         methods = (f"direct m ()V 0x9\ncode 1 0 0\nconst v0 {n}\n{body}return-void\nend code\n" for n in range(60))
         text = "".join(f"class L{n}; 0x1\nsuper Ljava/lang/Object;\n{one}end class\n" for n, one in enumerate(methods))
         put(at, "a.txt", HEAD + text.encode())
-        put(at, "b.txt", HEAD + b"class LA; 0x1\nend class\n")
+        put(at, "b.txt", HEAD + b"class LA; 0x1\nsuper LB;\nend class\n")
         for jobs in ("1", "3"):
             seen = tool("dexasm-lint", "--code", "--seconds", "0.05", "--jobs", jobs, "a.txt", "b.txt", at=at)
             want = (3, "b.txt: ok\n", "dexasm-lint: a.txt: it takes longer than --seconds\n")

@@ -6,7 +6,7 @@ import shutil
 from typing import Any
 
 from dexasm.flags import CLASS_FLAGS, FIELD_FLAGS, METHOD_FLAGS
-from .support import ESC, HEAD, LISTING, TOP, HelperTest, assembled, dexasm, get, is_one_line, put, room, run, shell, tool
+from .support import ESC, HEAD, LISTING, TOP, HelperTest, assembled, dexasm, get, is_one_line, put, room, run, tool
 
 NAMED = rb"""class L\u00e9/\ud83d\ude00; 0x1
 super Lx\u00e9;
@@ -269,21 +269,6 @@ class Query(HelperTest):
                 seen[:2] == (status, "") and is_one_line(seen[2], "dexasm-query: a.dex: dexasm: "),
                 seen,
             )
-        put(
-            at,
-            "big.dex",
-            assembled(HEAD + b"".join(b"class L%s%d; 1\nend class\n" % (b"x" * 200, n) for n in range(2000))),
-        )
-        seen = shell(
-            "dexasm-query classes big.dex | head -c 1; echo ' '${PIPESTATUS[0]}\n"
-            "dexasm-query calls a.dex >&-; echo $?; dexasm-query calls <&-; echo $?",
-            at,
-        )
-        self.check(
-            "dexasm-query, a closed pipe",
-            seen[1] == "{ 0\n3\n3\n" and seen[2].count("\n") == 2 and "Traceback" not in seen[2],
-            seen,
-        )
 
     def test_addresses(self) -> None:
         """Offsets and addresses as dexdump has them, where it is; those of a small method by hand."""

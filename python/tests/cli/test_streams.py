@@ -1,5 +1,5 @@
-"""Each helper with streams that are closed, full or not read, by Pythons that are told to be otherwise, and over a
-command or a graphviz that answers what is no answer: a line and a status, and no traceback.
+"""Helpers whose output is more than a pipe or a limit takes, and over a command or a graphviz that answers what is no
+answer: a line and a status, and no traceback. (test_contract.py has what all of them promise.)
 """
 import os
 import re
@@ -9,91 +9,20 @@ import sys
 from .archive_files import archive
 from .browse_pages import CODE
 from .support import (
-    HEAD, LISTING, TOOLS, TOP, HelperTest, assembled, environment, has_pages, is_one_line, put, room, shell
+    HEAD, LISTING, TOP, HelperTest, assembled, environment, has_pages, is_one_line, put, room, shell
 )  # fmt: skip
 from .shell_runs import each, fake, is_line
 
 
-# For each helper words with which it exits well.
-WORDS = {
-    "apk": "check a.apk",
-    "browse": "a.dex --output pages",
-    "check": "a.dex",
-    "close": "--check a.dex",
-    "corpus": "sum c.db",
-    "diff": "--names a.dex b.dex",
-    "explain": "a.dex <told",
-    "graph": "--calls a.dex",
-    "info": "a.dex",
-    "lint": "b.dex",
-    "merge": "b.dex c.txt --output merged",
-    "query": "classes a.dex",
-    "rename": "a.dex A=Z --output renamed",
-    "size": "a.dex",
-    "split": "--join classes",
-}
-HELPERS = [*WORDS]
-if not has_pages():
-    del WORDS["browse"]
-ENDS, FAILS = {"diff": 1}, {"diff": 2}  # statuses, where they aren't 0 and 3
-SILENT = ("browse", "merge", "rename")  # on standard output
-UNREAD = "( sleep 0.3; {} ) | true; exit ${{PIPESTATUS[0]}}"
-
-
 def prepared(name: str) -> str:
-    """A room with what the words name."""
-    at, file = room(name), assembled(LISTING)
-    put(at, "a.dex", file)
+    """A room with two files."""
+    at = room(name)
+    put(at, "a.dex", assembled(LISTING))
     put(at, "b.dex", assembled(HEAD + b"class LA; 0x1\nend class\n"))
-    put(at, "c.txt", HEAD + b"class LB; 0x1\nsuper LA;\nend class\n")
-    put(at, "a.apk", archive(("classes.dex", file)))
-    put(at, "told", b"dexasm: refused 1 TooShort at 7\n")
-    shell("dexasm-split a.dex classes; dexasm-corpus add --processes 1 c.db a.dex", at)
     return at
 
 
 class Streams(HelperTest):
-    def test_helpers(self) -> None:
-        """Each entry point is run here."""
-        self.check_equal("helpers", [f"dexasm-{name}" for name in HELPERS], sorted(os.listdir(TOOLS)))
-
-    def test_streams(self) -> None:
-        """Closed, full, and not read."""
-        at = prepared("streams")
-        good = {f"dexasm-{name} {words}": name for name, words in WORDS.items()}
-        for text, seen in each([f"{one} >{to}" for one in good for to in ("/dev/full", "&-")], at):
-            name = good[text.partition(" >")[0]]
-            if name in SILENT and text.endswith("full"):
-                self.check_equal(text, seen, (0, "", ""))
-            else:
-                self.check(
-                    text, seen[:2] == (FAILS.get(name, 3), "") and is_one_line(seen[2], f"dexasm-{name}: "), seen
-                )
-        for text, seen in each([UNREAD.format(one) for one in good], at):
-            name = good[text[13:].partition(" )")[0]]
-            self.check_equal(f"dexasm-{name}, nobody reads", seen, (ENDS.get(name, 0), "", ""))
-        silent = [f"{one} >/dev/full 2>/dev/full" for one in good] + [f"{one} >&- 2>&- <&-" for one in good]
-        for text, seen in each(silent + [f"dexasm-{name} none --none 2>/dev/full" for name in WORDS], at):
-            is_silent = any(f"-{name} {WORDS[name]}" in text for name in SILENT)
-            want = (0,) if is_silent and "full" in text else (2,) if "none" in text else (2, 3)
-            self.check(text, seen[0] in want and seen[1:] == ("", ""), seen)
-
-    def test_help(self) -> None:
-        at = room("streams help")
-        for text, seen in each([UNREAD.format(f"dexasm-{name} --help") for name in WORDS], at):
-            self.check_equal(text, seen, (0, "", ""))
-        for text, seen in each([f"dexasm-{name} --help >/dev/full" for name in WORDS], at):
-            self.check(text, seen[:2] == (2 if "diff" in text else 3, "") and is_one_line(seen[2], "dexasm-"), seen)
-
-    def test_help_unbuffered(self) -> None:
-        """As Python is in most images of containers."""
-        at = room("help unbuffered")
-        for name in sorted(os.listdir(TOOLS)):
-            for word in ("--help", "--version"):
-                seen = shell(f"{name} {word} >/dev/full", at, PYTHONUNBUFFERED="1")
-                is_so = seen[0] in (2, 3) and is_one_line(seen[2], f"{name}: ")
-                self.check(f"{name} {word} >/dev/full, unbuffered", is_so, seen)
-
     def test_unread(self) -> None:
         """More than a pipe holds, of which one byte is read: what answers by its status doesn't say that all is
         well."""
@@ -143,21 +72,6 @@ class Streams(HelperTest):
             for text, seen in each([f"ulimit -f 4; {command} >out; echo $?; stat -c %s out"], at):
                 is_so = seen[:2] == (0, "3\n4096\n") and is_one_line(seen[2], f"{name}: ")
                 self.check(f"{text}, a limit on files", is_so, seen)
-
-    def test_pythons(self) -> None:
-        """A Python without docstrings that looks for no module beside the program; one that tells what isn't closed."""
-        at = prepared("streams pythons")
-        env = {"PYTHONOPTIMIZE": "2", "PYTHONSAFEPATH": "1"}
-        good = {**WORDS, "corpus": "add --processes 1 new.db a.dex"}
-        for text, seen in each([f"dexasm-{name} {words}" for name, words in good.items()], at, **env):
-            self.check(f"{text}, {env}", (seen[0], seen[2]) == ("diff" in text, ""), seen)
-        texts = [f"dexasm-{name} --help" for name in WORDS] + ["dexasm-lint --none; dexasm-lint a.dex"]
-        for (text, plain), (_, seen) in zip(each(texts, at), each(texts, at, **env)):
-            self.check(f"{text}, {env}", seen == plain and "usage: dexasm-" in "".join(plain[1:]), seen)
-        strict = {"PYTHONWARNINGS": "error::ResourceWarning"}
-        shell("rm -rf new.db* pages", at)
-        for text, seen in each([f"dexasm-{name} {words}" for name, words in good.items()], at, **strict):
-            self.check(f"{text}, {strict}", (seen[0], seen[2]) == ("diff" in text, ""), seen)
 
     def test_unexpected(self) -> None:
         """A command whose output can't be parsed is one line, and the status of what failed."""

@@ -16,9 +16,9 @@ others are taken as they are, and so is what has no header or another length. Th
 
 An entry is not read if it is encrypted or has the flag of it (Android ignores the flag), if its sum is wrong or its
 method unknown, or if another entry has its name (Android refuses such an archive). Each .dex file is held in memory. A
-file that begins as something else, with an archive behind that, and an archive in which other tools can find other
-entries are refused (status 3). An archive without classes*.dex is an error (status 3) too, unless --allow-empty is
-given. `dexasm-check` also checks other names: *.dex in other folders, archives in the archive.
+file to which an archive is appended, and an archive in which other tools can find other entries, are refused (status
+3). An archive without classes*.dex is an error (status 3) too, unless --allow-empty is given. `dexasm-check` also
+checks other names: *.dex in other folders, archives in the archive.
 
 replace writes OUT, the archive with its classes.dex exchanged for a FILE of that name, and so on, if dexasm accepts it.
 Each other entry stays byte for byte, at the place that zipalign asks for where it isn't compressed (4 bytes, 16 KB for
@@ -150,7 +150,7 @@ def replace(parser: Parser, args: Namespace) -> int:
         entry, data = os.path.basename(path), read_file(path)
         if NAME.fullmatch(entry) is None or entry in files:
             why = "it is given twice" if entry in files else "no classes*.dex"
-            raise CliError(f"{escaped(path)}: {why}: FILE has the name of what it replaces", USAGE)
+            raise CliError(f"{escaped(path)}: {why}: name it as the entry that it replaces, as in classes.dex", USAGE)
         files[entry] = fix_checksums(data, escaped(path)) if args.close else data
         run_or_fail("check", data=files[entry], name=escaped(path))
     lines = [] if args.quiet else drop_lines(args.archive, files)

@@ -1,7 +1,7 @@
 """Checks many files, and reports as text, JSON, SARIF, GitHub annotations or JUnit.
 
-usage: dexasm-check [--lint] [--explain] [--quiet] [--allow-empty] [--color auto|always|never] [--jobs N] [--seconds N]
-                    [--memory SIZE] PATH..
+usage: dexasm-check [--lint] [--explain] [--quiet] [--allow-empty] [--exclude GLOB].. [--baseline FILE]
+                    [--color auto|always|never] [--jobs N] [--seconds N] [--memory SIZE] [--paths-from FILE] PATH..
        dexasm-check --json [--program] [--lint] [--quiet] [..] PATH..
        dexasm-check --sarif|--github|--junit [--lint] [--quiet] [..] PATH..
 
@@ -10,8 +10,8 @@ are read as .dex files, those named *.apk, *.jar, *.zip, *.aar, *.aab and *.apks
 their first bytes. Archives in an archive are checked too, one deep. Of a folder it is each file below that has such a
 name, or begins as a .dex file, an archive or a listing (`dex 035`) does; a file that looks like a listing but for its
 first line has a line. A link there isn't followed: each has a line, and so have pipes and devices; it is an error where
-something could pass unseen (what it leads to has such a name, begins so or is a folder, and lies elsewhere). `-` reads
-paths from standard input, each with a NUL after it. There is a line for each, in the order of the paths:
+something could pass unseen (what it leads to has such a name, begins so or is a folder, and lies elsewhere). `-` is
+standard input. There is a line for each, in the order of the paths:
 
   a.dex: ok
   a.dex:0x0c: error: 9 Signature: the SHA-1 differs
@@ -20,11 +20,15 @@ paths from standard input, each with a NUL after it. There is a line for each, i
   x.txt:12:8: error: 102 Number: v16: v0 to v15 here; move/from16 or move/16 takes more
 
 The place follows the name: the byte of a file, or line and column of a listing, or the number of the class if no line
-is known. A file that can't be read has such a line too, and the others are checked; so has a file that begins as
-something else, with an archive behind that. An archive without a *.dex is accepted, unless it is called *.apk. If
-nothing was checked, a line on standard error says so and the status is 3.
+is known. A file that can't be read has such a line too, and the others are checked; so has a file to which an archive
+is appended. An archive without a *.dex is accepted, unless it is called *.apk. If nothing was checked, a line on
+standard error says so and the status is 3.
 
   --allow-empty  accepts that
+  --paths-from FILE  reads paths from FILE too, from standard input if it is `-`, each with a NUL after it
+  --exclude GLOB  leaves out files that GLOB matches, with a line that says so: by their name or a folder's above them,
+             or by the whole path if GLOB has a slash
+  --baseline FILE  accepts what is in FILE, as an earlier run with --json printed it: the same fault at the same place
   --lint     of what dexasm accepts, what a device would still refuse: each place where it breaks a rule of dexasm-lint
              (with its --code, whose manual has them) is such a line, and where none does it is `ok`:
              x.txt:9:12: error: v3 holds 0.., and .. (register-kind, B1)
@@ -34,10 +38,12 @@ nothing was checked, a line on standard error says so and the status is 3.
   --json     a line of JSON for each: file, uri, kind (dex, listing, archive), status, number, name, place, line,
              column, class, member, instruction, sentence, why, program, dexasm; what isn't known is null. The status is
              ok, refused, empty (an archive without a *.dex), skipped (a link or no file, or an archive two deep, which
-             is accepted), failed (it can't be read), time, memory or killed. dexasm has version, build (proved, quick
+             is accepted), failed (it can't be read), time, memory, killed or known (by --baseline). dexasm has version, build (proved, quick
              or unknown) and sha256 of what answers. With --lint also address, register, rule and page, and the status
              broken
-  --program  has program say the SHA-256 of the stripped bytes: equal where two files are one program
+  --program  has program say the SHA-256 of the stripped bytes: equal where two files are one program; and annotations
+             and debug_methods, how many annotations of each visibility and how many methods with debug information the
+             file has beside that
   --sarif    one document of SARIF 2.1.0, which has what isn't accepted (also archives that can't be read), as notes
              what was skipped or can't be read, and dexasm as above
   --github   what isn't accepted, and what was skipped, as commands of a workflow of GitHub, which shows it at the file
@@ -60,7 +66,9 @@ import os
 import sys
 
 from dexasm.cli.core import core_build
-from dexasm.cli.errors import FAILED, CliError
+from dexasm.cli.discovery import excluding, read_paths
+from dexasm.cli.errors import FAILED, MEMORY, CliError
+from dexasm.cli.faults import PAGE, page_path
 from dexasm.cli.main import Version, byte_count, command, positive_number, print_error, seconds
 from dexasm.cli.reporters import ACCEPTED, GitHub, JUnit, Json, Sarif, Text, exit_status, is_of_member
 from dexasm.cli.scheduler import check_all, find_inputs
@@ -69,6 +77,8 @@ from dexasm.cli.terminal import StatusLine, is_colored
 TYPE_CHECKING = False  # (as in typing)
 if TYPE_CHECKING:
     from argparse import Namespace
+    from collections.abc import Callable
+    from typing import IO
 
     from dexasm.cli.main import Parser
     from dexasm.cli.scheduler import Verdict
@@ -111,7 +121,7 @@ class Progress:
         self.form, self.is_quiet, self.count = form, is_quiet, count
         self.status = self.done = self.bad = 0
         self.has_checked = False  # at anything
-        self.last: tuple[bytes, str] | None = None
+        self.last: tuple[bytes, str] | None = None  # path and entry
         self.line = StatusLine()
 
     def wait(self) -> None:
@@ -121,8 +131,10 @@ class Progress:
 
     def add(self, verdict: Verdict) -> None:
         is_bad, file = verdict.status not in ACCEPTED, (verdict.path, verdict.entry)
+        if self.last is None or verdict.path != self.last[0]:
+            self.done += 1  # (an archive counts once, with all that is in it)
         if not is_of_member(verdict) or file != self.last:
-            self.done, self.bad = self.done + 1, self.bad + is_bad
+            self.bad += is_bad
         self.last = file
         self.status = max(self.status, exit_status(verdict))
         self.has_checked = self.has_checked or verdict.status != "skipped"
@@ -154,6 +166,32 @@ class Build(Version):
         return f"{super().text(prog)}\n{core_build()}"
 
 
+def acceptance(baseline: str | None) -> Callable[[Verdict], Verdict]:
+    """A function that returns a verdict, as accepted if it is in this file."""
+    if baseline is None:
+        return lambda verdict: verdict
+    from dexasm.cli.baseline import read_baseline, without_known
+
+    known = read_baseline(baseline)
+    return lambda verdict: without_known(verdict, known)
+
+
+def spooled_input(most: int) -> IO[bytes]:
+    """Standard input as a file without a name, which workers can read."""
+    import tempfile
+
+    if sys.stdin is None:
+        raise CliError("standard input: it is closed")
+    file = tempfile.TemporaryFile()
+    source = sys.stdin.buffer
+    while file.tell() <= most and (data := source.read1(1 << 20)):  # type: ignore[attr-defined]
+        file.write(data)
+    if file.tell() > most:
+        raise CliError("standard input: it is longer than --memory", MEMORY)
+    file.flush()
+    return file
+
+
 def parse_args(parser: Parser) -> Namespace:
     form = parser.add_mutually_exclusive_group()
     for name in FORMS:
@@ -168,8 +206,15 @@ def parse_args(parser: Parser) -> Namespace:
     parser.add_argument("--seconds", type=seconds, default=60)
     parser.add_argument("--memory", type=byte_count, default=2 << 30)
     parser.add_argument("--version", action=Build)
-    parser.add_argument("paths", nargs="+", metavar="PATH")
+    parser.add_argument("--paths-from", metavar="FILE")
+    parser.add_argument("--exclude", action="append", default=[])
+    parser.add_argument("--baseline", metavar="FILE")
+    parser.add_argument("paths", nargs="*", metavar="PATH")
     args = parser.parse_args()
+    if not args.paths and args.paths_from is None:
+        parser.error("the following arguments are required: PATH")
+    if [*args.paths, args.paths_from].count("-") > 1:
+        parser.error("- is standard input, which is read once")
     if args.program and args.form != "json":
         parser.error("--program is for --json")
     if args.explain and args.form is not None:
@@ -180,23 +225,33 @@ def parse_args(parser: Parser) -> Namespace:
 def form_of(args: Namespace) -> Text:
     if args.form is None:
         return (ExplainedText if args.explain else Text)(is_colored(args.color))
-    return Json(args.lint) if args.form == "json" else FORMS[args.form]()
+    return Json(args.lint, args.program) if args.form == "json" else FORMS[args.form]()
 
 
 @command(unread=FAILED)
 def main(parser: Parser) -> int:
     args = parse_args(parser)
     form = form_of(args)
-    found = [*find_inputs(args.paths)]
+    accepted = acceptance(args.baseline)
+    stdin = spooled_input(args.memory) if "-" in args.paths else None
+    name = os.fsencode(f"/proc/{os.getpid()}/fd/{stdin.fileno()}") if stdin else b"-"
+    paths = [name if path == "-" else os.fsencode(path) for path in args.paths]
+    paths += read_paths(args.paths_from) if args.paths_from else ()
+    found = [*find_inputs(paths, excluding(args.exclude))]
     if form.has_build or os.environ.get("DEXASM") == "proved":
         form.build = core_build()
     progress = Progress(form, args.quiet, len(found))
     try:
         for verdict in check_all(found, args, progress.wait):
-            progress.add(verdict)
+            named = verdict._replace(path=b"-") if verdict.path == name else verdict
+            progress.add(accepted(named))
     finally:
         progress.line.draw()
-    return progress.end(args.allow_empty)
+    status = progress.end(args.allow_empty)
+    if progress.bad and args.form is None and not args.quiet and sys.stdout.isatty():
+        sys.stdout.flush()
+        print_error(f"dexasm-check: {page_path() or PAGE} has what each number means; --explain prints more")
+    return status
 
 
 if __name__ == "__main__":

@@ -7,7 +7,7 @@ A and B are .dex files or listings, or archives, of which all classes*.dex are o
 of them alone. Debug information and annotations are no part of a program. A class or a member that
 only one of them has is shown whole, one that both have by the lines that differ, with three lines around each change.
 Labels are numbered one after the other in each code, so that an instruction more or less changes no line but its own.
-With --names each class and member is one line: `-` only in A, `+` only in B, `!` in both, and otherwise. Colours are
+With --names each class and member is one line: `-` only in A, `+` only in B, `!` in both, but different. Colours are
 shown on a terminal, if NO_COLOR isn't set. A last line says if classes are in another order.
 
 With --json each of these is a line of JSON: class, member (null: the class, or its lines before the members), change
@@ -218,7 +218,7 @@ def main(parser: Parser) -> int:
     parser.add_argument("paths", nargs="+")
     args = parser.parse_args()
     if len(args.paths) != (1 if args.textconv else 2):
-        parser.error("--textconv takes a FILE, and otherwise there are A and B")
+        parser.error("two files are needed, A and B (with --textconv one, FILE)")
     if args.textconv:
         return textconv(args.paths[0])
     a, b = args.paths

@@ -7,8 +7,9 @@ import stat
 import sys
 from collections.abc import Callable, Iterator
 
-from dexasm.cli.errors import CliError
+from dexasm.cli.errors import CliError, reason
 from dexasm.cli.filetypes import ARCHIVES_BEGIN, DEX, is_archive_name, is_dex_name
+from dexasm.cli.sanitize import escaped
 
 # A listing by its first line, or without it by the next one; comments, blank lines and a byte order mark may precede.
 LISTING = re.compile(
@@ -23,17 +24,49 @@ OnOther = Callable[[bytes, bytes], None]
 def expand_paths(words: list[str]) -> Iterator[bytes]:
     """The paths that were named; `-` for those on standard input, each with a NUL after it."""
     for word in words:
-        if word != "-":
-            yield os.fsencode(word)
-            continue
+        yield from (os.fsencode(word),) if word != "-" else read_paths(word)
+
+
+def read_paths(path: str) -> Iterator[bytes]:
+    """The paths in a file, or on standard input if it is `-`, each with a NUL after it."""
+    if path == "-":
         if sys.stdin is None:
             raise CliError("standard input: it is closed")
-        rest = b""
-        while more := sys.stdin.buffer.read1(1 << 16):  # type: ignore[attr-defined]
-            *paths, rest = (rest + more).split(b"\0")
-            yield from filter(None, paths)
-        if rest:
-            yield rest
+        yield from split_paths(sys.stdin.buffer.read1)  # type: ignore[attr-defined]
+        return
+    try:
+        with open(path, "rb") as file:
+            yield from split_paths(file.read1)
+    except OSError as error:
+        raise CliError(f"{escaped(path)}: {reason(error)}") from None
+
+
+def split_paths(read: Callable[[int], bytes]) -> Iterator[bytes]:
+    rest = b""
+    while more := read(1 << 16):
+        *paths, rest = (rest + more).split(b"\0")
+        yield from filter(None, paths)
+    if rest:
+        yield rest
+
+
+def excluding(patterns: list[str]) -> Callable[[bytes], str | None]:
+    """A function that returns which of these patterns a path matches. A pattern without a slash is that of a name, of
+    the file or of a folder above it; one with a slash that of a whole path, or of its first folders.
+    """
+    import fnmatch
+
+    rows = [(re.compile(fnmatch.translate(one.removeprefix("./").strip("/"))), one) for one in patterns]
+    names = [row for row in rows if "/" not in row[1].strip("/")]
+    wholes = [row for row in rows if row not in names]
+
+    def excluded_by(path: bytes) -> str | None:
+        parts = [part for part in os.fsdecode(path).split("/") if part not in ("", ".")]
+        fronts = ("/".join(parts[: count + 1]) for count in range(len(parts)))
+        found = (text for row, text in names for part in parts if row.match(part))
+        return next(found, None) or next((text for front in fronts for row, text in wholes if row.match(front)), None)
+
+    return excluded_by
 
 
 def walk(path: bytes, wrong: OnError, other: OnOther | None = None) -> Iterator[tuple[bytes, bool, int]]:

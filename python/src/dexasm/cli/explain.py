@@ -12,8 +12,9 @@ are printed as they are, but for what a terminal would obey. FILE may be an arch
 2>&1 | dexasm-explain app.apk`: each line then names one of its .dex files.
 
 With --json it prints a line of JSON for each refusal, and nothing else: `number`, `name`, `place`; `sentence` and
-`place_is`, as the pages have them; `found`, lines of what is there; `hints`; and `line`, `column`, `class`,
-`member`, `instruction` (its number in its code, from 0) and `word` where they are known, else null.
+`place_is`, as the pages have them; `found`, lines of what is there; `hints`; `page`, the section of docs/ERRORS.md; and
+`line`, `column`, `class`, `member`, `instruction` (its number in its code, from 0) and `word` where they are known,
+else null.
 
 Exit status: 0 done, 2 wrong words, 3 something can't be read or written.
 """
@@ -21,14 +22,12 @@ from __future__ import annotations
 
 import json
 import re
-import struct
 import sys
-import zlib
 
-from dexasm.checksums import signature_of, signature_origin
 from dexasm.cli.core import REFUSAL, run_job
 from dexasm.cli.errors import CliError
-from dexasm.cli.faults import OF_CLASSES, OF_COUNTS, OF_LINES, REMEDIES, SENTENCES
+from dexasm.cli.faults import OF_CLASSES, OF_COUNTS, OF_LINES, PAGE, REMEDIES, SENTENCES, page_path, section
+from dexasm.cli.file_hints import file_hints
 from dexasm.cli.filetypes import DEX
 from dexasm.cli.inputs import Input, read_inputs, split_entry
 from dexasm.cli.io import display_name, read_file
@@ -50,15 +49,6 @@ AROUND = 16  # bytes a row
 OF_ROWS, OF_CODES = range(40, 50), range(60, 80)  # faults whose place is a class row's, or in a code
 # Faults of names: the table, and which characters are of the name's form too.
 OF_NAMES = {24: ("type", "[/;"), 31: ("field", ""), 34: ("method", "")}
-LISTED = b"dex 035"
-HEADS = (
-    (b"PK", "it is a zip archive (an .apk or a .jar): dexasm-apk looks at the .dex files in it"),
-    (b"dey\n", "it is an .odex file, which an old Android made on the device: the .dex file has to be taken out of it"),
-    (b"cdex", "it is a compact .dex file, which Android made on the device"),
-    (b"\x7fELF", "it is an ELF file (an .oat, .odex or .so): the .dex file has to be taken out of it"),
-    (b"\xca\xfe\xba\xbe", "it is a Java class file: d8 or dx makes a .dex file of it"),
-    (LISTED, "it is a listing: dexasm assemble makes a .dex file of it"),
-)
 
 
 def bytes_at(data: bytes, place: int) -> Iterator[str]:
@@ -75,28 +65,6 @@ def bytes_at(data: bytes, place: int) -> Iterator[str]:
 
 
 # ---- files
-
-
-def file_hints(number: int, data: bytes) -> Iterator[str]:
-    """What is often the reason why these bytes are refused by this number."""
-    if number in (1, 2):
-        yield from (hint for head, hint in HEADS if data.startswith(head))
-        if not data:
-            yield "the file is empty"
-        elif number == 1 and all(byte in b"\t\n\r" or 0x20 <= byte < 0x7F for byte in data):
-            yield "it is a text"
-    elif number == 3:
-        version = escaped(data[4:7])
-        yield f"its version is {version}" + (", made for a newer Android" if b"036" < data[4:7] < b"100" else "")
-        yield "where you make it, ask for version 035: d8 --min-api 23, or smali assemble --api 23"
-    elif number == 4 and len(data) >= 36:
-        yield f"file_size is {struct.unpack_from('<I', data, 32)[0]}, and the file has {len(data)} bytes"
-    elif number == 8 and len(data) >= 32:
-        is_there = struct.unpack_from("<I", data, 8)[0]
-        yield f"it is {is_there:08x}, and that of the bytes is {zlib.adler32(data[12:]):08x}"
-    elif number == 9 and len(data) >= 32:
-        yield f"it is {data[12:32].hex()}, and that of the bytes is {signature_of(data).hex()}"
-        yield f"{signature_origin(data)}: `dexasm-close` computes both sums anew"
 
 
 # What a SimpleName of version 035 is made of (docs/FORMAT.md), and what version 040 added.
@@ -143,6 +111,7 @@ class Explanation:
 
     def __init__(self, number: int, name: str, place: int, row: Row) -> None:
         self.number, self.name, self.place = number, name, place
+        self.page = (page_path() or PAGE) + section(number, row[0])
         _, self.sentence, self.place_is = row
         self.line = self.column = self.class_ = self.member = self.insn = self.word = None
         self.found, self.hints = [], []
@@ -249,6 +218,7 @@ class Explanation:
         if self.class_ and self.number not in (*OF_COUNTS, *OF_CLASSES) or self.member:
             yield f"  In {self.class_}{f'->{self.member}' if self.member else ''}."
         yield from (f"  Hint: {hint}." for hint in self.hints)
+        yield f"  More: {self.page}"
 
     def json(self) -> dict[str, Any]:
         return {
@@ -259,6 +229,7 @@ class Explanation:
             "place_is": self.place_is,
             "found": self.found,
             "hints": self.hints,
+            "page": self.page,
             "line": self.line,
             "column": self.column,
             "class": self.class_,
@@ -325,6 +296,8 @@ def main(parser: Parser) -> int:
     parser.add_argument("--json", action="store_true")
     parser.add_argument("file", nargs="?")
     args = parser.parse_args()
+    if args.file == "-":
+        parser.error("- is standard input, which has the refusals")
     inputs = inputs_with_archive(args.file)
     if sys.stdin is None:
         raise CliError("standard input: it is closed")

@@ -1,6 +1,8 @@
 """What docs/FORMAT.md and docs/LISTING.md say of each fault: its name, a sentence, and what its place is."""
 from __future__ import annotations
 
+import os
+
 from dexasm.cli.fault_table import FAULTS
 
 # Faults whose place is a line, how many are needed, a class of a program.
@@ -24,6 +26,22 @@ STANDALONE = {
     102: "a word isn't what stands at its place in this line: a number of its range, a register, bits, bytes or, in "
     "the first form, a target",
 }
+
+
+# The page that has a section for each fault: in a checkout, and in a package.
+PAGE = "docs/ERRORS.md"
+_ABOVE = os.path.dirname(os.path.dirname(os.path.dirname(os.path.dirname(os.path.abspath(__file__)))))
+_PLACES = os.path.join(_ABOVE, "..", PAGE), os.path.join(_ABOVE, "../../share/doc/dexasm", PAGE)
+
+
+def page_path() -> str | None:
+    """Where the page is on this machine."""
+    return next(map(os.path.normpath, filter(os.path.isfile, _PLACES)), None)
+
+
+def section(number: int, name: str) -> str:
+    """The section of a fault, after the page."""
+    return f"#{number}-{name.lower()}"
 
 
 # Of each number its name, the sentence of its row, and what its place is.

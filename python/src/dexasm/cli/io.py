@@ -7,21 +7,33 @@ from dexasm.cli.errors import CliError, reason
 from dexasm.cli.sanitize import escaped
 
 
+STDIN = (None, "-", b"-")  # paths that are standard input
+_stdin_read = False
+
+
+def read_stdin() -> bytes:
+    global _stdin_read
+    if sys.stdin is None:
+        raise CliError("standard input: it is closed")
+    if _stdin_read:
+        raise CliError("standard input can only be read once")
+    _stdin_read = True
+    return sys.stdin.buffer.read()
+
+
 def read_file(path: str | bytes | None) -> bytes:
-    """The bytes of a file, or of standard input where there is no path."""
+    """The bytes of a file, or of standard input where there is no path or it is `-`."""
     try:
-        if path is None:
-            if sys.stdin is None:
-                raise CliError("standard input: it is closed")
-            return sys.stdin.buffer.read()
-        with open(path, "rb") as file:
+        if path in STDIN:
+            return read_stdin()
+        with open(path, "rb") as file:  # type: ignore[arg-type]  # (None is in STDIN)
             return file.read()
     except (OSError, ValueError) as error:
         raise CliError(f"{display_name(path)}: {reason(error) if isinstance(error, OSError) else error}") from None
 
 
 def display_name(path: str | bytes | None) -> str:
-    return "standard input" if path is None else escaped(path)
+    return "standard input" if path in STDIN else escaped(path or "")
 
 
 def write_file(path: str | bytes, data: bytes, through: bool = True, name: str | None = None) -> None:

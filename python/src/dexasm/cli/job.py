@@ -130,10 +130,9 @@ def check_bytes(data: bytes, kind: str | None, is_hashed: bool) -> tuple[bytes |
             dex = data
     except dexasm.Refused as refused:
         fault = {"number": refused.number, "name": refused.name, "place": refused.place}
-        return None, verdict_fields(
-            kind, "refused", **fault, **(listing_location(data, refused) if kind == "listing" else {})
-        )
-    return dex, verdict_fields(kind, "ok", program=program_hash(dex) if is_hashed else None)
+        known = listing_location(data, refused) if kind == "listing" else file_summary(refused.number, data)
+        return None, verdict_fields(kind, "refused", **fault, **known)
+    return dex, verdict_fields(kind, "ok", **(program_fields(dex) if is_hashed else {"program": None}))
 
 
 def lint_findings(data: bytes, dex: bytes, is_text: bool) -> Iterator[dict[str, object]]:
@@ -156,6 +155,13 @@ def unreadable(why: str, kind: str | None = None) -> dict[str, object]:
     return verdict_fields(kind, "failed", why=why)
 
 
+def program_fields(dex: bytes) -> dict[str, object]:
+    """What is known of an accepted file's program, and what the file has beside it."""
+    from dexasm.analysis.extras import extras_of
+
+    return {"program": program_hash(dex), "extras": extras_of(dex)._asdict()}
+
+
 def program_hash(data: bytes) -> str | None:
     """The SHA-256 of the stripped bytes. A few accepted files can't be stripped (89, 90), and have none."""
     import hashlib
@@ -166,6 +172,13 @@ def program_hash(data: bytes) -> str | None:
         return hashlib.sha256(dexasm.strip(data)).hexdigest()
     except dexasm.Refused:
         return None
+
+
+def file_summary(number: int, data: bytes) -> dict[str, object]:
+    """What a refused file is, as far as its bytes say it."""
+    from dexasm.cli.file_hints import IN_SUMMARY, summary
+
+    return {"why": summary(number, data)} if number in IN_SUMMARY else {}
 
 
 def listing_location(data: bytes, refused: Any) -> dict[str, object]:

@@ -1,4 +1,4 @@
-"""Says where a program breaks a rule that Android's verifier has and dexasm doesn't ask.
+"""Checks rules of Android's verifiers that `dexasm check` does not test.
 
 usage: dexasm-lint [--code [--skip-boot] [--jobs N] [--seconds N]] [--allow-empty] [--json|--sarif] [FILE..]
 
@@ -26,6 +26,7 @@ file in which none is broken is `FILE: ok`. The rules:
   value-type  a static field's value is of another type
   value-kind  a static field's value is an enum, a field, a method or an array
   outs-size  outs are more than 5 and more than registers
+  superclass-missing  a class other than java.lang.Object has no superclass
 
 They are those of ART 14 for version 035, which docs/VERIFIERS.md lists with all else that it asks.
 
@@ -126,7 +127,7 @@ class Lines(Text):
     """Lines for people: of a rule of files the class or member, of one of code the place."""
 
     def lines(self, verdict: Verdict) -> list[str]:
-        name = display_name(None if verdict.path == b"-" else verdict.path)
+        name = display_name(verdict.path)
         name += f"!{escaped(verdict.entry)}" if verdict.entry else ""
         if verdict.status == "ok":
             return [f"{name}: ok"]
@@ -151,9 +152,9 @@ class LintSarif(Sarif):
 FORMS: dict[str, type[Text]] = {"json": LintJson, "sarif": LintSarif}
 
 
-def check_file(path: str | None, args: Namespace) -> Iterator[Verdict]:
+def check_file(path: str, args: Namespace) -> Iterator[Verdict]:
     """What is known of one file."""
-    file = os.fsencode(split_entry(path)[0] or path or "-")
+    file = os.fsencode(split_entry(path)[0] or path)
     for source in read_inputs(path, is_empty_allowed=args.allow_empty):
         is_ok = True
         for verdict in check_input(file, source, args):
@@ -198,7 +199,7 @@ def main(parser: Parser) -> int:
     args = parse_args(parser)
     form = FORMS[args.form]() if args.form else Lines()
     status = 0
-    for path in [None if file == "-" else file for file in args.files or "-"]:
+    for path in args.files or "-":
         try:
             for verdict in check_file(path, args):
                 status = max(status, exit_status(verdict))
@@ -208,7 +209,7 @@ def main(parser: Parser) -> int:
             print_error(f"{parser.prog}: {failed.line}")
             status = max(status, failed.status)
             end = ENDS.get(failed.status, "failed")
-            form.print(form.lines(Verdict(os.fsencode(path or "-"), "", None, end, why=failed.line)))
+            form.print(form.lines(Verdict(os.fsencode(path), "", None, end, why=failed.line)))
     form.print(form.end(status))
     return status
 

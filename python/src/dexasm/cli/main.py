@@ -25,6 +25,7 @@ if TYPE_CHECKING:
 UNITS = {"K": 1 << 10, "M": 1 << 20, "G": 1 << 30}
 # By module what declares the words of a helper and runs it: tools/generate makes completions of the former.
 declarations: dict[str, Callable[[Parser], int]] = {}
+SHORT = {"--output": "-o", "--quiet": "-q", "--version": "-V"}  # options, as the command has them
 
 
 class UsageError(CliError):
@@ -51,7 +52,9 @@ class Version(argparse.Action):
 
 
 class Parser(argparse.ArgumentParser):
-    """A helper's words, by its manual: --help prints it, and its usage is told where the words are wrong."""
+    """A helper's words, by its manual: --help prints it, and its usage is told where the words are wrong. An option is
+    given once, and has a short form if the command's has one.
+    """
 
     def __init__(self, program: ModuleType) -> None:
         self.program, self.doc = program, docstring(program).strip() + "\n"
@@ -61,8 +64,20 @@ class Parser(argparse.ArgumentParser):
         named: dict[str, Any] = {"prog": self.usage_text.split()[1], "usage": "%(prog)s"}
         # (of a word that is added twice the second one counts)
         settings: dict[str, Any] = {"allow_abbrev": False, "conflict_handler": "resolve"}
+        self.seen = set[argparse.Action]()
         super().__init__(**named, **settings, formatter_class=formatter)
         self.add_argument("--version", action=Version)
+
+    def add_argument(self, *names: Any, **options: Any) -> argparse.Action:
+        shorts = [SHORT[name] for name in names if SHORT.get(name, name) not in names]
+        return super().add_argument(*names, *shorts, **options)
+
+    def _get_values(self, action: argparse.Action, words: list[str]) -> Any:
+        """The values of an argument, which argparse asks for at each time that it is given."""
+        if action in self.seen and action.option_strings and not isinstance(action.default, list):
+            raise argparse.ArgumentError(action, "cannot be used multiple times")
+        self.seen.add(action)
+        return super()._get_values(action, words)
 
     def format_help(self) -> str:
         return self.doc
@@ -71,7 +86,24 @@ class Parser(argparse.ArgumentParser):
         print(self.doc, end="")  # (argparse passes over what can't be written)
 
     def error(self, message: str) -> NoReturn:
-        raise UsageError(f"{self.usage_text}\n{self.prog}: {escaped(message)}", USAGE)
+        raise UsageError(f"{self.usage_text}\n{self.prog}: {escaped(message)}{self.tip()}", USAGE)
+
+    def tip(self) -> str:
+        """A line that names the option that an unknown one is near to."""
+        import difflib
+        import itertools
+
+        known = self.known_options()
+        given = (word.partition("=")[0] for word in itertools.takewhile(lambda word: word != "--", sys.argv[1:]))
+        unknown = [word for word in given if word.startswith("--") and word not in known]
+        near = [found for word in unknown for found in difflib.get_close_matches(word, known, 1)]
+        return f"\n  tip: a similar argument exists: '{near[0]}'" if near else ""
+
+    def known_options(self) -> list[str]:
+        """The options, with those of subcommands."""
+        found = [name for action in self._actions for name in action.option_strings]
+        jobs = [action.choices for action in self._actions if isinstance(action, argparse._SubParsersAction)]
+        return found + [name for parsers in jobs for one in parsers.values() for name in one.known_options()]
 
 
 def byte_count(word: str) -> int:

@@ -114,7 +114,7 @@ def main(parser: Parser) -> int:
     pairs = [(old, new) for old, is_pair, new in (one.partition("=") for one in args.names) if is_pair]
     if len(pairs) < len(args.names) or args.mapping is None and not pairs:
         parser.error("names are given as OLD=NEW")
-    source = read_input(None if args.file == "-" else args.file)
+    source = read_input(args.file)
     program = read_program(as_dex(source.data, source.name), source.name)
     names = requested_names(program, args, pairs)
     print_warnings(program, names)

@@ -6,11 +6,12 @@ continuous integration would, which reads each of them, stands in no line that `
 """
 from __future__ import annotations
 
+import os
 import re
 from typing import TYPE_CHECKING, Any
 
 from dexasm.cli.errors import FAILED, MEMORY, REFUSED
-from dexasm.cli.faults import OF_CLASSES, OF_COUNTS, SENTENCES
+from dexasm.cli.faults import OF_CLASSES, OF_COUNTS, PAGE, SENTENCES, page_path, section
 from dexasm.cli.sanitize import JSON, TEXT, XML, escaped, without_commands
 from dexasm.cli.scheduler import Verdict
 
@@ -18,8 +19,8 @@ if TYPE_CHECKING:
     from dexasm._native import Build
 
 # (what isn't here couldn't be looked at)
-STATUSES = {"ok": 0, "empty": 0, "skipped": 0, "refused": REFUSED, "broken": REFUSED, "memory": MEMORY}
-ACCEPTED = ("ok", "empty", "skipped")
+STATUSES = {"ok": 0, "empty": 0, "skipped": 0, "known": 0, "refused": REFUSED, "broken": REFUSED, "memory": MEMORY}
+ACCEPTED = ("ok", "empty", "skipped", "known")
 CHECKED = ("ok", "empty")  # and accepted
 NOWHERE = (90, 255)  # whose place is none
 OK, BAD, PLAIN = "\x1b[32m", "\x1b[1;31m", "\x1b[0m"
@@ -123,13 +124,15 @@ class Text:
         name = escaped(name_of(verdict))
         if verdict.status == "ok":
             return [f"{name}: {self.ok}ok{self.plain}"]
-        if verdict.status in ACCEPTED:
+        is_known = verdict.status == "known"
+        if verdict.status in ACCEPTED and not is_known:
             return [f"{name}: {self.ok}{verdict.why}{self.plain}"]
+        error = f"{self.ok}known:{self.plain}" if is_known else f"{self.bad}error:{self.plain}"
         if is_of_member(verdict):
             from dexasm.analysis.verifier.report import format_line
 
-            return [format_line(name, verdict, f"{self.bad}error:{self.plain}")]
-        return [f"{name}{place_of(verdict)}: {self.bad}error:{self.plain} {message_of(verdict)}"]
+            return [format_line(name, verdict, error)]
+        return [f"{name}{place_of(verdict)}: {error} {message_of(verdict)}"]
 
     def nothing(self, why: str) -> list[str]:
         """What is told where nothing was looked at, beside the line on standard error."""
@@ -154,9 +157,10 @@ class Json(Text):
     has_build = True
     fields: tuple[str, ...] = ("number", "name", "place", "line", "column", "class_", "member", "instruction")
 
-    def __init__(self, is_linted: bool = False) -> None:
+    def __init__(self, is_linted: bool = False, is_counted: bool = False) -> None:
         super().__init__()
         self.fields += ("address", "register", "rule", "page") if is_linted else ()
+        self.is_counted = is_counted
 
     def lines(self, verdict: Verdict) -> list[str]:
         import json
@@ -171,14 +175,23 @@ class Json(Text):
         return {} if self.build is None else {"dexasm": self.build._asdict()}
 
     def extra_fields(self, verdict: Verdict) -> dict[str, Any]:
-        return {"sentence": sentence_of(verdict), "why": verdict.why, "program": verdict.program}
+        fields = {"sentence": sentence_of(verdict), "why": verdict.why, "program": verdict.program}
+        return fields | (counted_fields(verdict.extras) if self.is_counted else {})
+
+
+def counted_fields(extras: dict[str, int] | None) -> dict[str, Any]:
+    """What a file has that its program hasn't, as dexasm-info has it."""
+    if extras is None:
+        return {"annotations": None, "debug_methods": None}
+    counts = dict(extras)
+    return {"debug_methods": counts.pop("debug"), "annotations": counts}
 
 
 class GitHub(Text):
     """A command of GitHub's workflows for each that isn't accepted, and for each that was skipped."""
 
     def lines(self, verdict: Verdict) -> list[str]:
-        if verdict.status in CHECKED:
+        if verdict.status in (*CHECKED, "known"):
             return []
         words = {"file": bare(verdict.path).decode("utf8", "surrogateescape")}
         if not verdict.entry and verdict.line is not None:
@@ -279,6 +292,8 @@ class Sarif(Text):
         level = "note" if verdict.status in ACCEPTED else "error"
         result = {"level": level, "message": {"text": prefix + message_of(verdict)}, "locations": [location(verdict)]}
         rule = verdict.rule if verdict.number is None else str(verdict.number)
+        if verdict.status == "known":
+            result["suppressions"] = [{"kind": "external", "justification": "--baseline"}]
         if rule is None:
             self.notes.append({"descriptor": {"id": verdict.status}, **result})
         if rule is None and level == "error" and (verdict.kind == "archive" or verdict.entry):
@@ -309,7 +324,7 @@ class Sarif(Text):
         for rule in self.rules:
             name, sentence = self.rule_text(rule)
             more: dict[str, Any] = {"shortDescription": {"text": sentence}} if sentence else {}
-            rules.append({"id": rule, "name": name, **more})
+            rules.append({"id": rule, "name": name, **more, **help_of(rule, name)})
         driver: dict[str, Any] = {"name": self.tool, "rules": rules}
         if self.build is not None:
             driver |= {"version": self.build.version, "properties": {"dexasm": self.build._asdict()}}
@@ -326,6 +341,15 @@ class Sarif(Text):
             "results": self.results,
         }
         return [json.dumps({"$schema": SCHEMA, "version": "2.1.0", "runs": [run]}, indent=1)]
+
+
+def help_of(rule: str, name: str) -> dict[str, Any]:
+    """The section of the page on faults, for SARIF: as a URI if the page is here."""
+    if not rule.isdecimal():
+        return {}
+    part, path = section(int(rule), name), page_path()
+    uri = {} if path is None else {"helpUri": uri_of(os.fsencode(path)) + part}
+    return {**uri, "help": {"text": PAGE + part}}
 
 
 def location(verdict: Verdict) -> dict[str, Any]:

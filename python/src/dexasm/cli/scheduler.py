@@ -8,10 +8,11 @@ import time
 from collections.abc import Callable, Generator, Iterable, Iterator
 from typing import Any, NamedTuple
 
-from dexasm.cli.discovery import describe_skipped, expand_paths, has_known_name, sniff, walk
+from dexasm.cli.discovery import describe_skipped, has_known_name, sniff, walk
 from dexasm.cli.errors import reason
 from dexasm.cli.filetypes import is_dex_name
 from dexasm.cli.pool import Lost, Worker, close_all, end_all
+from dexasm.cli.sanitize import escaped
 from dexasm.cli.worker import REASONS
 
 WORKERS = 8  # that may end at one archive
@@ -49,6 +50,7 @@ class Verdict(NamedTuple):
     page: str | None = None
     register: int | None = None
     address: int | None = None
+    extras: dict[str, int] | None = None  # how many annotations of each visibility, and methods with debug information
 
 
 # ---- one file
@@ -159,9 +161,12 @@ def verdicts_of(path: bytes, entry: str, result: dict[str, Any]) -> Iterator[Ver
 NO_FIRST_LINE = "looks like a listing, but does not begin with `dex 035 listing 2`: not checked"
 
 
-def find_inputs(paths_given: list[str]) -> Iterator[tuple[bytes, int] | Verdict]:
+def find_inputs(
+    paths: Iterable[bytes], excluded_by: Callable[[bytes], str | None] = lambda path: None
+) -> Iterator[tuple[bytes, int] | Verdict]:
     """The files of the paths with their sizes; of a folder those that are called as .dex files or archives are, or begin
-    as these do. What can't be read is a verdict, and so is what stands below a folder and is neither file nor folder.
+    as these do. What can't be read is a verdict, and so is what is excluded, and what stands below a folder and is
+    neither file nor folder.
     """
     verdicts: list[Verdict] = []
 
@@ -176,9 +181,13 @@ def find_inputs(paths_given: list[str]) -> Iterator[tuple[bytes, int] | Verdict]
         else:
             verdicts.append(Verdict(path, "", None, "failed" if is_wrong else "skipped", why=why))
 
-    for path in expand_paths(paths_given):
+    for path in paths:
         for file, is_named, size in walk(path, wrong, other):
             is_one = is_named or is_checked(file, wrong)
+            pattern = excluded_by(file) if is_one else None
+            if pattern is not None:
+                verdicts.append(Verdict(file, "", None, "skipped", why=f"excluded by --exclude {escaped(pattern)}"))
+                is_one = False
             if is_one is None:
                 verdicts.append(Verdict(file, "", "listing", "skipped", why=NO_FIRST_LINE))
             while verdicts:

@@ -25,9 +25,9 @@ string has its row and its item, and what is no string is one row.
 
 FILE, A and B may be archives: the rows are those of all their classes*.dex, added up by name; app.apk!classes2.dex is
 one of them alone. Of A and B each row that changed is shown, what changed most first, by names where two changed alike.
-The columns are the differences, with a sign; the bytes of the row before, in A, and after, in B; and what it did: it
-came, went, grew or shrank, or it moved, with as many bytes as before in other columns. Those that are as they were are
-one row. So the rows add up: before to A, after to B, and change to the difference of the two.
+The columns are the differences, with a sign; the bytes of the row before, in A, and after, in B; and the kind of
+change: came (added), went (removed), grew, shrank, or moved (as many bytes, in other columns). Those that are as they
+were are one row. So the rows add up: before to A, after to B, and change to the difference of the two.
 
 --sort COLUMN puts the rows in the order of that column, `name` by name; of A and B in that of its differences. --html
 OUT writes one page in place of the table, which needs nothing from the network: of FILE with a picture of the packages,

@@ -361,6 +361,8 @@ def main(parser: Parser) -> int:
     if len(args.paths) > (1 if args.join else 2):
         parser.error("too many words")
     folder = args.paths[-1]
+    if not args.join and len(args.paths) == 1 and os.path.isfile(folder):
+        parser.error(f"FOLDER is missing ({folder} is a file)")
     if args.join:
         sys.stdout.buffer.write(b"".join(join(folder)))
         sys.stdout.buffer.flush()

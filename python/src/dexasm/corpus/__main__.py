@@ -12,7 +12,7 @@ usage: dexasm-corpus add [--processes N] [--seconds N] [--memory SIZE] [--again]
 
   add        reads .dex files, and the classes*.dex of archives, and keeps what they have. In a folder these are
              the files that begin as one or are called *.dex; no link is followed there. `-` reads paths from standard
-             input, each with a NUL after it. A file that is in, by its SHA-256, gets its path and no other look.
+             input, each with a NUL after it. A known file (of the same SHA-256) only gets another path.
              Where no such file is there, a line says so and the status is 3, unless --allow-empty is given
   refused    the files that aren't accepted, by fault, and the paths that can't be read
   same       each path of a program that has several: the stripped bytes of these files are the same, and those

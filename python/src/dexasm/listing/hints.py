@@ -87,11 +87,6 @@ def _of_type(text: str) -> str | None:
     return f"{text} is {PRIMITIVES[text]}" if text in PRIMITIVES else _of_java(text, Type)
 
 
-def java_proto(text: str) -> str | None:
-    """Of a prototype as Java writes it what it is here."""
-    return _of_java(text, Proto) if len(text) <= _LONGEST and text[:1] == "(" else None
-
-
 def _of_proto(line: Line, text: str) -> str | None:
     before = line.words[1].text
     if re.fullmatch("-?(?:0x)?[0-9A-Fa-f]+", before) and line.words[3].text[:1] == "(":

@@ -11,7 +11,7 @@ from collections.abc import Iterator
 
 from dexasm.flags import CLASS_FLAGS, FIELD_FLAGS, METHOD_FLAGS
 from dexasm.formats import MNEMONICS, Format, format_of
-from dexasm.listing.hints import java_proto, of_first_word, quoted
+from dexasm.listing.hints import of_first_word, quoted
 from dexasm.listing.source import MEMBERS, PAYLOADS, VALUES, Diagnostic, Line, Listing, Word
 
 MOST_CHECKED = 4000  # characters of a line that are looked through
@@ -132,8 +132,7 @@ def _characters(bare: str, text: str) -> Iterator[tuple[int, str]]:
     yield from _texts(bare, text)
     if "," in bare:
         at = bare.index(",")
-        why = f"a comma stands at column {at + 1}: words stand between spaces, as in `add-int v0 v1 v2`"
-        yield at, java_proto(word_at(bare, at).text) or why
+        yield at, f"a comma stands at column {at + 1}: words stand between spaces, as in `add-int v0 v1 v2`"
 
 
 def _texts(bare: str, text: str) -> Iterator[tuple[int, str]]:

@@ -21,6 +21,7 @@ SENTENCES = {
     "value-type": "a static field's value is of another type",
     "value-kind": "a static field's value is an enum, a field, a method or an array",
     "outs-size": "outs are more than 5 and more than registers",
+    "superclass-missing": "a class other than java.lang.Object has no superclass",
     "register-kind": "a register holds another kind of value than the instruction takes",
     "ways-differ": "a register is read that holds one kind of value on one way and another one on "
     "another",

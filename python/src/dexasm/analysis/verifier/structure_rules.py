@@ -1,9 +1,11 @@
 """What Android's verifier of .dex files asks of a program of version 035 and dexasm doesn't: for dexasm-lint.
 
-The rules are those of ART 14 (libdexfile, dex_file_verifier.cc) that a file can break which dexasm accepts, and still
-breaks when it is stripped. What that verifier asks of later versions alone, and only warns of in 035 (members of
+The rules are those of ART 14 (libdexfile, dex_file_verifier.cc; of superclass-missing runtime/class_linker.cc) that a
+file can break which dexasm accepts, and still breaks when it is stripped. What that verifier asks of later versions alone, and only warns of in 035 (members of
 interfaces, constructors without code), is none of them."""
 from typing import TYPE_CHECKING, Iterator, NamedTuple, Optional
+
+from dexasm.analysis.verifier.lattice import OBJECT
 
 if TYPE_CHECKING:
     from dexasm.program import Program
@@ -40,6 +42,7 @@ RULES = {
     "value-type": "class_def_item",
     "value-kind": "encoded_value",
     "outs-size": "code_item",
+    "superclass-missing": "class_def_item",
 }
 PAGE = "dex-format"
 # The first word of a value in a listing, and the type of a field that it fits; reference types are L here.
@@ -86,6 +89,7 @@ class Member(NamedTuple):
 class Class(NamedTuple):
     name: str
     flags: int
+    superclass: Optional[str]
     members: "list[Member]"
 
 
@@ -111,13 +115,15 @@ def classes_of(program: "Program") -> Iterator[Class]:
             for method in methods:
                 code = Code(method.code.registers, method.code.ins, method.code.outs) if method.code else None
                 members.append(Member(kind, spelled(method.name), spelled(method.proto), method.flags, None, code))
-        yield Class(spelled(one.name), one.flags, members)
+        yield Class(spelled(one.name), one.flags, one.superclass, members)
 
 
 def violations(one: Class) -> Iterator[Violation]:
     """The rules that a class breaks, in the order of its members."""
     if one.flags & ~JAVA_FLAGS:
         yield Violation(one.name, "class-flags", f"{one.flags:#x}")
+    if one.superclass is None and one.name != OBJECT:
+        yield Violation(one.name, "superclass-missing", f"`super {OBJECT}` gives it one")
     direct = {member.key() for member in one.members if member.list == "direct"}
     for member in one.members:
         where = f"{one.name}->{member.key()}"
