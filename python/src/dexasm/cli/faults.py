@@ -36,7 +36,7 @@ _PLACES = os.path.join(_ABOVE, "..", PAGE), os.path.join(_ABOVE, "../../share/do
 
 def page_path() -> str | None:
     """Where the page is on this machine."""
-    return next(map(os.path.normpath, filter(os.path.isfile, _PLACES)), None)
+    return next((os.path.normpath(path) for path in _PLACES if os.path.isfile(path)), None)
 
 
 def section(number: int, name: str) -> str:

@@ -24,9 +24,9 @@ def read_stdin() -> bytes:
 def read_file(path: str | bytes | None) -> bytes:
     """The bytes of a file, or of standard input where there is no path or it is `-`."""
     try:
-        if path in STDIN:
+        if path is None or path in STDIN:
             return read_stdin()
-        with open(path, "rb") as file:  # type: ignore[arg-type]  # (None is in STDIN)
+        with open(path, "rb") as file:
             return file.read()
     except (OSError, ValueError) as error:
         raise CliError(f"{display_name(path)}: {reason(error) if isinstance(error, OSError) else error}") from None

@@ -304,7 +304,9 @@ def _value(line: Line, before: Word, words: list[Word]) -> Diagnostic:
             operand = next(rest, None)
             if operand is None or (operand.text[:1] == '"') != (text == "string"):
                 meant = quoted(operand.text) if operand and text == "string" else None
-                return Diagnostic(line, operand or word, meant or f"behind `{text}` stands {OPERANDS.get(text, 'a number')}")
+                return Diagnostic(
+                    line, operand or word, meant or f"behind `{text}` stands {OPERANDS.get(text, 'a number')}"
+                )
             before = operand
         elif text not in ("null", "true", "false"):
             return Diagnostic(line, word, _without_kind(text))
