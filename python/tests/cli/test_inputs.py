@@ -14,7 +14,7 @@ from .archive_files import CRC, FLAGS, archive, changed, hostile, streamed
 from .support import ESC, HEAD, Ended, HelperTest, assembled, get, has_pages, is_one_line, put, room, run, seen_in
 from .support import shell, tool
 
-A = HEAD + b'class LA; 0x1\nsuper LS;\ndirect m ()V 0x9\ncode 1 0 0\nconst-string v0 "a"\nreturn-void\nend code\nend class\n'
+A = HEAD + b'class LA; 0x1\nsuper LO;\ndirect m ()V 0x9\ncode 1 0 0\nconst-string v0 "a"\nreturn-void\nend code\nend class\n'
 B = A.replace(b"LA;", b"LB;").replace(b"direct m", b"direct n")
 CHANGED = A.replace(b'"a"', b'"b"')
 # What each helper is asked, of a FILE.
