@@ -559,7 +559,10 @@ class Check(HelperTest):
         many = head.replace(
             b"end class",
             b"end class\n"
-            + b"".join(b"class LB%d; 0x1\nstatic n I 0x9 = long 5\nend class\n" % number for number in range(3000)),
+            + b"".join(
+                b"class LB%d; 0x1\nsuper Ljava/lang/Object;\nstatic n I 0x9 = long 5\nend class\n" % number
+                for number in range(3000)
+            ),
             1,
         ).replace(b"\n\n", b"\n")
         put(at, "many.txt", many)
