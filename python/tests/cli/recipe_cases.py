@@ -8,6 +8,7 @@ from .support import ESC, HEAD, NAMES, TOP, assembled, get, put
 TEXT = (
     HEAD
     + b"""class LHello; 0x1
+super Ljava/lang/Object;
 static name Ljava/lang/String; 0x19 = string "the answer"
 direct get (Z)I 0x9
 code 2 1 0

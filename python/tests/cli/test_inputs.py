@@ -191,7 +191,8 @@ class Inputs(HelperTest):
             for name, (status, out, said) in seen.items():
                 is_fine = status == (1 if name == "diff" and status == 1 else 0)
                 is_so = is_good is None or is_fine == is_good and (is_good or bool(out + said))
-                is_safe = not re.search("Traceback|: unexpected |\x1b|##\\[|^ *::", f"{out}\n{said}", re.M)
+                shown = said if out.startswith("dex\n035\0") else f"{out}\n{said}"  # (a file on standard output is no text)
+                is_safe = not re.search("Traceback|: unexpected |\x1b|##\\[|^ *::", shown, re.M)
                 is_safe = is_safe and status != "late"
                 self.check(f"dexasm-{name} of an archive: {what}", is_so and is_safe, (status, out, said))
         left = sorted(set(os.listdir(at)) - {"a.apk", "a.dex", "cut", "pages"})
@@ -207,8 +208,8 @@ class Memory(HelperTest):
         for kilobytes in range(16500, 26000, 1500):
             for word in words:
                 status, out, said = shell(f"ulimit -v {kilobytes}; dexasm-{word}", at)
-                if status in (134, 139) or "Fatal Python error" in said or "frozen site" in said:
-                    continue  # (Python itself fails)
+                if status in (134, 139) or re.search("Fatal Python error|frozen site|field '.*' is required for", said):
+                    continue  # (Python itself fails, its compiler with a ValueError too)
                 with self.subTest(word, kilobytes=kilobytes):
                     self.assertIn(status, (0, 3, 4))
                     lines = (out + said).splitlines()

@@ -280,7 +280,7 @@ def code(proto: str, sizes: str, body: str, name: str = "m") -> str:
 
 
 def of_class(text: str, name: str = "LA;") -> str:
-    return f"dex 035 listing 2\nclass {name} 0x1\n{text}end class\n"
+    return f"dex 035 listing 2\nclass {name} 0x1\nsuper Ljava/lang/Object;\n{text}end class\n"
 
 
 def hostile() -> Iterator[tuple[str, str, int | None, str]]:
@@ -453,10 +453,10 @@ class LintCode(HelperTest):
         self.check("dexasm-lint --code, a file", seen == [f"{member} 4 (0x05):", f"{member} 5 (0x07):"], out)
         is_so = "from instruction 1) on one way" in out and "from instruction 3)" in out
         self.check("dexasm-lint --code, a file's ways", is_so, out)
-        first = b"dex 035\nclass LA; 0x1\ndirect m ()V 0x9\ncode 1 0 0\n0: nop\n1:  neg-int v0 v0\n2: return-void\n"
+        first = b"dex 035\nclass LA; 0x1\nsuper Ljava/lang/Object;\ndirect m ()V 0x9\ncode 1 0 0\n0: nop\n1:  neg-int v0 v0\n2: return-void\n"
         got = tool("dexasm-lint", "--code", "-", at=at, given=first + b"end code\nend class\n")
         self.check(
-            "dexasm-lint --code, the first form", got[0] == 1 and got[1].startswith("standard input:6:16: error: "), got
+            "dexasm-lint --code, the first form", got[0] == 1 and got[1].startswith("standard input:7:16: error: "), got
         )
 
     def test_forms(self) -> None:

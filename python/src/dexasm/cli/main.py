@@ -72,8 +72,18 @@ class Parser(argparse.ArgumentParser):
         shorts = [SHORT[name] for name in names if SHORT.get(name, name) not in names]
         return super().add_argument(*names, *shorts, **options)
 
+    def parse_intermixed_args(self, args: Any = None, namespace: Any = None) -> Any:
+        """The words behind `--` are no options: argparse forgets it where an option comes right before the `--`, so a NUL,
+        which no word of a command line has, leads each of them until its values are read.
+        """
+        words = list(sys.argv[1:] if args is None else args)
+        end = words.index("--") if "--" in words else len(words)
+        words[end:] = ["\0" + word for word in words[end + 1 :]]
+        return super().parse_intermixed_args(words, namespace)
+
     def _get_values(self, action: argparse.Action, words: list[str]) -> Any:
         """The values of an argument, which argparse asks for at each time that it is given."""
+        words = [word.removeprefix("\0") for word in words]
         if action in self.seen and action.option_strings and not isinstance(action.default, list):
             raise argparse.ArgumentError(action, "cannot be used multiple times")
         self.seen.add(action)
@@ -86,7 +96,8 @@ class Parser(argparse.ArgumentParser):
         print(self.doc, end="")  # (argparse passes over what can't be written)
 
     def error(self, message: str) -> NoReturn:
-        raise UsageError(f"{self.usage_text}\n{self.prog}: {escaped(message)}{self.tip()}", USAGE)
+        message = escaped(message.replace("\0", ""))
+        raise UsageError(f"{self.usage_text}\n{self.prog}: {message}{self.tip()}", USAGE)
 
     def tip(self) -> str:
         """A line that names the option that an unknown one is near to."""

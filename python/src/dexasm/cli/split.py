@@ -362,7 +362,7 @@ def main(parser: Parser) -> int:
         parser.error("too many words")
     folder = args.paths[-1]
     if not args.join and len(args.paths) == 1 and os.path.isfile(folder):
-        parser.error(f"FOLDER is missing ({folder} is a file)")
+        raise CliError(f"{escaped(folder)}: it is a file, and the FOLDER to write is missing")
     if args.join:
         sys.stdout.buffer.write(b"".join(join(folder)))
         sys.stdout.buffer.flush()

@@ -1,0 +1,2 @@
+-- The lemmas of the calls.
+pub mod CallLaws
