@@ -1,5 +1,5 @@
 -- A refusal that is reported to C is a check's result.
-use Rattle.std.proofs.Common.{◌≡◌, ◌≢◌, ℕ, List, ap, sym, subst}
+use Rattle.std.proofs.Common.{◌≢◌, ℕ, List, ap, sym, subst}
 use Rattle.dex_base.specs.Fault.{memory}
 use Rattle.dex_base.specs.declared.fault.Fault.{Fault}
 use Rattle.dexasm_world.specs.declared.job.Job.TheVariants.{Check}

@@ -1,4 +1,4 @@
-use Rattle.std.proofs.Common.{◌≡◌, List, ℕ, rules}
+use Rattle.std.proofs.Common.{rules}
 use Rattle.dexasm_c.specs.declared.ending.Ending.TheVariants.{Answered}
 use Rattle.dexasm_c.specs.Calls.{Checks}
 use Rattle.dexasm_c.proofs.CallLaws.{checks_told}
