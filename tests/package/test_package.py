@@ -17,7 +17,7 @@ from parts.packing.wheel import backend
 from .. import TOP, sought, config
 from ..base import LIMIT, TestCase, ended, get
 
-LISTING = b"dex 035 listing 2\nclass LHello; 0x1\nend class\n"
+LISTING = b"dex 035 listing 2\nclass LHello; 0x1\nsuper Ljava/lang/Object;\nend class\n"
 
 # Pages that speak of how dexasm is made, and so of its toolchain; no other page of a package does.
 OF_MAKING = {f"docs/{name}.md" for name in ("COOKBOOK", "DECISIONS", "FILES", "MAP", "MEASURED", "PROVED")} | {
