@@ -347,8 +347,8 @@ class Info(HelperTest):
             self.check(f"dexasm-info --hex {said}, the fault", is_so, seen)
 
     def test_file_of_format(self) -> None:
-        """The file that FORMAT shows byte by byte is shown as it prints it."""
-        at, page = room("info page"), get(TOP, "docs/FORMAT.md").decode()
+        """docs/one-method.txt is what is printed of a file."""
+        at = room("info page")
         put(at, "a.dex", get(TOP, "tests/vectors/one-method.dex"))
         shown = tool("dexasm-info", "--hex", "a.dex", at=at)
-        self.assertEqual(shown, (0, page.split("## A file byte by byte")[1].split("```")[1].removeprefix("text\n"), ""))
+        self.assertEqual(shown, (0, get(TOP, "docs/one-method.txt").decode(), ""))

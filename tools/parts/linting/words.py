@@ -30,7 +30,7 @@ HISTORY = {"CHANGELOG.md", "bench/LOG.md"}
 GENERATED = {"docs/DEFINITIONS.md", "docs/FILES.md"}
 # Where a word is defined or quoted, by page: a part of the line that has it.
 EXCEPTIONS = {
-    "docs/FORMAT.md": ("| spells |", "| stands |", "| holds, breaks |"),  # the table that defines them, for the specs
+    "docs/READING-PROOFS.md": ("| spells |", "| stands |", "| holds, breaks |"),  # the table that defines them, for the specs
 }
 
 
