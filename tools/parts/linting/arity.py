@@ -2,9 +2,10 @@
 give a function of the crates as many arguments as it takes, and to bind the parts of a result that is a tuple, each by
 a name. A call is looked up among the functions of that name in the example's own crate, or where it has none in all.
 
-And the line of `crates.txt` above each program of docs/COOKBOOK.md has to have the crates that the program names.
+And the line for `crates.txt` in each program of docs/cookbook in Rattle has to have the crates that the program names.
 """
 import collections
+import glob
 import os
 import re
 from collections.abc import Iterator
@@ -12,14 +13,14 @@ from typing import NamedTuple
 
 from . import Seen
 
-COOKBOOK = "docs/COOKBOOK.md"
+COOKBOOK, PROGRAMS = "docs/COOKBOOK.md", "docs/cookbook/*.rs"
 TEXT = r'"(?:\\.|[^"\\])*"'
 BRACKET = re.compile(rf"{TEXT}|[()\[\]{{}}]", re.S)
 INNERMOST = re.compile(r"\([^()\[\]{}]*\)|\[[^()\[\]{}]*\]|\{[^()\[\]{}]*\}|(?<!-)<[^<>()\[\]{}]*>")
 TAKES = re.compile(r"^[ \t]*(?:pub(?:\(\w+\))? )?fn (\w+)(?:<.*?>)?(?=\()", re.M)
 IS_SELF = re.compile(r"&?(?:'\w+ )?(?:mut )?self")
 CALL = re.compile(r"(?P<dot>\.|::|(?<![\w.:!]))(?P<name>\b[a-z_]\w*)\(")
-PROGRAM = re.compile(r"(?:^In `crates\.txt`: `(\w+): ([\w ]+)`\.\n\n)?^```rust\n(.*?)^```$", re.S | re.M)
+PROGRAM = re.compile(r"//! `([\w-]+).*\n//!\n//! In crates\.txt: `(\w+): ([\w ]+)`\.\n")
 
 
 class Takes(NamedTuple):
@@ -149,18 +150,27 @@ def crates_used(lines: list[str], known: set[str]) -> list[str]:
     return sorted({word for found in named for words in found for word in words if word in known})
 
 
+def programs() -> dict[str, str]:
+    """The texts of the cookbook's programs in Rattle, by path."""
+    found = dict[str, str]()
+    for path in sorted(glob.glob(PROGRAMS)):
+        with open(path, encoding="utf8") as it:
+            found[path] = it.read()
+    return found
+
+
 def look_at_lines(known: set[str] | None = None) -> tuple[int, list[str]]:
-    """Whether the cookbook says of each program which crates it uses: of how many, and of which it says it wrong. Without
-    the toolchain's crates it is asked of those here, and of no more than the line has."""
-    with open(COOKBOOK, encoding="utf8") as it:
-        found, wrong = PROGRAM.findall(it.read()), []
-    for name, said, program in found:
-        used = crates_used(program.splitlines(), known or repository_crates() | set(said.split()))
-        head = re.match(r"//! `([\w-]+)", program)
-        if head is None or module_name(head[1]) != name or said.split() != used:
-            wrong.append(f"{COOKBOOK}: crates.txt of {program[4:40]!r} is {' '.join(used)}, not {name}: {said}")
+    """Whether each program of the cookbook names the crates that it uses: of how many, and which don't. Without the
+    toolchain's crates only those here, and those of the line, are known."""
+    found, wrong = programs(), []
+    for path, text in found.items():
+        head = PROGRAM.match(text)
+        name, said = (head[2], head[3].split()) if head else ("", [])
+        used = crates_used(text.splitlines(), known or repository_crates() | set(said))
+        if head is None or module_name(head[1]) != name or said != used:
+            wrong.append(f"{path}: crates.txt has {name}: {' '.join(said)}, and it uses {' '.join(used)}")
     if not found:
-        wrong.append(f"{COOKBOOK}: no program is there")
+        wrong.append(f"{PROGRAMS}: no program is there")
     return len(found), wrong
 
 
