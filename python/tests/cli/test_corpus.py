@@ -10,7 +10,6 @@ from collections.abc import Callable
 from typing import Any
 
 import shapes
-from tests import sought
 from .archive_files import archive
 from .corpus_cases import APP, LIBRARY, WIDE, CorpusTest, asked, padded, programs, rows, slow, strange, sums
 from .recipe_cases import TEXT, blocks
@@ -360,7 +359,7 @@ class Corpus(CorpusTest):
         self.check_equal("RECIPES: queries of a corpus", len(found), 9)
         for words in found:
             self.check(f"RECIPES: {words[:60]}", len(rows(at, words, "corpus.db")) > 0)
-        schema = sought(r"```sql\n(.*?)```", get(TOP, "docs/CORPUS.md").decode(), re.S)[1]
+        schema = get(TOP, "docs/corpus.sql").decode()
         made = sorted(words for words, in rows(at, "select sql from sqlite_master where sql is not null", "corpus.db"))
         plain: Callable[[list[str]], list[str]] = lambda words: sorted(
             re.sub(r"\s+", " ", one).strip().lower() for one in words if one.strip()
