@@ -63,13 +63,16 @@ class Vectors(TestCase):
                          dict(sorted(vectors.contents().items())))
 
     def test_errors(self) -> None:
-        """docs/ERRORS.md has a section for each fault, and the line of the vector that is named by it."""
+        """docs/ERRORS.md has a section for each fault, and in it the vector that is named by it, with its place."""
         with open(os.path.join(DOCS, "ERRORS.md"), encoding="utf8") as page:
-            text = page.read()
-        sections = {int(number): name for number, name in re.findall(r"^### (\d+) (\w+)$", text, re.M)}
-        self.assertEqual(sections, {number: name for table in NUMBERS.values() for name, number in table.items()})
+            sections = re.findall(r"^### (\d+ \w+)\n(.*?)(?=^#|^---)", page.read(), re.M | re.S)
+        texts = {head: " ".join(text.split()) for head, text in sections}
+        named = {f"{number} {name}" for table in NUMBERS.values() for name, number in table.items()}
+        self.assertEqual(set(texts), named)
         refused = [one for one in vectors.vectors() if re.fullmatch(r"\d+-\w+\.\w+", one.name)]
         self.assertEqual({one.command for one in refused if one.name.endswith(".dex")}, {"check"})
         self.assertEqual({one.command for one in refused if one.name.endswith(".txt")}, {"assemble"})
-        shown = [f"- [{one.name}](../tests/vectors/{one.name}): `{one.expected}`" for one in refused]
-        self.assertEqual([line for line in shown if line not in text], [])
+        for one in refused:
+            with self.subTest(one.name):
+                fault, _, place = one.expected.removeprefix("dexasm: refused ").partition(" at ")
+                self.assertIn(f"*Example*: [{one.name}](../tests/vectors/{one.name}) at {place}.", texts[fault])
