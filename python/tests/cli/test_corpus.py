@@ -350,12 +350,12 @@ class Corpus(CorpusTest):
             )
 
     def test_page(self) -> None:
-        """Each query of RECIPES runs as it stands, over a corpus that has something for it."""
+        """Each query of the page runs as it is, over a corpus that has something for it."""
         at = room("corpus page")
         programs(at)
         put(at, "g.dex", padded(get(at, "f/a.dex")))
         self.added("for RECIPES", at, "corpus.db", "f", "g.dex")
-        found = re.findall(r"^ask \"([^\"]*)\"", blocks("docs/RECIPES.md")["A corpus"][1], re.M)
+        found = re.findall(r"^ask \"([^\"]*)\"", get(TOP, "docs/corpus-queries.sh").decode(), re.M)
         self.check_equal("RECIPES: queries of a corpus", len(found), 9)
         for words in found:
             self.check(f"RECIPES: {words[:60]}", len(rows(at, words, "corpus.db")) > 0)

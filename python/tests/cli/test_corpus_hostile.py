@@ -17,8 +17,7 @@ from collections.abc import Callable, Iterable, Iterator
 from tests import sought
 from .archive_files import archive
 from .corpus_cases import WIDE, CorpusTest, asked, padded, programs, rows, sums
-from .recipe_cases import blocks
-from .support import ESC, HEAD, TOOLS, Ended, assembled, can_trace, get, is_one_line, put, room, run, shell, tool
+from .support import ESC, HEAD, TOOLS, TOP, Ended, assembled, can_trace, get, is_one_line, put, room, run, shell, tool
 from .shell_runs import each, is_line
 
 
@@ -276,7 +275,7 @@ class HostileCorpus(CorpusTest):
             put(at, f"f/{name}.dex", get(at, "f/e.dex"))
             put(at, f"f/{name}2.dex", get(at, "f/a.dex"))
         self.added("hostile paths", at, "--processes", "1", "corpus.db", "f", "g.dex")
-        head, *queries = re.split(r"^# .*\n", blocks("docs/RECIPES.md")["A corpus"][1], flags=re.M)
+        head, *queries = re.split(r"^# .*\n", get(TOP, "docs/corpus-queries.sh").decode(), flags=re.M)
         for query in queries:
             status, out, said = shell(f"{head}{query}", at)
             words = sought(r"\"([^\"]*)\"", query)[1]

@@ -335,7 +335,7 @@ class Recipes(HelperTest):
             "What takes the space": 1,
             "Several files in one": 1,
             "Many files": 2,
-            "A corpus": 4,
+            "A corpus": 3,
         }
         found = {head: len(texts) for head, texts in blocks("docs/RECIPES.md").items() if texts}
         self.check_equal("RECIPES: as many recipes as are tried", found, known)
