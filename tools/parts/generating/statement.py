@@ -45,6 +45,7 @@ PROOF = "crates/dex_container/proofs/OneFault.antt"
 MEANS = ("crates/file_read/specs/Means.antt", "Means")
 IN_MEMORY = ("crates/program_types/specs/View.antt", "program")
 FORMED = ("crates/program_rules/specs/WellFormed.antt", "WellFormed")
+TEXT = ("crates/listing_parse/specs/Texts.antt", "ListingText")
 FITS = ("crates/file_limits/specs/Limits.antt", "Fits")
 LEAST, PACKED = ("crates/file_write/specs/Least.antt", "HoldsExactly"), ("crates/file_write/specs/Packed.antt", "Packed")
 
@@ -63,6 +64,7 @@ PROMISES = (
     Promise("and a well-formed program that fits is written and reads back", definitions=(MEANS, IN_MEMORY, FORMED, FITS)),
     Promise("and its file has exactly the needed names, and is packed", definitions=(MEANS, IN_MEMORY, FORMED, FITS, LEAST, PACKED)),
     Promise("all that `read`, `write` and `strip` promise, with each refusal", (READ, WRITE, STRIP)),
+    Promise("a text is a listing of a well-formed program (`ListingText`)", definitions=(TEXT, FORMED)),
     Promise("all that `parse` promises", (PARSE,)),
     Promise("all that `print` promises", (PRINT,)),
     Promise("all six calls", (READ, CHECK, WRITE, STRIP, PARSE, PRINT)),
