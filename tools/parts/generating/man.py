@@ -58,15 +58,15 @@ OUT_PART = (
 # What the launcher of a repository heeds.
 PROVED = (
     "For the launcher ./dexasm in the repository: with the value \\fBproved\\fR it runs only the proved program, which it builds first if necessary. "
-    "Without it the quick program, the same source without its proof, runs until tools/build has been run. A helper that reports the build ends with "
-    "an error if that isn't a proved one."
+    "Without it the quick program, the same source without its proof, runs until tools/build has been run. A helper that reports the build exits "
+    "with an error if it is not proved."
 )
-WHICH = "For the launcher too: if it isn't empty, no program runs, and standard output names the one that would, 'proved' or 'quick', and its path."
+WHICH = "For the launcher too: if it is not empty, no program runs, and standard output names the one that would, 'proved' or 'quick', and its path."
 # What the C library heeds.
 TUNABLES = (
-    "The GNU C library allocates the command's memory. Where /sys/kernel/mm/transparent_hugepage/enabled says 'always' or 'madvise', "
+    "The GNU C library allocates the command's memory. If /sys/kernel/mm/transparent_hugepage/enabled is 'always' or 'madvise', "
     "\\fBglibc.malloc.hugetlb=1:glibc.malloc.top_pad=67108864:glibc.malloc.mmap_threshold=4194304\\fR makes it use huge pages: on large "
-    "files each command then takes about a tenth less time, and up to 1.6 times the memory (docs/MEASURED.md)."
+    "files each command then needs about a tenth less time, and up to 1.6 times the memory (docs/MEASURED.md)."
 )
 # The lists of faults, each with what its places are.
 FAULTS = (
@@ -81,12 +81,12 @@ STATUSES = (
     ("0", "the output was written, or help or the version was requested"),
     ("1", "the file or the listing is refused; standard error has the number, name and place of the fault, as in 'dexasm: refused 8 Checksum at 8'."
      " On a terminal a second line explains it"),
-    ("2", "a bad command line; standard error explains it and shows the usage (unless an argument isn't UTF-8). A .dex file that would"
+    ("2", "a bad command line; standard error explains it and shows the usage (unless an argument is not UTF-8). A .dex file that would"
      " go to a terminal counts too: nothing is read or written"),
-    ("3", "reading or writing failed; standard error says 'dexasm: cannot read' or 'dexasm: cannot write'. On a terminal a second line"
+    ("3", "reading or writing failed; standard error has 'dexasm: cannot read' or 'dexasm: cannot write'. On a terminal a second line"
      " has the system's reason; elsewhere 'ls -l' of the file and 'df' of its folder show it. A pipe whose reader ends early is a failure too"),
     ("4", "out of memory"),
-    ("70", "only of the launcher ./dexasm in the repository: there is no program, or its commit is unknown; standard error says why"),
+    ("70", "only of the launcher ./dexasm in the repository: there is no program, or its commit is unknown; standard error has the reason"),
 )
 WORDS = (
     "For users of smali, baksmali, dexdump, javap or objdump: `dexasm list` disassembles, `dexasm check` verifies, `dexasm-info` dumps headers and bytes. "

@@ -15,12 +15,13 @@ NUMBER = (
 )
 HEAD = """# Faults, one by one
 
-Where each fault is defined, returned and tested. [MAP](MAP.md) has the rules without a fault.
+This page has, for each fault, its definition, the function that returns it, its tests and its wrong bodies.
+[MAP](MAP.md) has the rules by the headings of FORMAT and LISTING.
 
 ## Faults
 
-Wrong bodies change a function that returns the fault, or else one that it calls or that calls it. Those in italics are
-in `more-wrong-bodies/`; the gate tries the others.
+Wrong bodies change a function that returns the fault, otherwise one that it calls or that calls it. Those in italics
+are in `more-wrong-bodies/`; the gate tries the others.
 
 | Fault | Defined | Returned | Tests | Wrong bodies |
 |---|---|---|---|---|
