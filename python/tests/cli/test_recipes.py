@@ -147,7 +147,7 @@ class Recipes(HelperTest):
 
     def test_words(self) -> None:
         """Each command of the table of other tools' words ends well, and writes no more than it says."""
-        part = get(TOP, "docs/RECIPES.md").decode().partition("## Which word does it\n")[2].partition("\n## ")[0]
+        part = get(TOP, "docs/RECIPES.md").decode().partition("## Coming from other tools\n")[2].partition("\n## ")[0]
         rows = [row.strip("|").replace("\\|", "\0").split("|") for row in re.findall(r"^\| .* \|$", part, re.M)[1:]]
         commands = [one.replace("\0", "|") for row in rows for one in re.findall(r"`(dexasm[- ][^`]*)`", row[1])]
         for command in commands:
