@@ -1,9 +1,10 @@
 -- Types that are held in a set as they come.
-use Rattle.std.proofs.Common.{◌≡◌, ◌≢◌, ℕ, zero, suc, ◌+◌, ◌<◌, Bool, true, false, not, List, [], ◌∷◌, ◌++◌, map, length, take, get_or, refl, sym, ap, ◌∙◌, arith, true≢false, Some}
+use Rattle.std.proofs.Common.{◌≡◌, ◌≢◌, ℕ, zero, suc, ◌+◌, ◌<◌, Bool, true, false, not, List, [], ◌∷◌, map, length, take, get_or, refl, sym, ap, subst, ◌∙◌, arith, true≢false, Some}
 use Rattle.std.specs.Bool.{Decides}
 use Rattle.std.specs.List.{list_any, slice_get}
 use Rattle.std.proofs.lemmas.List.{get_or-take, take_more, length-take-le}
-use Rattle.indexmap.specs.IndexSet.{insert_key}
+use Rattle.std.specs.List.Sorted.{IsPermutation}
+use Rattle.std.proofs.lemmas.List.Sorted.{list_any-IsPermutation, IsPermutation-append_comm, IsPermutation-cons, IsPermutation-trans}
 use Rattle.program_types.specs.View.{desc}
 use Rattle.program_types.specs.declared.names.Desc.{Desc}
 use Rattle.file_classes.specs.Classes.{NoTypeTwice}
@@ -33,31 +34,36 @@ module _ (eq : Desc → Desc → Bool) (decides : (x y : Desc) → Decides (eq x
   none v [] e j h = absurd cc
   none v (k ∷ ks) e j h = none_by v k ks (eq v k) refl (none v ks) e j h
 
-  pub new_type : (types ks : List Desc) (n : ℕ) (d : Desc) → ks ≡ take n types → n < length types → list_any (eq (get_or types n d)) ks ≡ false → IsNotAmong (map desc types) n n
-  new_type types ks n d are lt free j t less at_j at_n =
-      let l : length ks ≡ n = ap length are ∙ length-take-le n types (omega arith) in
+  pub new_type : (types seen : List Desc) (n : ℕ) (d : Desc) → IsPermutation (take n types) seen → n < length types → list_any (eq (get_or types n d)) seen ≡ false → IsNotAmong (map desc types) n n
+  new_type types seen n d same lt free j t less at_j at_n =
+      let ks = take n types in
+      let is_new = list_any-IsPermutation (eq (get_or types n d)) ks seen same ∙ free in
+      let l : length ks ≡ n = length-take-le n types (omega arith) in
       let held : slice_get (map desc ks) j ≡ Some (desc (get_or ks j d)) = map_at desc ks j d (omega arith) in
-      let same : get_or ks j d ≡ get_or types j d = ap (λ z. get_or z j d) are ∙ get_or-take n types j d less in
+      let one : get_or ks j d ≡ get_or types j d = get_or-take n types j d less in
       let there : slice_get (map desc types) j ≡ Some (desc (get_or types j d)) = map_at desc types j d (omega arith) in
       let last : slice_get (map desc types) n ≡ Some (desc (get_or types n d)) = map_at desc types n d lt in
-      none (get_or types n d) ks free j (held ∙ ap (λ z. Some (desc z)) same ∙ sym there ∙ at_j ∙ sym at_n ∙ last)
+      none (get_or types n d) ks is_new j (held ∙ ap (λ z. Some (desc z)) one ∙ sym there ∙ at_j ∙ sym at_n ∙ last)
 
-  pub old_type : (types ks : List Desc) (n : ℕ) (d : Desc) → ks ≡ take n types → n < length types → list_any (eq (get_or types n d)) ks ≡ true → NoTypeTwice (map desc types) → ⊥
-  old_type types ks n d are lt held distinct =
-      let p = found (get_or types n d) ks held in
-      let l : length ks ≡ n = ap length are ∙ length-take-le n types (omega arith) in
+  pub old_type : (types seen : List Desc) (n : ℕ) (d : Desc) → IsPermutation (take n types) seen → n < length types → list_any (eq (get_or types n d)) seen ≡ true → NoTypeTwice (map desc types) → ⊥
+  old_type types seen n d perm lt held distinct =
+      let ks = take n types in
+      let p = found (get_or types n d) ks (list_any-IsPermutation (eq (get_or types n d)) ks seen perm ∙ held) in
+      let l : length ks ≡ n = length-take-le n types (omega arith) in
       let less : p.0 < n = omega (arith, l, p.1) in
       let here : slice_get (map desc ks) p.0 ≡ Some (desc (get_or ks p.0 d)) = map_at desc ks p.0 d p.1 in
-      let same : get_or ks p.0 d ≡ get_or types p.0 d = ap (λ z. get_or z p.0 d) are ∙ get_or-take n types p.0 d less in
+      let same : get_or ks p.0 d ≡ get_or types p.0 d = get_or-take n types p.0 d less in
       let there : slice_get (map desc types) p.0 ≡ Some (desc (get_or types p.0 d)) = map_at desc types p.0 d (omega (arith, less, lt)) in
       let last : slice_get (map desc types) n ≡ Some (desc (get_or types n d)) = map_at desc types n d lt in
       let one : p.0 ≡ n = distinct p.0 n (desc (get_or types n d)) (there ∙ ap (λ z. Some (desc z)) (sym same) ∙ sym here ∙ p.2) last in
       omega (arith, one, less)
 
-  pub seen_more : (types ks : List Desc) (n : ℕ) (d : Desc) → ks ≡ take n types → n < length types → list_any (eq (get_or types n d)) ks ≡ false → insert_key eq ks (get_or types n d) ≡ take (n + 1) types
-  seen_more types ks n d are lt free =
-      let new : insert_key eq ks (get_or types n d) ≡ ks ++ get_or types n d ∷ [] = rw free refl in
-      new ∙ ap (λ z. z ++ get_or types n d ∷ []) are ∙ sym (take_more types n d lt)
+-- one type more
+pub seen_more : (types seen new : List Desc) (n : ℕ) (d : Desc) → n < length types → IsPermutation (take n types) seen → IsPermutation (get_or types n d ∷ seen) new → IsPermutation (take (n + 1) types) new
+seen_more types seen new n d lt before put =
+    let x = get_or types n d in
+    subst (λ (l : List Desc). IsPermutation l new) (sym (take_more types n d lt))
+    (IsPermutation-trans _ _ _ (IsPermutation-append_comm (take n types) (x ∷ [])) (IsPermutation-trans _ _ _ (IsPermutation-cons x (take n types) seen before) put))
 
 pub held_before : (b r : Bool) → r ≡ not b → r ≡ false → b ≡ true
 held_before true r e h = refl

@@ -18,8 +18,8 @@ use bumpalo::Bump;
 use code_read::check_body;
 use dex_base::Fault;
 use dex_container::Sections;
-use indexmap::IndexMap;
 use std::alloc::Global;
+use std::collections::HashMap;
 use tables_rows::Tables;
 
 /// What codes are checked with.
@@ -34,7 +34,7 @@ struct Checker<'c> {
 #[derive(Drop)]
 struct Known {
     scratch: Bump,
-    cached: IndexMap<u32, Option<Fault>>,
+    cached: HashMap<u32, Option<Fault>>,
 }
 
 impl Checker<'_> {
@@ -149,7 +149,7 @@ pub fn check_codes(
 {
     let mut known = Known {
         scratch: Bump::new(alloc),
-        cached: IndexMap::new(alloc),
+        cached: HashMap::new(alloc),
     };
     let checker = Checker {
         alloc,

@@ -21,15 +21,15 @@ use crate::word;
 use dex_base::{Fault, fault};
 use dex_container::Sections;
 use dex_value::check_array;
-use indexmap::IndexMap;
 use std::alloc::Global;
+use std::collections::HashMap;
 use tables_rows::Tables;
 
 /// Checks the values at an offset, at most so many: the cached result, or the one that is found now, and cached.
 fn check_array_at(
     sections: &Sections<'_>,
     tables: &Tables<'_>,
-    cached: &mut IndexMap<u32, u32>,
+    cached: &mut HashMap<u32, u32>,
     off: u32,
     most: usize,
 ) -> Result<(), Fault>
@@ -53,7 +53,7 @@ fn check_array_at(
 fn check_row(
     sections: &Sections<'_>,
     tables: &Tables<'_>,
-    cached: &mut IndexMap<u32, u32>,
+    cached: &mut HashMap<u32, u32>,
     i: u32,
     head: Head<'_, '_>,
 ) -> Result<(), Fault>
@@ -88,7 +88,7 @@ pub fn check_statics(
     ensures err { IfErr result (λ e. e ≢ memory → IsFirstClass ValuesBreak ValuesHold sections.now e) }
 {
     let count = class_count(sections);
-    let mut cached = IndexMap::new(alloc);
+    let mut cached = HashMap::new(alloc);
     for i in 0..count {
         let head = head_at(sections, heads, i);
         check_row(sections, tables, &mut cached, i, head)?;

@@ -26,9 +26,9 @@ use bumpalo::Bump;
 use bumpalo::collections::into_bump_slice;
 use dex_base::{Fault, fault};
 use dex_container::Sections;
-use indexmap::IndexMap;
 use program_types::{Desc, Member, Str};
 use std::alloc::Global;
+use std::collections::HashMap;
 use tables_rows::Tables;
 
 /// A class before its static values and its code are read.
@@ -60,7 +60,7 @@ impl<'a, 's> HeadReader<'a, 's, '_> {
     /// The head of row i.
     fn read_head(
         &self,
-        cached: &mut IndexMap<u32, &'a [Desc<'a>]>,
+        cached: &mut HashMap<u32, &'a [Desc<'a>]>,
         i: u32,
     ) -> Result<Head<'a, 's>, Fault>
         requires names { AreNamesOf self.now.sections.now self.now.tables.now }
@@ -105,7 +105,7 @@ impl<'a, 's> HeadReader<'a, 's, '_> {
     /// The heads of all rows, one after the other.
     fn push_heads(
         &self,
-        cached: &mut IndexMap<u32, &'a [Desc<'a>]>,
+        cached: &mut HashMap<u32, &'a [Desc<'a>]>,
         heads: &mut Vec<Head<'a, 's>, &'s Bump>,
     ) -> Result<(), Fault>
         requires names { AreNamesOf self.now.sections.now self.now.tables.now }
@@ -149,7 +149,7 @@ pub fn read_heads<'a, 's>(
         scratch,
         class_count(sections) as usize,
     )?;
-    let mut cached = IndexMap::new(alloc);
+    let mut cached = HashMap::new(alloc);
     reader.push_heads(&mut cached, &mut heads)?;
     Ok(into_bump_slice(heads))
 }

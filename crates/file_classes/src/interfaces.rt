@@ -12,9 +12,9 @@ ghost use Rattle.file_classes.specs.inner.Reading.{IsNotAmong};
 use bumpalo::Bump;
 use dex_base::{Fault, is_class};
 use dex_container::Sections;
-use indexmap::{IndexMap, IndexSet};
 use program_types::{Desc, desc_eq};
 use std::alloc::{AllocError, Global};
+use std::collections::{HashMap, HashSet};
 use tables_rows::Tables;
 
 /// How many types are compared pair by pair, without memory.
@@ -61,7 +61,7 @@ fn are_few_distinct(types: &[Desc<'_>]) -> bool
 fn are_many_distinct(alloc: Global, types: &[Desc<'_>]) -> Result<bool, AllocError>
     ensures ok { IfOk result (λ yes. IsTrue yes ↔ NoTypeTwice (map desc types.now)) }
 {
-    let mut seen = IndexSet::new(alloc);
+    let mut seen = HashSet::new(alloc);
     for n in 0..types.len() {
         if !seen.insert(types[n])? {
             return Ok(false);
@@ -113,7 +113,7 @@ pub(crate) fn interfaces_at<'a>(
     arena: &'a Bump,
     sections: &Sections<'_>,
     tables: &Tables<'a>,
-    cached: &mut IndexMap<u32, &'a [Desc<'a>]>,
+    cached: &mut HashMap<u32, &'a [Desc<'a>]>,
     off: u32,
 ) -> Result<Option<&'a [Desc<'a>]>, Fault>
     requires names { AreNamesOf sections.now tables.now }

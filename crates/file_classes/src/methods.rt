@@ -22,9 +22,9 @@ use bumpalo::collections::into_bump_slice;
 use code_read::read_body;
 use dex_base::Fault;
 use dex_container::Sections;
-use indexmap::IndexMap;
 use program_types::{Class, Code, Method};
 use std::alloc::Global;
+use std::collections::HashMap;
 use tables_rows::Tables;
 
 /// The code at an offset, and what is wrong with its registers, if anything is.
@@ -83,7 +83,7 @@ impl<'a> Reader<'a, '_, '_, '_> {
     /// The code at an offset, none at 0: what is cached for the offset, or what is read now, and cached.
     fn code_at(
         &self,
-        cached: &mut IndexMap<u32, FoundCode<'a>>,
+        cached: &mut HashMap<u32, FoundCode<'a>>,
         off: u32,
     ) -> Result<FoundCode<'a>, Fault>
         requires names { AreNamesOf self.now.sections.now self.now.tables.now }
@@ -103,7 +103,7 @@ impl<'a> Reader<'a, '_, '_, '_> {
     /// The methods of a list, each with its code.
     fn read_methods(
         &self,
-        cached: &mut IndexMap<u32, FoundCode<'a>>,
+        cached: &mut HashMap<u32, FoundCode<'a>>,
         bares: &[Bare<'a>],
     ) -> Result<Methods<'a>, Fault>
         requires names { AreNamesOf self.now.sections.now self.now.tables.now }
@@ -134,7 +134,7 @@ impl<'a> Reader<'a, '_, '_, '_> {
     /// The class of row i.
     fn read_class(
         &self,
-        cached: &mut IndexMap<u32, FoundCode<'a>>,
+        cached: &mut HashMap<u32, FoundCode<'a>>,
         i: u32,
         head: Head<'a, '_>,
         statics: Statics<'a>,
@@ -225,7 +225,7 @@ pub fn read_class_at<'a>(
     };
     let head = head_at(sections, heads, i);
     let values = statics_at(sections, statics, i);
-    let mut cached = IndexMap::new(alloc);
+    let mut cached = HashMap::new(alloc);
     reader.read_class(&mut cached, i, head, values)
 }
 
@@ -254,7 +254,7 @@ pub fn read_classes<'a>(
         sections,
         tables,
     };
-    let mut cached = IndexMap::new(alloc);
+    let mut cached = HashMap::new(alloc);
     let mut classes: Vec<Class<'a>, &'a Bump> = Vec::with_capacity(arena, count as usize)?;
     let mut past = None;
     for i in 0..count {

@@ -22,9 +22,9 @@ use bumpalo::collections::into_bump_slice;
 use dex_base::{Fault, fault};
 use dex_container::Sections;
 use dex_value::read_array;
-use indexmap::IndexMap;
 use program_types::Value;
 use std::alloc::Global;
+use std::collections::HashMap;
 use tables_rows::Tables;
 
 /// The static values of a class.
@@ -39,7 +39,7 @@ fn array_at<'a>(
     arena: &'a Bump,
     sections: &Sections<'_>,
     tables: &Tables<'a>,
-    cached: &mut IndexMap<u32, &'a [Value<'a>]>,
+    cached: &mut HashMap<u32, &'a [Value<'a>]>,
     off: u32,
     most: usize,
 ) -> Result<&'a [Value<'a>], Fault>
@@ -77,7 +77,7 @@ fn row_statics<'a>(
     arena: &'a Bump,
     sections: &Sections<'_>,
     tables: &Tables<'a>,
-    cached: &mut IndexMap<u32, &'a [Value<'a>]>,
+    cached: &mut HashMap<u32, &'a [Value<'a>]>,
     i: u32,
     head: Head<'a, '_>,
 ) -> Result<Statics<'a>, Fault>
@@ -136,7 +136,7 @@ pub fn read_statics<'a, 's>(
     ensures err { IfErr result (λ e. e ≢ memory → IsFirstClass ValuesBreak ValuesHold sections.now e) }
 {
     let count = class_count(sections);
-    let mut cached = IndexMap::new(alloc);
+    let mut cached = HashMap::new(alloc);
     let mut all: Vec<Statics<'a>, &'s Bump> = Vec::with_capacity(scratch, count as usize)?;
     for i in 0..count {
         let head = head_at(sections, heads, i);

@@ -9,9 +9,9 @@ ghost use Rattle.program_rules.specs.inner.Numbers.{AreNumbers, types};
 
 use crate::order::are_distinct;
 use dex_base::Seed;
-use indexmap::IndexMap;
 use program_types::{Class, Desc};
 use std::alloc::{AllocError, Global};
+use std::collections::HashMap;
 
 /// How many types are compared pair by pair, without memory.
 const FEW: usize = 8;
@@ -20,7 +20,7 @@ const FEW: usize = 8;
 #[derive(Drop)]
 pub(crate) struct TypePlaces<'a> {
     /// The last number of each type.
-    last: IndexMap<Desc<'a>, usize, Seed>,
+    last: HashMap<Desc<'a>, usize, Seed>,
     /// The first number whose type occurs before it too.
     again: Option<usize>,
 }
@@ -33,7 +33,7 @@ pub(crate) fn numbers_of<'a>(
 ) -> Result<TypePlaces<'a>, AllocError>
     ensures ok { IfOk result (AreNumbers (map desc list.now) (length list.now)) }
 {
-    let mut last = IndexMap::with_hasher(alloc, seed);
+    let mut last = HashMap::with_hasher(alloc, seed);
     let mut again = None;
     for k in 0..list.len() {
         let ty = list[k];

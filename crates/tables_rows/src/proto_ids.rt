@@ -25,10 +25,10 @@ use bumpalo::Bump;
 use bumpalo::collections::into_bump_slice;
 use dex_base::{Fault, fault};
 use dex_container::{Section, Sections, kind, section_of};
-use indexmap::IndexMap;
 use program_types::{Desc, Proto, Str, is_void, letter};
 use std::alloc::{AllocError, Global};
 use std::cmp::Ordering;
+use std::collections::HashMap;
 
 /// What is cached for a list of parameters: its types, and the letter of the return type and the row of the shorty of a row that has them.
 /// Another row with these three has the right shorty too, so that its letters needn't be compared with the types.
@@ -56,7 +56,7 @@ pub(crate) fn read_protos<'a>(
 {
     let (count, _) = sections.table(kind::PROTO_ID_ITEM);
     let lists = section_of(sections, kind::TYPE_LIST);
-    let mut cached = IndexMap::new(alloc);
+    let mut cached = HashMap::new(alloc);
     let mut protos: Vec<Proto<'a>, &'a Bump> = Vec::with_capacity(arena, count as usize)?;
     for i in 0..count {
         let proto = next_proto(arena, sections, lists, strings, types, &mut cached, i)?;
@@ -72,7 +72,7 @@ fn next_proto<'a>(
     lists: Section,
     strings: &[Str<'a>],
     types: &[Desc<'a>],
-    cached: &mut IndexMap<u32, Known<'a>>,
+    cached: &mut HashMap<u32, Known<'a>>,
     i: u32,
 ) -> Result<Proto<'a>, Fault>
     requires framed { IsFramed sections.now }
@@ -101,7 +101,7 @@ fn read_proto<'a>(
     lists: Section,
     strings: &[Str<'a>],
     types: &[Desc<'a>],
-    cached: &mut IndexMap<u32, Known<'a>>,
+    cached: &mut HashMap<u32, Known<'a>>,
     i: u32,
 ) -> Result<Proto<'a>, Fault>
     requires framed { IsFramed sections.now }
@@ -177,7 +177,7 @@ fn parameters_at<'a>(
     sections: &Sections<'_>,
     lists: Section,
     types: &[Desc<'a>],
-    cached: &IndexMap<u32, Known<'a>>,
+    cached: &HashMap<u32, Known<'a>>,
     off: u32,
 ) -> Result<Option<Known<'a>>, AllocError>
     requires framed { IsFramed sections.now }

@@ -30,7 +30,7 @@ loop-n-preserved c =
     let decides = λ (x y : Desc). bytes_eq-Decides (desc x) (desc y) in
     let types = c.args.types.now in
     let n = c.loop-n.n in (
-      rw c.in_ok-insert.ensures.keys (seen_more same decides types c.loop-n.seen.keys n _ c.loop-n.invariant.0 c.loop-n-test.true no),
+      seen_more types c.loop-n.seen.keys _ n _ c.loop-n-test.true c.loop-n.invariant.0 (rw c.if-not-branch.false at c.in_ok-insert.ensures.keys),
       λ k less. elim (cases_lt k n) [
         | inl before ↦ c.loop-n.invariant.1 k before
         | inr last ↦ let e : n ≡ k = omega arith in subst (λ z. IsNotAmong (map desc types) z z) e (new_type same decides types c.loop-n.seen.keys n _ c.loop-n.invariant.0 c.loop-n-test.true no)
