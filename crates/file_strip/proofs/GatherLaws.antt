@@ -138,11 +138,6 @@ numbered_next p i c at =
     ap (λ (j : ℕ). numbered 0 (take j p)) one ∙ numbered_more 0 p i c at ∙ ap (λ (m : ℕ). numbered 0 (take i p) ++ map (λ (v : Option Code). (m, v)) (bodies_of c)) own
     ∙ ap (λ (l : List (ℕ × Option Code)). numbered 0 (take i p) ++ l) (pairs i c)
 
-pushed_twice : (i : ℕ) (old mid new : List PlacedBody) (ds vs directs virtuals : List held_method.MethodEntry) → directs ≡ ds → virtuals ≡ vs → mid ≡ old ++ map (body_of i) directs → new ≡ mid ++ map (body_of i) virtuals
-    → new ≡ old ++ (map (body_of i) ds ++ map (body_of i) vs)
-pushed_twice i old mid new ds vs directs virtuals e1 e2 m n =
-    n ∙ ap (λ (l : List PlacedBody). l ++ map (body_of i) virtuals) m ∙ append_assoc old (map (body_of i) directs) (map (body_of i) virtuals) ∙ (λ j. old ++ (map (body_of i) (e1 j) ++ map (body_of i) (e2 j)))
-
 module _ (b : List ℕ) (numbers : Columns) (p : Program) (k : Keeps b numbers p) where
   class_owned : (i : ℕ) (c : Class) (all : held.Entries) → slice_get p i ≡ Some c → AreBytes b → EntriesAt b (class_word b i 6) (entries all) → wide_all wide_body (body_values p) < 2 ^ 32
       → AreOwned b numbers (needed p) (map (body_of i) all.directs.items ++ map (body_of i) all.virtuals.items) (map (λ v. (i, v)) (bodies_in c.directs) ++ map (λ v. (i, v)) (bodies_in c.virtuals))
@@ -156,16 +151,17 @@ module _ (b : List ℕ) (numbers : Columns) (p : Program) (k : Keeps b numbers p
       (methods_owned b numbers p k i c.ty all.directs.items c.directs are (st.head.members.directs.count ∙ ap (λ (y : Entries). length y.directs) same) (subst (λ (y : Entries). CodesAre b y.directs c.directs) same st.directs) (directs_kept (Holds (needed p)) c held) (omega (arith, short, w, a)))
       (methods_owned b numbers p k i c.ty all.virtuals.items c.virtuals are (st.head.members.virtuals.count ∙ ap (λ (y : Entries). length y.virtuals) same) (subst (λ (y : Entries). CodesAre b y.virtuals c.virtuals) same st.virtuals) (virtuals_kept (Holds (needed p)) c held) (omega (arith, short, w, a)))
 
-  pub class_pushed : (i : ℕ) (all : held.Entries) (old mid new : List PlacedBody) (directs virtuals : List held_method.MethodEntry) → AreBytes b → i < size_of b 5 → EntriesAt b (class_word b i 6) (entries all) → wide_all wide_body (body_values p) < 2 ^ 32
-      → directs ≡ all.directs.items → virtuals ≡ all.virtuals.items → mid ≡ old ++ map (body_of i) directs → new ≡ mid ++ map (body_of i) virtuals → AreFirstBodies b numbers p i old → AreFirstBodies b numbers p (i + 1) new
-  class_pushed i all old mid new directs virtuals are lt stands short e1 e2 m n z =
+  pub class_pushed : (i : ℕ) (all : held.Entries) (old new : List PlacedBody) → AreBytes b → i < size_of b 5 → EntriesAt b (class_word b i 6) (entries all) → wide_all wide_body (body_values p) < 2 ^ 32
+      → new ≡ (old ++ map (body_of i) all.directs.items) ++ map (body_of i) all.virtuals.items → AreFirstBodies b numbers p i old → AreFirstBodies b numbers p (i + 1) new
+  class_pushed i all old new are lt stands short n z =
       let count = k.classes.count in
       let c = entry_at p i (omega (arith, count, lt)) in
-      let es = map (body_of i) all.directs.items ++ map (body_of i) all.virtuals.items in
+      let ds = map (body_of i) all.directs.items in
+      let vs = map (body_of i) all.virtuals.items in
       let xs : List (ℕ × Option Code) = map (λ v. (i, v)) (bodies_in c.0.directs) ++ map (λ v. (i, v)) (bodies_in c.0.virtuals) in
-      let more = zip_append (IsOwned b numbers (needed p)) old es (numbered 0 (take i p)) xs z (class_owned i c.0 all c.1 are stands short) in
-      subst (λ (l : List PlacedBody). AreOwned b numbers (needed p) l (numbered 0 (take (i + 1) p))) (sym (pushed_twice i old mid new all.directs.items all.virtuals.items directs virtuals e1 e2 m n))
-      (subst (λ (l : List (ℕ × Option Code)). AreOwned b numbers (needed p) (old ++ es) l) (sym (numbered_next p i c.0 c.1)) more)
+      let more = zip_append (IsOwned b numbers (needed p)) old (ds ++ vs) (numbered 0 (take i p)) xs z (class_owned i c.0 all c.1 are stands short) in
+      subst (λ (l : List PlacedBody). AreOwned b numbers (needed p) l (numbered 0 (take (i + 1) p))) (sym (n ∙ append_assoc old ds vs))
+      (subst (λ (l : List (ℕ × Option Code)). AreOwned b numbers (needed p) (old ++ (ds ++ vs)) l) (sym (numbered_next p i c.0 c.1)) more)
 
   pub all_pushed : (i : ℕ) (es : List PlacedBody) → i ≡ size_of b 5 → AreFirstBodies b numbers p i es → AreOwned b numbers (needed p) es (numbered 0 p)
   all_pushed i es e z =

@@ -40,7 +40,7 @@ pub sited_start : (p : Program) (old codes : List ℕ) → ClassDataIsLaid p cod
 sited_start p old codes = (Laying-start has_no_members (PacksData (NameRanks (needed p))) 1 wide_with_codes old (with_code_places p codes), refl)
 
 -- there is room for the next, and there are places for its methods
-pub sited_room : (p : Program) (codes old out rest places : List ℕ) (i items : ℕ) → i < length p → length codes ≡ length (body_values p) → length old + wide_all wide_data p < 2 ^ 32 → ClassDataIsLaid p codes old out i rest places items → HasRoom p i rest out
+pub sited_room : (p : Program) (codes old out rest places : List ℕ) (i items : ℕ) → i < length p → length codes ≡ length (body_values p) → length old + wide_all wide_data p < 2 ^ 32 → ClassDataIsLaid p codes old out i rest places items → (c : Class) → slice_get p i ≡ Some c → HasRoom c rest out
 sited_room p codes old out rest places i items lt e room s c at =
     let n = length-sited p codes in
     let none : ClassWithCodes = record { class = c; codes = [] } in
@@ -50,7 +50,7 @@ sited_room p codes old out rest places i items lt e room s c at =
     let h = ap wide_with_codes (sited_at p codes i c none at) in
     (omega (arith, b, w, d, h, room), subst (λ (l : List ℕ). method_count c ≤ length l) (sym s.1) (rest_enough p codes i c at e))
 
-pub sited_next : (p : Program) (codes old out new rest others places more : List ℕ) (i items place count : ℕ) → i < length p → 0 < length old → ClassDataIsLaid p codes old out i rest places items → AddsClassData p i rest others out new place
+pub sited_next : (p : Program) (codes old out new rest others places more : List ℕ) (i items place count : ℕ) → i < length p → 0 < length old → ClassDataIsLaid p codes old out i rest places items → ((c : Class) → slice_get p i ≡ Some c → AddsClassData (needed p) c rest others out new place)
     → more ≡ places ++ place ∷ [] → count ≡ items_with place items → ClassDataIsLaid p codes old new (i + 1) others more count
 sited_next p codes old out new rest others places more i items place count lt front s a m n =
     let x = entry_at p i lt in

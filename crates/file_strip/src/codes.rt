@@ -18,13 +18,14 @@ ghost use Rattle.tables_names.specs.Closure.{AreRising, Five, NameRanks};
 ghost use Rattle.tables_names.specs.Needed.{needed};
 ghost use Rattle.file_renumber.specs.inner.Marked.{Columns};
 ghost use Rattle.file_strip.specs.inner.Bodies.{AreFirstBodies, AreNear, AreOwned, IsCarriedBody, IsCarriedSome, IsFar, IsFirstFar, WritesCarried, bodies_alone, body_of, numbered};
-ghost use Rattle.file_strip.specs.inner.Keeping.{Keeps};
+ghost use Rattle.file_strip.specs.inner.Keeping.{ListsMembers, Keeps};
+ghost use Rattle.tables_rows.specs.Names.{AreRows};
 ghost use Rattle.file_strip.specs.inner.Moved.{AreMoved};
 
 use crate::moved::Moved;
 use dex_base::{Fault, are_bytes, fault};
 use dex_container::{Section, Sections, kind, section_of};
-use file_classes::{MethodEntry, class_count, class_word, entries_at, word};
+use file_classes::{Entries, MethodEntry, class_count};
 use file_put::Placed;
 use file_renumber::{Numbers, renumber_code};
 use std::alloc::Global;
@@ -142,58 +143,53 @@ fn push_bodies(
     Ok(())
 }
 
-/// Appends the bodies of the methods of row i, the direct ones, then the virtual ones.
-fn push_class(
-    alloc: Global,
-    bodies: &mut Vec<PlacedBody>,
-    sections: &Sections<'_>,
-    i: u32,
-) -> Result<(), Fault>
-    requires kept { (numbers : Columns) × (p : Program) × Keeps sections.now numbers p }
-    requires row { i < size_of sections.now section.class_defs }
-    ensures ok { OnOk result ((numbers : Columns) (p : Program) → Keeps sections.now numbers p → wide_all wide_body (body_values p) < 2 ^ 32
-        → AreFirstBodies sections.now numbers p i bodies.old.items → AreFirstBodies sections.now numbers p (i + 1) bodies.new.items) }
+/// Appends the bodies of the methods of the class with this number and these members: the direct ones, then the virtual ones.
+fn push_class(bodies: &mut Vec<PlacedBody>, class: u32, all: &Entries) -> Result<(), Fault>
+    ensures ok { OnOk result (bodies.new.items ≡ (bodies.old.items ++ map (body_of class) all.now.directs.items) ++ map (body_of class) all.now.virtuals.items) }
     ensures memory { IsOkUnless result memory }
 {
-    are_bytes(sections.bytes());
-    let data = class_word(sections, i, word::CLASS_DATA_OFF);
-    let Some(all) = entries_at(alloc, sections, data)? else {
-        unreachable!()
-    };
-    push_bodies(bodies, i, &all.directs)?;
-    Ok(push_bodies(bodies, i, &all.virtuals)?)
+    push_bodies(bodies, class, &all.directs)?;
+    Ok(push_bodies(bodies, class, &all.virtuals)?)
 }
 
-/// The bodies of all methods: by class, direct methods, then virtual ones.
-fn all_bodies(alloc: Global, sections: &Sections<'_>) -> Result<Vec<PlacedBody>, Fault>
-    requires kept { (numbers : Columns) × (p : Program) × Keeps sections.now numbers p }
+/// The bodies of all methods of the classes with these members: by class, direct methods, then virtual ones.
+fn all_bodies(
+    alloc: Global,
+    sections: &Sections<'_>,
+    members: &[Entries],
+) -> Result<Vec<PlacedBody>, Fault>
+    requires members { AreRows ListsMembers sections.now section.class_defs members.now }
     ensures ok { IfOk result (λ bodies. (numbers : Columns) (p : Program) → Keeps sections.now numbers p → wide_all wide_body (body_values p) < 2 ^ 32
         → AreOwned sections.now numbers (needed p) bodies.items (numbered 0 p)) }
     ensures memory { IsOkUnless result memory }
 {
+    // Only for the proof: what holds of each value of its type.
+    are_bytes(sections.bytes());
     let mut bodies = Vec::new(alloc);
     for i in 0..class_count(sections) {
-        push_class(alloc, &mut bodies, sections, i)?;
+        push_class(&mut bodies, i, &members[i as usize])?;
     }
     Ok(bodies)
 }
 
-/// Appends the bodies of all methods, each 4-aligned: by class, direct methods, then virtual ones. Returns the offset of each
-/// method's body, 0 for a method without one. A body that several methods refer to is read once, and equal ones are written
-/// once.
+/// Appends the bodies of all methods of the classes with these members, each 4-aligned: by class, direct methods, then virtual
+/// ones. Returns the offset of each method's body, 0 for a method without one. A body that several methods refer to is read
+/// once, and equal ones are written once.
 ///
 /// Refused with 89 at the number of the first class of which a handler begins too far after its list's begin, and else
 /// only when out of memory.
 ///
 /// ```
-/// let codes = put_codes(alloc, &mut out, &numbers, &sections)?;
+/// let codes = put_codes(alloc, &mut out, &numbers, &sections, &members)?;
 /// ```
 pub(crate) fn put_codes(
     alloc: Global,
     out: &mut Vec<u8>,
     numbers: &Numbers,
     sections: &Sections<'_>,
+    members: &[Entries],
 ) -> Result<Placed, Fault>
+    requires members { AreRows ListsMembers sections.now section.class_defs members.now }
     requires front { 0 < length out.old.items }
     requires kept { (p : Program) × Keeps sections.now numbers.now p × (length out.old.items + wide_all wide_body (body_values p) < 2 ^ 32) }
     ensures ok { IfOk result (λ r. (p : Program) → Keeps sections.now numbers.now p
@@ -203,6 +199,6 @@ pub(crate) fn put_codes(
     ensures far { IfErr result (λ e. e ≢ memory → (e.code ≡ 89)
         × ((p : Program) → Keeps sections.now numbers.now p → IsFirstToBreak (NameRanks (needed p)) 89 p e.place)) }
 {
-    let bodies = all_bodies(alloc, sections)?;
+    let bodies = all_bodies(alloc, sections, members)?;
     Ok(place_bodies(alloc, out, numbers, sections, &bodies)?)
 }

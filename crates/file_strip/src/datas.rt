@@ -16,14 +16,15 @@ ghost use Rattle.file_put.specs.inner.Growing.{AddsFields, AddsMethods};
 ghost use Rattle.program_types.specs.Content.{Class, Descriptor, Member, Method, Program};
 ghost use Rattle.tables_names.specs.Closure.{Five, NameRanks};
 ghost use Rattle.tables_names.specs.Needed.{needed};
-ghost use Rattle.file_strip.specs.inner.Keeping.{Keeps};
+ghost use Rattle.file_strip.specs.inner.Keeping.{ListsMembers, Keeps};
+ghost use Rattle.tables_rows.specs.Names.{AreRows};
 ghost use Rattle.file_strip.specs.inner.Members.{AreCarriedMembers, IsCarriedRun};
 ghost use Rattle.file_strip.specs.inner.Sites.{AddsClassData, HasRoom};
 
 use dex_base::{Fault, put_uleb};
 use dex_container::Sections;
 use dex_insn::IndexKind;
-use file_classes::{Entries, FieldEntry, MethodEntry, class_count, class_word, entries_at, word};
+use file_classes::{Entries, FieldEntry, MethodEntry, class_count};
 use file_put::{Placed, put_field, put_method};
 use file_renumber::Numbers;
 use std::alloc::Global;
@@ -130,44 +131,40 @@ fn add_data(
     Ok(place)
 }
 
-/// Appends the class data of row i, whose bodies are at the first of these offsets, and returns its offset and the other ones.
+/// Appends the class data of a class with these members, whose bodies are at the first of these offsets, and returns its offset and the
+/// other ones.
 fn put_class<'c>(
-    alloc: Global,
     out: &mut Vec<u8>,
     numbers: &Numbers,
-    sections: &Sections<'_>,
+    all: &Entries,
     codes: &'c [u32],
-    i: u32,
 ) -> Result<(u32, &'c [u32]), Fault>
-    requires kept { (p : Program) × Keeps sections.now numbers.now p × HasRoom p i codes.now out.old.items }
-    requires row { i < size_of sections.now section.class_defs }
-    ensures ok { IfOk result (λ x. (p : Program) → Keeps sections.now numbers.now p → AddsClassData p i codes.now x.1.now out.old.items out.new.items x.0) }
+    requires members { (s : Five) × (c : Class) × AreCarriedMembers numbers.now s (entries all.now) c × HasRoom c codes.now out.old.items }
+    ensures ok { IfOk result (λ x. (s : Five) (c : Class) → AreCarriedMembers numbers.now s (entries all.now) c → AddsClassData s c codes.now x.1.now out.old.items out.new.items x.0) }
     ensures memory { IsOkUnless result memory }
 {
-    let data = class_word(sections, i, word::CLASS_DATA_OFF);
-    let Some(all) = entries_at(alloc, sections, data)? else {
-        unreachable!()
-    };
     let (own, others) = codes.split_at(all.directs.len() + all.virtuals.len());
-    let place = add_data(out, numbers, &all, own)?;
+    let place = add_data(out, numbers, all, own)?;
     Ok((place, others))
 }
 
-/// Appends the class data of each class that has members. The bodies of all methods are at these offsets.
+/// Appends the class data of each class that has members, which are these. The bodies of all methods are at these offsets.
 ///
 /// It fails only when out of memory.
 ///
 /// ```
-/// let datas = put_datas(alloc, &mut out, &numbers, &sections, &codes.places)?;
+/// let datas = put_datas(alloc, &mut out, &numbers, &sections, &members, &codes.places)?;
 /// ```
 pub(crate) fn put_datas(
     alloc: Global,
     out: &mut Vec<u8>,
     numbers: &Numbers,
     sections: &Sections<'_>,
+    members: &[Entries],
     codes: &[u32],
 ) -> Result<Placed, Fault>
     requires front { 0 < length out.old.items }
+    requires members { AreRows ListsMembers sections.now section.class_defs members.now }
     requires kept { (p : Program) × Keeps sections.now numbers.now p × (length codes.now ≡ length (body_values p)) × (length out.old.items + wide_all wide_data p < 2 ^ 32) }
     ensures ok { IfOk result (λ r. (p : Program) → Keeps sections.now numbers.now p
         → Laid has_no_members (PacksData (NameRanks (needed p))) 1 wide_with_codes out.old.items out.new.items (with_code_places p codes.now) r.places.items r.items) }
@@ -176,7 +173,7 @@ pub(crate) fn put_datas(
     let mut placed = Placed::new(alloc);
     let mut rest = codes;
     for i in 0..class_count(sections) {
-        let (place, others) = put_class(alloc, out, numbers, sections, rest, i)?;
+        let (place, others) = put_class(out, numbers, &members[i as usize], rest)?;
         placed.add(place)?;
         rest = others;
     }

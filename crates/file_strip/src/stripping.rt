@@ -11,7 +11,9 @@ ghost use Rattle.file_limits.specs.Limits.{ClassBreaksLimit, Fits, IsFirstToBrea
 ghost use Rattle.file_limits.specs.inner.Sum.{IsSum};
 ghost use Rattle.file_limits.specs.Wide.{wide, wide_class};
 ghost use Rattle.file_read.specs.Means.{Means};
-ghost use Rattle.file_strip.specs.inner.Keeping.{Keeps};
+ghost use Rattle.dex_container.specs.Section as section;
+ghost use Rattle.tables_rows.specs.Names.{AreRows};
+ghost use Rattle.file_strip.specs.inner.Keeping.{ListsMembers, Keeps};
 ghost use Rattle.file_put.specs.inner.Assembled.{Assembled, DataIsLaid, SpellsTables, rows_of};
 ghost use Rattle.file_put.specs.inner.Making.{places_of};
 ghost use Rattle.file_strip.specs.inner.Ready.{IsReady};
@@ -28,7 +30,7 @@ use crate::texts::put_strings;
 use dex_base::{Fault, Seed, are_bytes, fault};
 use dex_container::Sections;
 use dex_insn::IndexKind;
-use file_classes::class_count;
+use file_classes::{Entries, class_count};
 use file_layout::{Rows, finish};
 use file_limits::plus;
 use file_put::{Data, space};
@@ -65,9 +67,11 @@ fn put_data(
     out: &mut Vec<u8>,
     sections: &Sections<'_>,
     numbers: &Numbers,
+    members: &[Entries],
     counts: Rows,
 ) -> Result<Data, Fault>
     requires ready { (p : Program) × IsReady sections.now numbers.now p }
+    requires members { AreRows ListsMembers sections.now section.class_defs members.now }
     requires counts { (p : Program) → IsReady sections.now numbers.now p → counts ≡ rows_of (needed p) p }
     requires front { length out.old.items ≡ tables_end counts }
     ensures ok { IfOk result (λ d. (p : Program) → IsReady sections.now numbers.now p → DataIsLaid out.new.items (needed p) p d.plan (places_of d)) }
@@ -78,13 +82,13 @@ fn put_data(
     let tables = out.len() as u32;
     let lists = put_lists(alloc, out, numbers, sections)?;
     let lists_end = out.len() as u32;
-    let codes = put_codes(alloc, out, numbers, sections)?;
+    let codes = put_codes(alloc, out, numbers, sections, members)?;
     let codes_end = out.len() as u32;
     let texts = put_strings(alloc, out, numbers, sections)?;
     let texts_end = out.len() as u32;
     let arrays = put_arrays(alloc, out, numbers, sections)?;
     let arrays_end = out.len() as u32;
-    let datas = put_datas(alloc, out, numbers, sections, &codes.places)?;
+    let datas = put_datas(alloc, out, numbers, sections, members, &codes.places)?;
     let datas_end = out.len() as u32;
     let ends = [lists_end, codes_end, texts_end, arrays_end, datas_end];
     Ok(Data::laid(counts, tables, ends, lists, codes, texts, arrays, datas))
@@ -126,8 +130,10 @@ fn assemble_kept(
     alloc: Global,
     sections: &Sections<'_>,
     numbers: &Numbers,
+    members: &[Entries],
 ) -> Result<Vec<u8>, Fault>
     requires ready { (p : Program) × IsReady sections.now numbers.now p }
+    requires members { AreRows ListsMembers sections.now section.class_defs members.now }
     ensures ok { IfOk result (λ file. (p : Program) → IsReady sections.now numbers.now p → Assembled file.items (needed p) p) }
     ensures near { OnOk result ((p : Program) → IsReady sections.now numbers.now p → (i : ℕ) → ¬ ClassBreaksLimit (NameRanks (needed p)) 89 p i) }
     ensures far { IfErr result (λ e. e ≢ memory → (e.code ≡ 89)
@@ -135,9 +141,9 @@ fn assemble_kept(
 {
     let counts = counts_of(sections, numbers);
     let mut out = space(alloc, counts.tables_end(), sections.bytes().len())?;
-    let data = put_data(alloc, &mut out, sections, numbers, counts)?;
-    let rows = table_rows(alloc, sections, numbers, counts.protos, &data)?;
-    finish(alloc, &mut out, &data.plan, &rows)?;
+    let laid = put_data(alloc, &mut out, sections, numbers, members, counts)?;
+    let rows = table_rows(alloc, sections, numbers, counts.protos, &laid)?;
+    finish(alloc, &mut out, &laid.plan, &rows)?;
     Ok(out)
 }
 
@@ -160,10 +166,14 @@ pub fn strip_framed(alloc: Global, seed: Seed, sections: &Sections<'_>) -> Resul
 {
     // Only for the proof: what holds of each value of its type.
     are_bytes(sections.bytes());
-    let Survey { marks, wide } = look_at_classes(alloc, seed, sections)?;
+    let Survey {
+        marks,
+        wide,
+        members,
+    } = look_at_classes(alloc, seed, sections)?;
     let numbers = marks.number();
     if is_too_big(sections, &numbers, wide) {
         return Err(Fault::at(fault::TOO_BIG, 0));
     }
-    Ok(assemble_kept(alloc, sections, &numbers)?)
+    Ok(assemble_kept(alloc, sections, &numbers, &members)?)
 }

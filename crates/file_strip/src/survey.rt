@@ -16,6 +16,7 @@ ghost use Rattle.file_limits.specs.inner.Sum.{IsSum};
 ghost use Rattle.file_limits.specs.Wide.{wide_class};
 ghost use Rattle.file_classes.specs.ClassRows.{IndexOrNone};
 ghost use Rattle.file_classes.specs.Classes.{SpellsClass, StaticsAt};
+ghost use Rattle.file_strip.specs.inner.Keeping.{ListsMembers};
 ghost use Rattle.file_strip.specs.inner.Survey.{FindsNames, HasFound, IsSurvey, SpellsMembers, names_of_head, names_of_members, wide_members};
 ghost use Rattle.file_classes.specs.inner.Reading.{entries};
 
@@ -39,11 +40,12 @@ pub(crate) struct Surveyed {
     pub section: Section,
 }
 
-/// What a file's classes need: the marked rows, and how many bytes the classes take at most.
+/// What a file's classes need: the marked rows, and how many bytes the classes take at most; and the members of each class.
 #[derive(Drop)]
 pub struct Survey {
     pub marks: Marks,
     pub wide: u64,
+    pub members: Vec<Entries>,
 }
 
 /// Surveys the static values at an offset, 0 for none, and returns how many bytes they need at most.
@@ -141,18 +143,19 @@ fn mark_head(marks: &mut Marks, sections: &Sections<'_>, i: u32) -> Result<(), F
     Ok(())
 }
 
-/// Surveys the class of row `i`, and returns how many bytes it needs at most.
+/// Surveys the class of row `i`, and returns how many bytes it needs at most, and its members.
 fn look_at_class(
     alloc: Global,
     found: &mut Surveyed,
     sections: &Sections<'_>,
     i: u32,
-) -> Result<u64, Fault>
+) -> Result<(u64, Entries), Fault>
     requires found { HasFound sections.now found.old }
     requires row { i < size_of sections.now section.class_defs }
     requires class { (c : Class) × SpellsClass sections.now i c }
     ensures found { OnOk result ((c : Class) → SpellsClass sections.now i c → FindsNames sections.now found.old found.new (names_of_class c)) }
-    ensures wide { IfOk result (λ n. (c : Class) → SpellsClass sections.now i c → IsSum n (wide_class c)) }
+    ensures wide { IfOk result (λ x. (c : Class) → SpellsClass sections.now i c → IsSum x.0 (wide_class c)) }
+    ensures members { IfOk result (λ x. ListsMembers sections.now i x.1) }
     ensures memory { IsOkUnless result memory }
 {
     sections.framed();
@@ -164,16 +167,17 @@ fn look_at_class(
     let values = class_word(sections, i, word::STATIC_VALUES_OFF);
     let members = look_at_members(alloc, found, sections, &all, values)?;
     let interfaces = list_size(sections, class_word(sections, i, word::INTERFACES_OFF));
-    Ok(plus(plus(32, interfaces), members))
+    Ok((plus(plus(32, interfaces), members), all))
 }
 
-/// Surveys all classes of a file that means a program: the rows of the names that the program needs are marked, and the classes need at
-/// most so many bytes, which is exact within the limit of a file.
+/// Surveys all classes of a file that means a program: the rows of the names that the program needs are marked, the classes need at
+/// most so many bytes, which is exact within the limit of a file, and these are the members of each class.
 ///
 /// It fails only when out of memory.
 pub fn look_at_classes(alloc: Global, seed: Seed, sections: &Sections<'_>) -> Result<Survey, Fault>
     requires classes { IsFramed sections.now × ((p : Program) × AreRows SpellsClass sections.now section.class_defs p) }
     ensures ok { IfOk result (λ survey. (p : Program) → AreRows SpellsClass sections.now section.class_defs p → IsSurvey sections.now survey p) }
+    ensures members { IfOk result (λ survey. AreRows ListsMembers sections.now section.class_defs survey.members.items) }
     ensures memory { IsOkUnless result memory }
 {
     let mut found = Surveyed {
@@ -183,9 +187,16 @@ pub fn look_at_classes(alloc: Global, seed: Seed, sections: &Sections<'_>) -> Re
         section: section_of(sections, kind::CODE_ITEM),
     };
     let mut wide: u64 = 0;
+    let mut members = Vec::new(alloc);
     for i in 0..class_count(sections) {
-        wide = plus(wide, look_at_class(alloc, &mut found, sections, i)?);
+        let (bytes, all) = look_at_class(alloc, &mut found, sections, i)?;
+        wide = plus(wide, bytes);
+        members.push(all)?;
     }
     let Surveyed { marks, .. } = found;
-    Ok(Survey { marks, wide })
+    Ok(Survey {
+        marks,
+        wide,
+        members,
+    })
 }

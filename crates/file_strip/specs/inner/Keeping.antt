@@ -2,7 +2,11 @@
 -- Page: "Dalvik Executable format", "File layout".
 use Rattle.std.specs.Prelude.{ℕ, List}
 use Rattle.dex_container.specs.Section as section
+use Rattle.file_classes.specs.ClassData.{EntriesAt}
+use Rattle.file_classes.specs.ClassRows.{class_data_off}
 use Rattle.file_classes.specs.Classes.{SpellsClass}
+use Rattle.file_classes.specs.declared.class_data.Entries.{Entries}
+use Rattle.file_classes.specs.inner.Reading.{entries}
 use Rattle.program_types.specs.Content.{Program}
 use Rattle.tables_names.specs.Needed.{needed}
 use Rattle.file_renumber.specs.inner.Marked.{Columns, Marked, AreMarks}
@@ -18,3 +22,7 @@ pub record Keeps (b : List ℕ) (numbers : Columns) (p : Program) : Type 0 where
   pub marks : Marked
   pub marked : AreMarks b marks (needed p)
   pub numbered : AreRowNumbers marks.columns numbers
+
+-- The class data of row i lists these members.
+abbrev pub ListsMembers : List ℕ → ℕ → Entries → Type 0
+ListsMembers b i all = EntriesAt b (class_data_off b i) (entries all)

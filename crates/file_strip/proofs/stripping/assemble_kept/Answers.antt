@@ -30,8 +30,8 @@ table_rows-requires c =
     let p = c.requires.ready.0 in
     let r = c.requires.ready.1 in
     let s = needed p in
-    let d = c.in_ok-data.data in
-    let l = (c.in_ok-data.ensures.ok p r).lies in
+    let d = c.in_ok-laid.laid in
+    let l = (c.in_ok-laid.ensures.ok p r).lies in
     record { kept = (p, r.keeps, ap (λ n. n.protos) (c.counts_of-counts.ensures p r.keeps), list_count _ s p d.plan (places_of d) l, text_count _ s p d.plan (places_of d) l, data_count _ s p d.plan (places_of d) l, array_count _ s p d.plan (places_of d) l) }
 
 pub finish-requires : goal.finish-requires
@@ -39,8 +39,8 @@ finish-requires c =
     let p = c.requires.ready.0 in
     let r = c.requires.ready.1 in
     let s = needed p in
-    let d = c.in_ok-data.data in
-    let laid = c.in_ok-data.ensures.ok p r in
+    let d = c.in_ok-laid.laid in
+    let laid = c.in_ok-laid.ensures.ok p r in
     let n = row_count s p (places_of d) c.in_ok-rows.rows.items (c.in_ok-rows.ensures.ok p r.keeps (ap (λ n. n.protos) (c.counts_of-counts.ensures p r.keeps))) in
     record {
       planned = laid.planned;
@@ -51,12 +51,12 @@ finish-requires c =
 
 pub returns-clause-ok : goal.returns-clause-ok
 returns-clause-ok c = λ p r.
-    let d = c.in_ok-data.data in
+    let d = c.in_ok-laid.laid in
     let f = rw c.deref.ensures.value at c.in_ok-finish.ensures.ok in
-    assembled c.put_data.new.out.items c.finish.new.out.items (needed p) p d.plan (places_of d) c.in_ok-rows.rows.items (c.in_ok-data.ensures.ok p r) (c.in_ok-rows.ensures.ok p r.keeps (ap (λ n. n.protos) (c.counts_of-counts.ensures p r.keeps))) f c.in_ok-finish.ensures.short
+    assembled c.put_data.new.out.items c.finish.new.out.items (needed p) p d.plan (places_of d) c.in_ok-rows.rows.items (c.in_ok-laid.ensures.ok p r) (c.in_ok-rows.ensures.ok p r.keeps (ap (λ n. n.protos) (c.counts_of-counts.ensures p r.keeps))) f c.in_ok-finish.ensures.short
 
 pub returns-clause-near : goal.returns-clause-near
-returns-clause-near c = c.in_ok-data.ensures.near
+returns-clause-near c = c.in_ok-laid.ensures.near
 
-pub returns-in_err-data-clause-far : goal.returns-in_err-data-clause-far
-returns-in_err-data-clause-far c = passed _ _ _ c.from_residual-in_err-data.ensures.1 (λ ne. c.in_err-data.ensures.far ne)
+pub returns-in_err-laid-clause-far : goal.returns-in_err-laid-clause-far
+returns-in_err-laid-clause-far c = passed _ _ _ c.from_residual-in_err-laid.ensures.1 (λ ne. c.in_err-laid.ensures.far ne)

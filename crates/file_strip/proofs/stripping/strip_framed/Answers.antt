@@ -42,7 +42,10 @@ module _ (c : Else-is_too_big) (p : Program) (m : Means c.args.sections.now p) w
   ready = ready_of c.args.sections.now c.number-numbers.result p are m keeps small
 
 pub assemble_kept-requires : goal.assemble_kept-requires
-assemble_kept-requires c = record { ready = (c.requires.means.0, ready (goal.at.assemble_kept-requires c).Else-is_too_big c.requires.means.0 c.requires.means.1) }
+assemble_kept-requires c = record {
+  ready = (c.requires.means.0, ready (goal.at.assemble_kept-requires c).Else-is_too_big c.requires.means.0 c.requires.means.1);
+  members = rw c.deref.ensures.value c.in_ok-marks.ensures.members;
+}
 
 pub returns-in_err-assemble_kept-clause-refused : goal.returns-in_err-assemble_kept-clause-refused
 returns-in_err-assemble_kept-clause-refused c =

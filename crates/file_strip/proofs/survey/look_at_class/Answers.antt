@@ -35,6 +35,9 @@ returns-clause-found c = λ k s.
     (finds_more b c.args.found.now mid c.look_at_members.new.found (names_of_head k) (names_of_members k)
     (finds_marked b c.args.found.now c.mark_head.new.marks (names_of_head k) (c.in_ok-mark_head.ensures.marked k s)) (c.in_ok-members.ensures.found k m))
 
+pub returns-clause-members : goal.returns-clause-members
+returns-clause-members c = subst (λ n. EntriesAt c.args.sections.now n (entries c.in-Some.all)) c.class_word-data.ensures (rw c.in-Some.is at c.in_ok-all.ensures.found)
+
 pub returns-clause-wide : goal.returns-clause-wide
 returns-clause-wide c = λ k s.
     let b = c.args.sections.now in
