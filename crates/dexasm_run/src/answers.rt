@@ -1,16 +1,20 @@
 //! The output of each job.
-ghost use Rattle.std.specs.Prelude.{◌≡◌, ◌≢◌, ◌++◌, IfOk, IfErr, OnOk};
+ghost use Rattle.std.specs.Prelude.{◌≡◌, ◌≢◌, ◌<◌, ◌++◌, IfOk, IfErr, IsTrue, OnOk};
 ghost use Rattle.dex_base.specs.Fault.{memory};
 ghost use Rattle.program_types.specs.View.{program, class};
+ghost use Rattle.file_read.specs.Refused.{IsRefused};
+ghost use Rattle.file_read.specs.inner.ByClass.{rows_left};
 ghost use Rattle.program_rules.specs.WellFormed.{WellFormed};
 ghost use Rattle.listing_lines.specs.declared.form.Form.TheVariants.{Two};
 ghost use Rattle.listing_print.specs.Canon.{class_text};
 ghost use Rattle.dexasm_run.specs.Answers.{Answer, Refusal, IsAssembled, IsUnassembled};
+ghost use Rattle.dexasm_run.specs.inner.Listed.{IsListed};
 
 use bumpalo::Bump;
 use code_align::align_all;
 use dex_base::{Fault, Seed};
 use dexasm_world::Job;
+use file_classes::Codes;
 use file_read::{ClassReader, check};
 use file_write::{strip_seeded, write_seeded};
 use listing_lines::Form;
@@ -91,7 +95,10 @@ fn checked(alloc: Global, given: &[u8]) -> Result<Vec<u8>, Fault>
     Ok(Vec::from_slice(alloc, b"ok\n")?)
 }
 
-/// The listing of the file's program. It is read and printed class by class: the code of one class is held at a time.
+/// How many code items are held in memory while a file is listed, before the next class is read.
+const MANY_CODES: usize = 256;
+
+/// The listing of the file's program. It is read and printed class by class: the code of a few classes is held at a time.
 fn list(alloc: Global, given: &[u8]) -> Result<Vec<u8>, Fault>
     ensures answered { IfOk result (λ made. Answer Job.List given.now made.items) }
     ensures refused { IfErr result (λ fault. fault ≢ memory → Refusal Job.List given.now fault) }
@@ -101,13 +108,40 @@ fn list(alloc: Global, given: &[u8]) -> Result<Vec<u8>, Fault>
     let mut codes = Bump::new(alloc);
     let mut text = Vec::new(alloc);
     put_opening(&mut text, Form::Two)?;
-    while let Some(class) = reader.next_class(alloc, &codes)? {
-        put_listed(alloc, &mut text, &class)?;
+    while put_some(alloc, &mut text, &mut reader, &codes)? {
         if codes.reset().is_err() {
             return Err(Fault::MEMORY);
         }
     }
     Ok(text)
+}
+
+/// Appends the next classes of the listing, until many code items are in the arena; false after the last class.
+fn put_some<'a, 'c>(
+    alloc: Global,
+    text: &mut Vec<u8>,
+    reader: &mut ClassReader<'a>,
+    arena: &'c Bump,
+) -> Result<bool, Fault>
+where
+    'a: 'c,
+    requires listed { IsListed text.old.items reader.old }
+    ensures listed { OnOk result (IsListed text.new.items reader.new) }
+    ensures bytes { reader.new.sections ≡ reader.old.sections }
+    ensures fewer { IfOk result (λ more. IsTrue more → rows_left reader.new < rows_left reader.old) }
+    ensures whole { IfOk result (λ more. ¬ IsTrue more → Answer Job.List reader.old.sections text.new.items) }
+    ensures refused { IfErr result (λ e. e ≢ memory → IsRefused reader.old.sections e) }
+{
+    let mut codes = Codes::new(alloc, arena);
+    loop {
+        let Some(class) = reader.next_class(&mut codes)? else {
+            return Ok(false);
+        };
+        put_listed(alloc, text, &class)?;
+        if codes.len() >= MANY_CODES {
+            return Ok(true);
+        }
+    }
 }
 
 /// A class of the listing.

@@ -4,7 +4,8 @@
 //! let heads = read_heads(alloc, &arena, &scratch, &sections, &tables)?; // faults of class rows
 //! let statics = read_statics(alloc, &arena, &scratch, &sections, &tables, heads)?; // faults of values
 //! let classes = read_classes(alloc, &arena, &sections, &tables, heads, statics)?; // faults of code items
-//! let found = read_class_at(alloc, &arena, &sections, &tables, heads, statics, 0)?; // one of these classes
+//! let mut codes = Codes::new(alloc, &arena);
+//! let found = read_class_at(&mut codes, &sections, &tables, heads, statics, 0)?; // one of these classes
 //!
 //! check_statics(alloc, &sections, &tables, heads)?; // faults of values, without a program
 //! check_codes(alloc, &sections, &tables, heads)?; // faults of code items
@@ -40,5 +41,5 @@ pub use laws::{
     class_is_one, classes_are_clear, rows_break_one_rule, rows_that_hold_keep_the_rules,
 };
 pub use members::Bare;
-pub use methods::{FoundClass, read_class_at, read_classes};
+pub use methods::{Codes, FoundClass, FoundCode, read_class_at, read_classes};
 pub use statics::{Statics, read_statics};

@@ -1,6 +1,6 @@
 //! The third pass over class_defs: the code of methods, which completes the classes. The first fault of registers is kept, and returned
 //! if there is no other.
-ghost use Rattle.std.specs.Prelude.{◌≢◌, ◌<◌, ◌≡◌, ◌⊎◌, IfOk, IfErr, IfSome, IfNone, OnOk, Some, length, map, option_map};
+ghost use Rattle.std.specs.Prelude.{◌≢◌, ◌<◌, ◌≡◌, ◌⊎◌, ℕ, List, IfOk, IfErr, IfSome, IfNone, OnOk, Some, length, map, option_map};
 ghost use Rattle.dex_base.specs.Fault.{memory};
 ghost use Rattle.dex_container.specs.Layout.{size_of};
 ghost use Rattle.dex_container.specs.Section as section;
@@ -10,8 +10,9 @@ ghost use Rattle.tables_rows.specs.Sorted.{RowsHold};
 ghost use Rattle.file_classes.specs.Classes.{SpellsClass};
 ghost use Rattle.file_classes.specs.ClassFaults.{BodyAt, BodyHolds, BodyFails, CodeHolds, RegistersFail, BodiesHold, BodiesBreak, RowRegistersHold, RowRegistersBreak};
 ghost use Rattle.file_classes.specs.inner.ClassFaults.{IsFirstClass};
+ghost use Rattle.std.specs.HashMap.{hash_map_len};
 ghost use Rattle.tables_rows.specs.inner.Cached.{AreCached};
-ghost use Rattle.file_classes.specs.inner.Reading.{IsHead, AreStatics, AreDone, FirstCodeBreaks, CodesUpTo, IsFound, SpellsBodies};
+ghost use Rattle.file_classes.specs.inner.Reading.{IsHead, AreStatics, AreCodesOf, AreDone, FirstCodeBreaks, CodesUpTo, IsFound, SpellsBodies};
 
 use crate::class_row::class_count;
 use crate::heads::Head;
@@ -29,9 +30,37 @@ use tables_rows::Tables;
 
 /// The code at an offset, and what is wrong with its registers, if anything is.
 #[derive(Clone, Copy)]
-pub(crate) struct FoundCode<'a> {
-    pub(crate) code: Option<&'a Code<'a>>,
-    pub(crate) past: Option<Fault>,
+pub struct FoundCode<'a> {
+    pub code: Option<&'a Code<'a>>,
+    pub past: Option<Fault>,
+}
+
+/// The code items of a file that were read into an arena, by their byte offsets: one that several methods refer to is read once.
+#[derive(Drop)]
+pub struct Codes<'a> {
+    pub alloc: Global,
+    pub arena: &'a Bump,
+    pub found: HashMap<u32, FoundCode<'a>>,
+}
+
+impl<'a> Codes<'a> {
+    /// None yet.
+    pub fn new(alloc: Global, arena: &'a Bump) -> Self
+        ensures { (b : List ℕ) → AreCodesOf b result }
+    {
+        Codes {
+            alloc,
+            arena,
+            found: HashMap::new(alloc),
+        }
+    }
+
+    /// How many code items were read.
+    pub fn len(&self) -> usize
+        ensures { result ≡ hash_map_len self.now.found }
+    {
+        self.found.len()
+    }
 }
 
 /// The methods of a list, and the first fault of their registers.
@@ -179,14 +208,14 @@ fn statics_at<'a>(sections: &Sections<'_>, statics: &[Statics<'a>], i: u32) -> S
     statics[i as usize]
 }
 
-/// The class of row i, one of those of `read_classes`: its code goes into the arena, and code that its methods share is read once.
+/// The class of row i, one of those of `read_classes`: its code goes into the arena of `codes`, but for what is there already.
 ///
 /// ```
 /// use bumpalo::Bump;
 /// use dex_container::open;
 /// use dex_file::write;
 /// use dex_listing::parse;
-/// use file_classes::{read_class_at, read_heads, read_statics};
+/// use file_classes::{Codes, read_class_at, read_heads, read_statics};
 /// use tables_rows::Tables;
 ///
 /// let arena = Bump::new(alloc);
@@ -195,13 +224,13 @@ fn statics_at<'a>(sections: &Sections<'_>, statics: &[Statics<'a>], i: u32) -> S
 /// let tables = Tables::read(alloc, &arena, &sections)?;
 /// let heads = read_heads(alloc, &arena, &arena, &sections, &tables)?;
 /// let statics = read_statics(alloc, &arena, &arena, &sections, &tables, heads)?;
-/// let found = read_class_at(alloc, &arena, &sections, &tables, heads, statics, 0)?;
+/// let mut codes = Codes::new(alloc, &arena);
+/// let found = read_class_at(&mut codes, &sections, &tables, heads, statics, 0)?;
 /// assert_eq!(rt; found.class.flags, 1);
 /// assert!(rt; found.past.is_none());
 /// ```
 pub fn read_class_at<'a>(
-    alloc: Global,
-    arena: &'a Bump,
+    codes: &mut Codes<'a>,
     sections: &Sections<'_>,
     tables: &Tables<'a>,
     heads: &[Head<'a, '_>],
@@ -212,21 +241,22 @@ pub fn read_class_at<'a>(
     requires heads { AreRows IsHead sections.now section.class_defs heads.now }
     requires statics { AreRows AreStatics sections.now section.class_defs statics.now }
     requires row { i < size_of sections.now section.class_defs }
+    requires codes { AreCodesOf sections.now codes.old }
+    ensures codes { OnOk result (AreCodesOf sections.now codes.new) }
     ensures ok { IfOk result (λ x. SpellsBodies sections.now i (view.class x.class)) }
     ensures hold { IfOk result (λ x. IfNone x.past (RowRegistersHold sections.now i)) }
     ensures past { IfOk result (λ x. IfSome x.past (RowRegistersBreak sections.now i)) }
     ensures err { IfErr result (λ e. e ≢ memory → BodiesBreak sections.now i e) }
 {
     let reader = Reader {
-        alloc,
-        arena,
+        alloc: codes.alloc,
+        arena: codes.arena,
         sections,
         tables,
     };
     let head = head_at(sections, heads, i);
     let values = statics_at(sections, statics, i);
-    let mut cached = HashMap::new(alloc);
-    reader.read_class(&mut cached, i, head, values)
+    reader.read_class(&mut codes.found, i, head, values)
 }
 
 /// The classes of all rows; else the first fault of a body, or where there is none, the first of registers.

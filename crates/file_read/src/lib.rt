@@ -5,7 +5,8 @@
 //! let program = read(alloc, &arena, &bytes)?; // refused by the first fault
 //! check(alloc, &bytes)?; // the same fault, and no program is held
 //! let mut reader = ClassReader::begin(alloc, &arena, &bytes)?;
-//! let class = reader.next_class(alloc, &codes)?; // the same fault, maybe later; of a class that was let go nothing is held
+//! let mut codes = Codes::new(alloc, &arena); // code that was read already, which may be let go between two classes
+//! let class = reader.next_class(&mut codes)?; // the same fault, maybe later
 //! ```
 //!
 //! docs/MAP.md has this crate's place among the others.

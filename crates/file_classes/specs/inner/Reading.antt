@@ -12,7 +12,9 @@ use Rattle.file_classes.specs.declared.class_data.Entries.{Entries}
 use Rattle.file_classes.specs.declared.members.Bare.{Bare}
 use Rattle.file_classes.specs.declared.heads.Head.{Head}
 use Rattle.file_classes.specs.declared.members.Members.{Members}
+use Rattle.file_classes.specs.declared.methods.Codes.{Codes}
 use Rattle.file_classes.specs.declared.methods.FoundCode.{FoundCode}
+use Rattle.tables_rows.specs.inner.Cached.{AreCached}
 use Rattle.file_classes.specs.ClassData.{EntriesAre}
 use Rattle.file_classes.specs.declared.statics.Statics.{Statics}
 use Rattle.file_classes.specs.ClassData as numbers
@@ -119,6 +121,10 @@ pub record IsFound (b : List ℕ) (off : ℕ) (x : FoundCode) : Type 0 where
   pub body : BodyAt b off (option_map (λ c. code c.now) x.code)
   pub hold : IfNone x.past (CodeHolds b off)
   pub past : IfSome x.past (RegistersFail b off)
+
+-- Each of the codes is one of this file, at its offset.
+abbrev pub AreCodesOf : List ℕ → Codes → Type 0
+AreCodesOf b codes = AreCached (IsFound b) codes.found
 
 -- The body at an offset stands, and the code does or this is the fault of its registers.
 pub record IsChecked (b : List ℕ) (off : ℕ) (found : Option Fault) : Type 0 where
