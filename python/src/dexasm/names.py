@@ -5,6 +5,7 @@ escapes of a listing. A text that isn't of a name's form makes no name: ValueErr
 """
 from __future__ import annotations
 
+import functools
 import json
 import re
 from operator import index
@@ -14,7 +15,7 @@ _SIMPLE = r"[A-Za-z0-9$\-_\u00a1-\u1fff\u2010-\u2027\u2030-\ud7ff\ue000-\uffef\U
 _MEMBER = rf"(?:{_SIMPLE}|<{_SIMPLE}>)"
 _TYPE = rf"(?:V|\[{{0,255}}(?:[ZBSCIJFD]|L{_SIMPLE}(?:/{_SIMPLE})*;))"
 _PROTO = rf"\((?:{_TYPE})*\){_TYPE}"
-_ONE_TYPE = re.compile(_TYPE)
+_PLAIN_MEMBER = re.compile(r"[A-Za-z0-9_$]+|<init>|<clinit>")
 _PRIMITIVES = {
     "V": "void",
     "Z": "boolean",
@@ -30,16 +31,22 @@ _PRIMITIVES = {
 NameT = TypeVar("NameT", bound="Name")
 
 
+@functools.cache
+def _pattern(form: str) -> re.Pattern[str]:
+    """(Compiled at the first use, since that takes a while.)"""
+    return re.compile(form)
+
+
 class Name(str):
     """What names have in common; none is of this kind itself."""
 
     __slots__ = ()
-    form: re.Pattern[str]
+    form: str  # a regular expression
 
     def __new__(cls: type[NameT], text: str) -> NameT:
         if type(text) is cls:
             return text
-        if not isinstance(text, str) or not cls.form.fullmatch(text):
+        if not isinstance(text, str) or not _pattern(cls.form).fullmatch(text):
             raise ValueError(f"no {cls.__name__}: {preview(text)}")
         return str.__new__(cls, text)
 
@@ -56,7 +63,7 @@ class Type(Name):
     """A type by its descriptor: `I`, `[Ljava/lang/String;`."""
 
     __slots__ = ()
-    form = re.compile(_TYPE)
+    form = _TYPE
 
     @property
     def element(self) -> Type | None:
@@ -80,11 +87,11 @@ class Proto(Name):
     """A prototype: `(I[J)V`."""
 
     __slots__ = ()
-    form = re.compile(_PROTO)
+    form = _PROTO
 
     @property
     def parameters(self) -> tuple[Type, ...]:
-        return tuple(_unchecked(Type, found) for found in _ONE_TYPE.findall(self, 1, self.index(")")))
+        return tuple(_unchecked(Type, found) for found in _pattern(_TYPE).findall(self, 1, self.index(")")))
 
     @property
     def returns(self) -> Type:
@@ -95,11 +102,11 @@ class FieldRef(Name):
     """A field: `LA;->count:I`."""
 
     __slots__ = ()
-    form = re.compile(rf"{_TYPE}->{_MEMBER}:{_TYPE}")
+    form = rf"{_TYPE}->{_MEMBER}:{_TYPE}"
 
     @classmethod
     def of(cls, owner: str, name: str, type: str) -> FieldRef:
-        return cls(f"{Type(owner)}->{member(name)}:{Type(type)}")
+        return _unchecked(cls, f"{Type(owner)}->{member(name)}:{Type(type)}")
 
     @property
     def owner(self) -> Type:
@@ -118,11 +125,11 @@ class MethodRef(Name):
     """A method: `LA;->show(I)V`."""
 
     __slots__ = ()
-    form = re.compile(rf"{_TYPE}->{_MEMBER}{_PROTO}")
+    form = rf"{_TYPE}->{_MEMBER}{_PROTO}"
 
     @classmethod
     def of(cls, owner: str, name: str, proto: str) -> MethodRef:
-        return cls(f"{Type(owner)}->{member(name)}{Proto(proto)}")
+        return _unchecked(cls, f"{Type(owner)}->{member(name)}{Proto(proto)}")
 
     @property
     def owner(self) -> Type:
@@ -137,14 +144,11 @@ class MethodRef(Name):
         return _unchecked(Proto, self[self.index("(") :])
 
 
-_MEMBER_NAME = re.compile(_MEMBER)
-
-
 def member(name: str) -> str:
     """The name of a field or of a method, if it is one."""
-    if not isinstance(name, str) or not _MEMBER_NAME.fullmatch(name):
-        raise ValueError(f"no name of a member: {preview(name)}")
-    return name
+    if isinstance(name, str) and (_PLAIN_MEMBER.fullmatch(name) or _pattern(_MEMBER).fullmatch(name)):
+        return name
+    raise ValueError(f"no name of a member: {preview(name)}")
 
 
 def operand(text: str) -> Type | FieldRef | MethodRef:
