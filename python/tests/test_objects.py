@@ -580,14 +580,14 @@ class Words(ObjectsTest):
 
 class Kept(ModuleTest):
     def test_long_lines(self) -> None:
-        """Lines are kept for the next such line, but no long ones: a file can't make the module large."""
+        """Names are kept for the next such name, but no long ones: a file can't make the module large."""
         for length, is_kept in ((10, True), (1000, False)):
-            line = f'const-string v0 "{"k" * length}"'
-            listing = f"dex 035 listing 2\nclass LA; 1\ndirect m ()V 9\ncode 1 0 0\n{line}\nreturn-void\nend code\nend class\n"
+            name = f'L{"k" * length};'
+            listing = f"dex 035 listing 2\nclass LA; 1\ndirect m ()V 9\ncode 1 0 0\nnew-instance v0 {name}\nreturn-void\nend code\nend class\n"
             found = Program.parse(listing)["LA;"].method("m()V").code
-            texts = [insn.text for insn in found.insns] if found else []
-            self.check_equal(f"text of {length}", texts, ["k" * length, None])
-            self.check_equal(f"kept, {length}", line in code._LINES, is_kept)
+            names = [insn.name for insn in found.insns] if found else []
+            self.check_equal(f"a name of {length}", names, [name, None])
+            self.check_equal(f"kept, {length}", name in code._OPERANDS, is_kept)
 
 
 class Changes(ObjectsTest):

@@ -9,7 +9,7 @@ from dataclasses import dataclass
 from typing import Any, ClassVar, NamedTuple, TypeVar
 
 from dexasm.canonical import canonical_reader
-from dexasm.code import Code, Insn
+from dexasm.code import Code, Insn, mentions
 from dexasm.names import (
     FieldRef,
     MethodRef,
@@ -174,7 +174,9 @@ class Class:
         for method in self.methods:
             by = str(self.ref(method))
             yield Reference(str(method.proto), False, by, "prototype")
-            yield from _code_references(method, by)
+            if method.code is not None:
+                for name, is_text, how in mentions(method.code):
+                    yield Reference(name, is_text, by, how)
 
     def parts(self) -> Iterator[tuple[Field | Method | None, str]]:
         """The lines of the class before its members, with None, and those of each member."""
@@ -207,16 +209,6 @@ def _value_references(field: Field, by: str) -> Iterator[Reference]:
             yield Reference(str(one.value), one.kind == "string", by, "value")
 
 
-def _code_references(method: Method, by: str) -> Iterator[Reference]:
-    for insn in method.insns:
-        if insn.name is not None:
-            yield Reference(str(insn.name), False, by, insn.mnemonic)
-        elif insn.text is not None:
-            yield Reference(insn.text, True, by, insn.mnemonic)
-    for each in method.code.tries if method.code else ():
-        yield from (Reference(str(catch.type), False, by, "catch") for catch in each.catches)
-
-
 Member = TypeVar("Member", Field, Method)
 
 
@@ -232,48 +224,45 @@ def _only(members: tuple[Member, ...], signature: str, mark: str) -> Member:
 
 @canonical_reader
 def _read_class(text: str) -> Class:
-    result: Class | None = None
-    at = 0
-    while True:
-        end = text.index("\n", at)
-        line = text[at:end]
-        at = end + 1
+    """The class of its lines, which are parted behind each code."""
+    if not text.endswith("\nend class\n"):
+        raise ValueError("no end")
+    name, bits = text[len("class ") : text.index("\n")].split(" ")
+    result = Class(type_of(name), int(bits, 16))
+    *parts, last = text[text.index("\n") + 1 : -len("end class\n")].split("\nend code\n")
+    for part in parts:
+        at = part.index("\ncode ") + 1
+        _read_members(result, part[: at - 1])
+        (result.virtuals or result.directs)[-1].code = Code.of_text(f"{part[at:]}\nend code\n")
+    _read_members(result, last.removesuffix("\n"))
+    return result
+
+
+def _read_members(result: Class, text: str) -> None:
+    """What lines of a class say that are no code's."""
+    for line in text.split("\n") if text else ():
         key, _, rest = line.partition(" ")
-        if key == "class":
-            name, _, bits = rest.partition(" ")
-            result = Class(type_of(name), int(bits, 16))
-            continue
-        assert result is not None
-        if line == "end class":
-            return result
-        if key == "code":
-            at = text.index("\nend code\n", at - 1) + len("\nend code\n")
-            _last_method(result).code = Code.of_text(text[end - len(line) : at])
+        if key == "virtual" or key == "direct":
+            name, proto, bits = rest.split(" ")
+            to = result.virtuals if key == "virtual" else result.directs
+            to.append(Method(unspelled(name), proto_of(proto), int(bits, 16)))
+        elif key == "static" or key == "instance":
+            (result.statics if key == "static" else result.instances).append(_read_field(rest))
+        elif key == "super":
+            result.superclass = type_of(rest)
+        elif key == "implements":
+            result.interfaces.append(type_of(rest))
+        elif key == "source":
+            result.source = unquoted(rest)
         else:
-            _read_line(result, key, rest)
+            raise ValueError(line)
 
 
-def _last_method(result: Class) -> Method:
-    return (result.virtuals or result.directs)[-1]
-
-
-def _read_line(result: Class, key: str, rest: str) -> None:
-    if key == "super":
-        result.superclass = type_of(rest)
-    elif key == "implements":
-        result.interfaces.append(type_of(rest))
-    elif key == "source":
-        result.source = unquoted(rest)
-    elif key in ("direct", "virtual"):
-        name, proto, bits = rest.split(" ")
-        to = result.directs if key == "direct" else result.virtuals
-        to.append(Method(unspelled(name), proto_of(proto), int(bits, 16)))
-    else:
-        words, _, value_text = rest.partition(" = ")
-        name, of, bits = words.split(" ")
-        value = _read_value(iter(_WORD.findall(value_text))) if value_text else None
-        one = Field(unspelled(name), type_of(of), int(bits, 16), value)
-        (result.statics if key == "static" else result.instances).append(one)
+def _read_field(rest: str) -> Field:
+    words, _, value_text = rest.partition(" = ")
+    name, of, bits = words.split(" ")
+    value = _read_value(iter(_WORD.findall(value_text))) if value_text else None
+    return Field(unspelled(name), type_of(of), int(bits, 16), value)
 
 
 def _read_value(words: Iterator[str], kind: str = "") -> Value:

@@ -21,6 +21,7 @@ from dexasm.names import (
     spelled,
     type_of,
     unquoted,
+    unspelled,
 )
 
 _MNEMONIC = re.compile(
@@ -235,16 +236,15 @@ class Code:
         self, registers: int = 0, ins: int = 0, outs: int = 0, insns: Iterable[Insn] = (), tries: Iterable[Try] = ()
     ) -> None:
         self.registers, self.ins, self.outs = registers, ins, outs
-        self._text: str | None = None
+        self._text: str | None = None  # the lines behind the first, from the end of that one on
         self._insns, self._tries = [*insns], [*tries]
 
     @classmethod
     def of_text(cls, text: str) -> Code:
         """From the lines that a listing has of it, `code` the first and `end code` the last, as `list` writes them."""
-        code = cls.__new__(cls)
-        head, _, rest = text.partition("\n")
-        code.registers, code.ins, code.outs = map(int, head.split(" ")[1:])
-        code._text = rest
+        code, end = cls.__new__(cls), text.index("\n")
+        code.registers, code.ins, code.outs = map(int, text[len("code ") : end].split(" "))
+        code._text = text[end:]
         return code
 
     @property
@@ -287,8 +287,8 @@ class Code:
             yield from one.labels()
 
     def __str__(self) -> str:
-        head = f"code {number(self.registers)} {number(self.ins)} {number(self.outs)}\n"
-        return head + (self._text if self._text is not None else "\n".join([*_lines(self), "end code\n"]))
+        head = f"code {number(self.registers)} {number(self.ins)} {number(self.outs)}"
+        return head + (self._text if self._text is not None else "\n".join(["", *_lines(self), "end code\n"]))
 
     def __repr__(self) -> str:
         return f"Code({self.registers!a}, {self.ins!a}, {self.outs!a}, ..)"
@@ -308,13 +308,40 @@ class Code:
             self._text = None
 
 
+# A line that ends with a name or a text, which no other word of a code begins like; and `catch`, which has a label last.
+_MENTIONS = re.compile(r'\n([a-z][^ \n]*) [v0-9{} ]*([A-Z\["].*)')
+
+Mention = tuple[str, bool, str]
+
+
+def mentions(code: Code) -> Iterable[Mention]:
+    """Each name and text of a code, whether it is a text, and the mnemonic or `catch`. The code stays unread."""
+    if code._text is None:
+        return _mentions(code)
+    return [
+        (unquoted(word), True, how)
+        if word[0] == '"'
+        else (unspelled(word.partition(" ")[0] if how == "catch" else word), False, how)
+        for how, word in _MENTIONS.findall(code._text)
+    ]
+
+
+def _mentions(code: Code) -> Iterator[Mention]:
+    for insn in code.insns:
+        if insn.name is not None:
+            yield str(insn.name), False, insn.mnemonic
+        elif insn.text is not None:
+            yield insn.text, True, insn.mnemonic
+    for one in code.tries:
+        yield from ((str(catch.type), False, "catch") for catch in one.catches)
+
+
 # ---- reading
 
 _NEW = Insn.__new__
-_MOST_KEPT, _LONGEST_KEPT = 1 << 15, 256  # lines or words, and characters of one
+_MOST_KEPT, _LONGEST_KEPT = 1 << 15, 256  # words or lines, and characters of one
 
-Words = list[str]
-Read = tuple[str, tuple[int, ...], int | None, Type | FieldRef | MethodRef | None, str | None, int | None]
+Registers = tuple[int, ...]
 
 
 class _Cache(dict[str, Any]):
@@ -332,9 +359,33 @@ class _Cache(dict[str, Any]):
         return found
 
 
-_REGISTERS = _Cache(lambda word: int(word[1:]))
-_OPERANDS = _Cache(operand_of)
-_LINES: dict[str, Read] = {}  # the meaning of lines without a label
+def _kind(key: str) -> str:
+    """What the last word of a line with this first word is; "" if that is a register or the first word itself."""
+    if key.endswith("-payload") or key in ("try", "catch", "catchall"):
+        return key
+    form = _form(key)
+    if form.name:
+        return "text" if form.name == "text" else "name"
+    return "target" if form.target else "literal" if form.literal else ""
+
+
+def _read_registers(words: str) -> tuple[Registers, int | None]:
+    """The registers of the words before a name or a target, and of a range how many it has."""
+    mnemonic, *rest = words.split(" ")
+    if rest[:1] == ["{"]:
+        rest = rest[1:-1]
+    count = int(rest.pop()) if rest and rest[-1].isdigit() else None
+    return tuple([int(word[1:]) for word in rest]), count
+
+
+def _read_plain(line: str) -> tuple[str, Registers, int | None]:
+    """The mnemonic, the registers and the literal of a line that has nothing else."""
+    mnemonic, *words = line.split(" ")
+    literal = int(words.pop()) if _KINDS[mnemonic] else None
+    return mnemonic, tuple([int(word[1:]) for word in words]), literal
+
+
+_KINDS, _OPERANDS, _REGISTERS, _PLAIN = _Cache(_kind), _Cache(operand_of), _Cache(_read_registers), _Cache(_read_plain)
 
 
 @canonical_reader
@@ -343,22 +394,22 @@ def _read_lines(text: str) -> tuple[list[Insn], list[Try]]:
     tries: list[Try] = []
     labels: dict[str, Label] = {}
     here: Label | None = None
-    for line in text.split("\n"):
-        known = _LINES.get(line)
-        if known is not None:
+    if not text.endswith("\nend code\n"):
+        raise ValueError("no end")
+    for line in text[1 : -len("end code\n")].split("\n")[:-1]:
+        plain = _PLAIN.get(line)
+        if plain is not None:
             insn = _NEW(Insn)
-            insn.mnemonic, insn.registers, insn.literal, insn.name, insn.text, insn.count = known
-            insn.target = None
-        elif line[:1] == ":":
+            insn.mnemonic, insn.registers, insn.literal = plain
+            insn.target = insn.name = insn.text = insn.count = None
+        elif line[0] == ":":
             here = _label(labels, line)
             continue
-        elif line[:4] == "try " or line[:5] == "catch" or line == "end code":
-            _read_try(line, labels, tries)
-            if line == "end code":
-                break
-            continue
         else:
-            insn = _read_insn(line, labels)
+            found = _read_line(line, labels, tries)
+            if found is None:
+                continue
+            insn = found
         if here is not None:
             here.insn, here = insn, None
         insns.append(insn)
@@ -372,69 +423,33 @@ def _label(labels: dict[str, Label], word: str) -> Label:
     return label
 
 
-def _read_try(line: str, labels: dict[str, Label], tries: list[Try]) -> None:
-    words = line.split(" ")
+def _read_line(line: str, labels: dict[str, Label], tries: list[Try]) -> Insn | None:
+    """The instruction of a line; None of a line of tries."""
+    mnemonic = line.partition(" ")[0]
+    kind = _KINDS[mnemonic]
+    if kind == "" or kind == "literal":
+        return _fill(_NEW(Insn), *_PLAIN[line])
+    head, _, last = line.partition(' "') if kind == "text" else line.rpartition(" ")
+    if kind == "name":
+        registers, count = _REGISTERS[head]
+        return _fill(_NEW(Insn), mnemonic, registers, None, None, _OPERANDS[last], None, count)
+    if kind == "target":
+        return _fill(_NEW(Insn), mnemonic, _REGISTERS[head][0], None, _label(labels, last))
+    if kind == "text":
+        return _fill(_NEW(Insn), mnemonic, _REGISTERS[head][0], text=unquoted(f'"{last}'))
+    if kind[-8:] == "-payload":
+        return _read_payload(line.split(" "), labels)
+    _read_try(line.split(" "), labels, tries)
+    return None
+
+
+def _read_try(words: list[str], labels: dict[str, Label], tries: list[Try]) -> None:
     if words[0] == "try":
         tries.append(Try(_label(labels, words[1]), _label(labels, words[2])))
     elif words[0] == "catch":
         tries[-1].catches.append(Catch(type_of(words[1]), _label(labels, words[2])))
-    elif words[0] == "catchall":
+    else:
         tries[-1].catch_all = _label(labels, words[1])
-
-
-def _kind(mnemonic: str) -> str:
-    """What stands in the words after a mnemonic, behind the registers."""
-    form = _form(mnemonic)
-    if form.is_list or form.is_range:
-        return "list" if form.is_list else "range"
-    return "target" if form.target else "literal" if form.literal else "name" if form.name else ""
-
-
-_KINDS = _Cache(_kind)
-
-
-def _read_insn(line: str, labels: dict[str, Label]) -> Insn:
-    if '"' in line:
-        line, _, word = line.partition(' "')
-        mnemonic, register = line.split(" ")
-        return _cache_insn(f'{line} "{word}', mnemonic, (_REGISTERS[register],), text=unquoted(f'"{word}'))
-    words = line.split(" ")
-    mnemonic, last = words[0], words[-1]
-    if mnemonic[-8:] == "-payload":
-        return _read_payload(words, labels)
-    kind = _KINDS[mnemonic]
-    if kind == "list":
-        return _cache_insn(line, mnemonic, _registers(words[2:-2]), name=_OPERANDS[last])
-    if kind == "range":
-        return _cache_insn(line, mnemonic, _registers(words[1:2]), name=_OPERANDS[last], count=int(words[2]))
-    if kind == "target":
-        return _fill(_NEW(Insn), mnemonic, _registers(words[1:-1]), target=_label(labels, last))
-    if kind == "literal":
-        return _cache_insn(line, mnemonic, _registers(words[1:-1]), int(last))
-    if kind == "name":
-        return _cache_insn(line, mnemonic, _registers(words[1:-1]), name=_OPERANDS[last])
-    return _cache_insn(line, mnemonic, _registers(words[1:]))
-
-
-def _registers(parser: Words) -> tuple[int, ...]:
-    return tuple([_REGISTERS[word] for word in parser])
-
-
-def _cache_insn(
-    line: str,
-    mnemonic: str,
-    registers: tuple[int, ...],
-    literal: int | None = None,
-    name: Type | FieldRef | MethodRef | None = None,
-    text: str | None = None,
-    count: int | None = None,
-) -> Insn:
-    """Return the instruction of a line without a label, and keep it for the next such line."""
-    if len(line) <= _LONGEST_KEPT:
-        if len(_LINES) >= _MOST_KEPT:
-            _LINES.clear()
-        _LINES[line] = mnemonic, registers, literal, name, text, count
-    return _fill(_NEW(Insn), mnemonic, registers, literal, None, name, text, count)
 
 
 def _read_payload(words: list[str], labels: dict[str, Label]) -> Insn:
