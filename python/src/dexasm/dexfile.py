@@ -5,7 +5,11 @@ What the program doesn't need (annotations, debug information) dexasm doesn't lo
 number is asked whether it leads into the file."""
 from __future__ import annotations
 
+import functools
+import re
 import struct
+from itertools import accumulate
+from operator import itemgetter
 
 from dexasm.opcodes import ROWS
 
@@ -48,9 +52,12 @@ class Malformed(Exception):
 
 def unpack(form: str, data: bytes, at: int) -> tuple[int, ...]:
     """The numbers at a place."""
-    if not 0 <= at <= len(data) - struct.calcsize(form):
-        raise Malformed
-    return struct.unpack_from(form, data, at)
+    try:
+        if at >= 0:
+            return struct.unpack_from(form, data, at)
+    except (struct.error, OverflowError):
+        pass
+    raise Malformed
 
 
 def end_of_text(data: bytes, at: int) -> int:
@@ -84,8 +91,35 @@ class Reader:
         self.at += 4 * count
         return found
 
+    def skip_to(self, end: int) -> None:
+        """Goes on behind bytes that are read."""
+        if self.left:
+            self.left[0] -= end - self.at
+            if self.left[0] < 0:
+                raise Malformed
+        self.at = end
+
+    def match(self, pattern: re.Pattern[bytes]) -> bool:
+        """Reads what the pattern matches here, and answers whether that is anything."""
+        found = pattern.match(self.data, self.at)
+        if found:
+            self.skip_to(found.end())
+        return found is not None
+
+    def number(self, size: int) -> int:
+        """One of so many bytes."""
+        found = self.data[self.at : self.at + size]
+        if len(found) < size:
+            raise Malformed
+        self.skip_to(self.at + size)
+        return int.from_bytes(found, "little")
+
     def uleb(self) -> int:
-        return self.leb()[0]
+        number, _, end = leb_at(self.data, self.at)
+        if self.left:
+            self.skip_to(end)
+        self.at = end
+        return number
 
     def sleb(self) -> int:
         number, bits = self.leb()
@@ -107,13 +141,29 @@ class Reader:
 
     def leb(self) -> tuple[int, int]:
         """A LEB128 number without its sign, and how many bits it has."""
-        number = 0
-        for shift in range(0, 35, 7):
-            byte = self.byte()
-            number |= (byte & 0x7F) << shift
-            if byte < 0x80:
-                return number, shift + 7
-        raise Malformed
+        number, bits, end = leb_at(self.data, self.at)
+        self.skip_to(end)
+        return number, bits
+
+
+def leb_at(data: bytes, at: int) -> tuple[int, int, int]:
+    """The LEB128 number there without its sign, how many bits it has, and the place behind it."""
+    number, bits = 0, 0
+    for byte in data[at : at + 5]:
+        number |= (byte & 0x7F) << bits
+        bits += 7
+        if byte < 0x80:
+            return number, bits, at + bits // 7
+    raise Malformed
+
+
+def ulebs(data: bytes, at: int, count: int) -> tuple[list[int], int]:
+    """So many numbers from a place on, and the place behind them."""
+    found: list[int] = []
+    for _ in range(count):
+        number, _, at = leb_at(data, at)
+        found.append(number)
+    return found, at
 
 
 PAYLOADS = {0x0100: "packed-switch-payload", 0x0200: "sparse-switch-payload", 0x0300: "array-payload"}
@@ -161,6 +211,35 @@ def insns(units: Sequence[int]) -> Iterator[tuple[int, int]]:
     return ((units[at] & 0xFF, at) for at, _ in steps(units) if units[at] not in PAYLOADS)
 
 
+def _opcodes(units: int, has_index: bool) -> bytes:
+    """A pattern for those of so many units."""
+    known = (op for op, row in enumerate(ROWS) if row and op not in (0, JUMBO) and UNITS[op] == units)
+    return b"[%s]" % b"".join(b"\\x%02x" % op for op in known if (INDEX[op] is not None) == has_index)
+
+
+@functools.cache
+def _indexed() -> re.Pattern[bytes]:
+    """Instructions without an index, then one with an index, the end, or a byte with which no instruction begins."""
+    plain = (_opcodes(units, False) for units in (1, 2, 3, 5))
+    index = (_opcodes(units, True) for units in (2, 3))
+    return re.compile(
+        rb"(?s)(?:\x00\x00|%s.|%s.{3}|%s.{5}|%s.{9})*(?:(%s).(..)|(%s).(..)..|\x1b.(....)|\Z|(.))" % (*plain, *index)
+    )
+
+
+def mentions_of(data: bytes, at: int, count: int) -> set[tuple[str, int]]:
+    """What so many units of code mention. (Code with payloads is read step by step.)"""
+    found = _indexed().findall(data[at : at + 2 * count])
+    if any(other for *_, other in found):
+        units = unpack(f"<{count}H", data, at)
+        return {(table, index_at(units, i)) for op, i in insns(units) if (table := INDEX[op])}
+    return {
+        (INDEX[(op or long or b"\x1b")[0]] or "", int.from_bytes(index or other or far, "little"))
+        for op, index, long, other, far, _ in found
+        if op or long or far
+    }
+
+
 class TypeList:
     """A type_list: where it ends, and its types."""
 
@@ -192,8 +271,7 @@ class Code:
         self.begin = at
         _, _, _, tries, self.debug, count = unpack("<HHHHII", data, at)
         self.end = at + 16 + 2 * count
-        units = unpack(f"<{count}H", data, at + 16)
-        self.mentions = {(table, index_at(units, i)) for op, i in insns(units) if (table := INDEX[op])}
+        self.mentions = mentions_of(data, at + 16, count)
         if tries:
             self.read_handlers(Reader(data, self.end + 2 * (count % 2) + 8 * tries))
 
@@ -230,7 +308,7 @@ def values(reader: Reader, count: int, has_names: bool = False) -> Iterator[tupl
             number = reader.uleb()
             due.append([number, True])
         elif kind not in (NULL, BOOLEAN):
-            number = sum(reader.byte() << 8 * i for i in range(number + 1))
+            number = reader.number(number + 1)
         yield begin, head, number
 
 
@@ -252,6 +330,8 @@ class Owners:
 
 
 def from_mutf8(spelled: bytes) -> str:
+    if spelled.isascii():
+        return spelled.decode("ascii")
     try:
         text = spelled.replace(b"\xc0\x80", b"\0").decode("utf8", "surrogatepass")
     except UnicodeDecodeError:
@@ -270,6 +350,11 @@ class Tables:
         for name, place, size in TABLES:
             self.count[name], self.at[name] = unpack("<II", data, place)
             self.row[name] = size
+
+    def row_numbers(self, table: str, form: str) -> Iterator[tuple[Any, ...]]:
+        """The numbers of each row of a table, which is in the file."""
+        begin, end = self.at[table], self.at[table] + self.count[table] * self.row[table]
+        return struct.iter_unpack(form, memoryview(self.data)[begin:end])
 
     def numbers(self, table: str, index: int, form: str) -> tuple[int, ...]:
         return unpack(form, self.data, self.at[table] + index * self.row[table])
@@ -430,18 +515,14 @@ class Dex(Tables):
         return self.text(self.numbers("type", type_, "<I")[0])
 
     def read_members(self, at: int, row: int) -> None:
-        reader = Reader(self.data, at)
-        counts = [reader.uleb() for _ in range(4)]
-        for table, count in zip(("field", "field", "method", "method"), counts):
-            index = 0
-            for _ in range(count):
-                index += reader.uleb()
-                reader.uleb()
+        counts, end = ulebs(self.data, at, 4)
+        for table, each, count in zip(("field", "field", "method", "method"), (2, 2, 3, 3), counts):
+            numbers, end = ulebs(self.data, end, each * count)
+            for index in accumulate(numbers[::each]):
                 self.owners.give(table, index, row)
-                code = reader.uleb() if table == "method" else 0
-                if code:
-                    self.read_code(code, row)
-        self.claim(at, reader.at, TABLE, row)
+            for code in filter(None, numbers[2::3] if table == "method" else ()):
+                self.read_code(code, row)
+        self.claim(at, end, TABLE, row)
 
     def read_code(self, at: int, row: int) -> None:
         code = self.item(Code, at)
@@ -452,12 +533,13 @@ class Dex(Tables):
     def read_names(self) -> None:
         """The rows of the five tables, and what they lead to: a name is whose the names with it are."""
         give, of = self.owners.give, self.owners.of
-        for table, parts in (("field", ("type", "type", "string")), ("method", ("type", "proto", "string"))):
-            for index, owner in enumerate(of[table]):
-                for part, number in zip(parts, self.numbers(table, index, "<HHI") if owner != NOBODY else ()):
-                    give(part, number, owner)
-        for index, owner in enumerate(of["proto"]):
-            shorty, returns, parameters = self.numbers("proto", index, "<III")
+        for table, part in (("field", "type"), ("method", "proto")):
+            for (class_, type_, name), owner in zip(self.row_numbers(table, "<HHI"), of[table]):
+                if owner != NOBODY:
+                    give("type", class_, owner)
+                    give(part, type_, owner)
+                    give("string", name, owner)
+        for (shorty, returns, parameters), owner in zip(self.row_numbers("proto", "<III"), of["proto"]):
             if owner != NOBODY:
                 give("string", shorty, owner)
                 give("type", returns, owner)
@@ -465,23 +547,24 @@ class Dex(Tables):
                 self.give_all(self.item(TypeList, parameters), owner)
             elif parameters:
                 self.claim(parameters, self.item(TypeList, parameters).end, UNUSED, NOBODY)
-        for index, owner in enumerate(of["type"]):
+        for (name,), owner in zip(self.row_numbers("type", "<I"), of["type"]):
             if owner != NOBODY:
-                give("string", self.numbers("type", index, "<I")[0], owner)
+                give("string", name, owner)
         for table, _, size in TABLES[:5]:
             kind = STRINGS if table == "string" else TABLE
             for index, owner in enumerate(of[table]):
                 begin = self.at[table] + size * index
                 self.claim(begin, begin + size, kind if owner != NOBODY else UNUSED, owner)
-        for index, owner in enumerate(of["string"]):
-            self.claim(*self.string_data(index), STRINGS if owner != NOBODY else UNUSED, owner)
+        for (at,), owner in zip(self.row_numbers("string", "<I"), of["string"]):
+            self.claim(at, self.end_of_string(at), STRINGS if owner != NOBODY else UNUSED, owner)
+
+    def end_of_string(self, at: int) -> int:
+        return end_of_text(self.data, ulebs(self.data, at, 1)[1]) + 1
 
     def string_data(self, index: int) -> tuple[int, int]:
         """Where a string's item begins, and where it ends."""
-        reader = Reader(self.data, self.numbers("string", index, "<I")[0])
-        begin = reader.at
-        reader.uleb()
-        return begin, end_of_text(self.data, reader.at) + 1
+        at = self.numbers("string", index, "<I")[0]
+        return at, self.end_of_string(at)
 
     # ---- parts of what a class has
 
@@ -530,10 +613,21 @@ def read_debug(reader: Reader) -> Links:
     reader.uleb()
     for _ in range(reader.uleb()):
         reader.uleb()
-    while op := reader.byte():
-        for _ in range(DEBUG_NUMBERS.get(op, 0)):
-            reader.uleb()
+    while reader.match(_debug_opcodes()):
+        pass
+    if reader.byte():
+        raise Malformed
     return ()
+
+
+@functools.cache
+def _debug_opcodes() -> re.Pattern[bytes]:
+    """Opcodes of debug information with their numbers, of which a long item has many."""
+    number = rb"(?:[\x80-\xff]{0,4}[\x00-\x7f])"
+    single = b"".join(b"\\x%02x" % op for op in range(1, 256) if op not in DEBUG_NUMBERS)
+    pairs = b"".join(b"\\x%02x" % op for op, count in DEBUG_NUMBERS.items() if count == 1)
+    form = rb"(?:[%s]|[%s]%s|\x03%s{3}|\x04%s{4}){1,1000}"
+    return re.compile(form % (single, pairs, number, number, number))
 
 
 def read_directory(reader: Reader) -> Links:
@@ -562,22 +656,24 @@ def read_annotation(reader: Reader) -> Links:
     return ()
 
 
-def disjoint(claims: Iterable[tuple[tuple[int, int, Kind], Owner]]) -> Iterator[tuple[int, int, Kind, Owner]]:
-    """The same items without bytes that an item before them has."""
-    at = 0
-    for (begin, end, kind), owner in sorted(claims):
+def disjoint(claims: Iterable[tuple[int, int, Kind, Owner]]) -> list[tuple[int, int, Kind, Owner]]:
+    """The same items, which are sorted by their places, without bytes that an item before them has."""
+    found, at = [], 0
+    for item in claims:
+        begin, end, kind, owner = item
         if end > max(begin, at):
-            yield max(begin, at), end, kind, owner
+            found.append(item if begin >= at else (at, end, kind, owner))
             at = end
+    return found
 
 
 def between(
     taken: list[tuple[int, int, Kind, Owner]], rest: list[tuple[int, int, Kind, Owner]]
 ) -> Iterator[tuple[int, int, Kind, Owner]]:
     """Those parts of `rest` that lie between what is taken."""
-    gaps = zip([0, *(end for _, end, _, _ in taken)], [*(begin for begin, _, _, _ in taken), 1 << 64])
+    bounds = zip([0, *(end for _, end, _, _ in taken)], [*(begin for begin, _, _, _ in taken), 1 << 64])
     at = 0
-    for low, high in gaps:
+    for low, high in [(low, high) for low, high in bounds if low < high]:
         while at < len(rest) and rest[at][0] < high:
             begin, end, kind, owner = rest[at]
             if min(end, high) > max(begin, low):
@@ -595,13 +691,12 @@ def sizes(dex: Dex, parts: dict[Claim, str] | None = None) -> tuple[list[str], d
     length.
     """
     parts = parts or {}
-    claims = {claim: parts.get(claim, owner) for claim, owner in dex.claims.items()}
-
-    def is_programs(claim: tuple[Claim, int | str]) -> bool:
-        return claim[0][2] not in (DEBUG, UNUSED)
-
-    program = list(disjoint(filter(is_programs, claims.items())))
-    rest = list(disjoint(claim for claim in claims.items() if not is_programs(claim)))
+    items: list[tuple[int, int, int, int | str]] = [(*claim, owner) for claim, owner in dex.claims.items()]
+    if parts:
+        items = [(*item[:3], parts.get(item[:3], item[3])) for item in items]
+    items.sort(key=itemgetter(0, 1, 2))
+    program = disjoint([item for item in items if item[2] < DEBUG])
+    rest = disjoint([item for item in items if item[2] >= DEBUG])
     owners = *range(len(dex.names)), SEVERAL, NOBODY, FILE, *parts.values()
     taken = {owner: [0] * len(KINDS) for owner in owners}
     for begin, end, kind, owner in (*program, *between(program, rest)):
@@ -610,9 +705,13 @@ def sizes(dex: Dex, parts: dict[Claim, str] | None = None) -> tuple[list[str], d
     return dex.names, taken
 
 
-def code_sizes(dex: Dex) -> list[list[int]]:
+def code_sizes(tables: Tables) -> list[list[int]]:
     """Of each class, by its row, how many bytes the code item of each of its methods takes that has one, in their
     order.
     """
-    rows = range(dex.count["class"])
-    return [[dex.item(Code, at).end - at for at, _ in dex.codes_of(row, None)] for row in rows]
+
+    @functools.cache  # (many may share one)
+    def size(at: int) -> int:
+        return Code(tables.data, at).end - at
+
+    return [[size(at) for at, _ in tables.codes_of(row, None)] for row in range(tables.count["class"])]

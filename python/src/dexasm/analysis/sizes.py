@@ -110,14 +110,14 @@ def bytes_of(dex: Dex, by: str = "class") -> Rows:
     return rows_by[by](dex)
 
 
-def rows_of(dex: Dex, stripped: Dex | None, by: str = "class") -> dict[str, list[int | None]]:
+def rows_of(data: bytes, stripped: bytes | None, by: str = "class") -> dict[str, list[int | None]]:
     """Each name with its numbers, in the order of COLUMNS; what strip takes away is None where there is no stripped
-    file.
+    file. (Of the two files one is in memory at a time.)
     """
-    left = bytes_of(stripped, by) if stripped else {}
+    left = bytes_of(Dex(stripped), by) if stripped is not None else None
     return {
-        name: [sum(found), *found, sum(found) - sum(left.get(name, ())) if stripped else None]
-        for name, found in bytes_of(dex, by).items()
+        name: [sum(found), *found, None if left is None else sum(found) - sum(left.get(name, ()))]
+        for name, found in bytes_of(Dex(data), by).items()
     }
 
 

@@ -8,7 +8,7 @@ from dexasm.analysis.sizes import rows_of
 from dexasm.cli.core import as_dex, concatenate, read_program, run_job
 from dexasm.cli.errors import FAILED, CliError
 from dexasm.cli.main import print_error
-from dexasm.dexfile import KINDS, Dex, Tables, addresses, code_sizes
+from dexasm.dexfile import KINDS, Tables, addresses, code_sizes
 
 TYPE_CHECKING = False  # (as in typing)
 if TYPE_CHECKING:
@@ -32,10 +32,9 @@ class File:
             raise CliError(f"{self.name}: {stripped.message()}")
         if stripped.status:
             print_error(f"{prog}: {self.name}: it can't be stripped, so nothing is said of that: {stripped.message()}")
-        dex = Dex(self.data)
-        self.tables: Tables = dex
-        self.sizes = rows_of(dex, None if stripped.status else Dex(stripped.output))
-        self.code_sizes = [size for row in code_sizes(dex) for size in row]
+        self.tables = Tables(self.data)
+        self.sizes = rows_of(self.data, None if stripped.status else stripped.output)
+        self.code_sizes = [size for row in code_sizes(self.tables) for size in row]
         self.stripped = None if stripped.status else len(self.data) - len(stripped.output)
 
     def size_of(self, name: str) -> str:

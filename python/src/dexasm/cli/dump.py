@@ -363,8 +363,8 @@ class Dump:
 
     def pieces(self) -> Iterator[tuple[int, int, str, str]]:
         """Each byte of the file once: begin, end, the item's name, and what it is."""
-        needed = list(disjoint(((begin, end, kind), 0) for begin, end, kind in self.needed))
-        others = list(disjoint(((begin, end, kind), 1) for begin, end, kind in self.others))
+        needed = disjoint((*item, 0) for item in sorted(self.needed))
+        others = disjoint((*item, 1) for item in sorted(self.others))
         at = 0
         for begin, end, kind, other in heapq.merge(needed, between(needed, others)):
             if begin > at:

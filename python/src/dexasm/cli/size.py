@@ -115,11 +115,11 @@ def accepted_inputs(path: str) -> Iterator[Input]:
         yield source
 
 
-def with_stripped(source: Input, prog: str) -> tuple[Dex, Dex | None]:
+def with_stripped(source: Input, prog: str) -> tuple[bytes, bytes | None]:
     stripped = run_job("strip", data=source.data)
     if stripped.status:
         print_error(f"{prog}: {source.name}: it can't be stripped, so the column strip is empty: {stripped.message()}")
-    return Dex(source.data), None if stripped.status else Dex(stripped.output)
+    return source.data, None if stripped.status else stripped.output
 
 
 def total_of(rows: Iterable[dict[str, Any]]) -> dict[str, Any]:
@@ -133,15 +133,15 @@ def total_of(rows: Iterable[dict[str, Any]]) -> dict[str, Any]:
 
 def one_file(path: str, args: Namespace, prog: str) -> None:
     inputs = [*accepted_inputs(path)]
-    size, dexes = sum(len(one.data) for one in inputs), [with_stripped(one, prog) for one in inputs]
+    size, files = sum(len(one.data) for one in inputs), [with_stripped(one, prog) for one in inputs]
     rows: dict[str, Numbers] | list[Row]
     # (first the page, which nobody has to read what is printed for)
     if args.html is not None:
-        rows = total_of(rows_of(*both) for both in dexes)
+        rows = total_of(rows_of(*both) for both in files)
         from dexasm.pages.size_page import html_page
 
         write_file(args.html, html_page(os.path.basename(path), COLUMNS, rows, by_package(rows)).encode("utf8"))
-    rows = sorted_by(args.sort, total_of(rows_of(*both, args.by) for both in dexes))
+    rows = sorted_by(args.sort, total_of(rows_of(*both, args.by) for both in files))
     heads = *COLUMNS, "name"
     cells = [[*numbers, name] for name, numbers in rows]
     if args.json:

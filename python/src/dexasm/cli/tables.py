@@ -68,6 +68,8 @@ class Readable(Tables):
         self.data, self.left = data, BUDGET * len(data) + LEAST
         # (a table that runs past the end has the rows that lie in the file)
         self.rows = {name: min(self.count[name], max(0, len(data) - self.at[name]) // size) for name, _, size in TABLES}
+        self.texts: dict[int, tuple[str, int]] = {}  # of strings, each with its bytes
+        self.room = len(data)  # for as many bytes of these
 
     def charge(self, count: int) -> None:
         self.left -= count
@@ -80,13 +82,22 @@ class Readable(Tables):
         return super().numbers(table, index, form)
 
     def text(self, string: int) -> str:
+        """(Each time its bytes count as read.)"""
+        if string in self.texts:
+            text, size = self.texts[string]
+            self.charge(size)
+            return text
         reader = Reader(self.data, self.numbers("string", string, "<I")[0])
         # (a unit of UTF-16 takes at most three bytes)
         end = self.data.find(0, reader.at, reader.at + 3 * reader.uleb() + 6)
         if end < 0:
             raise Malformed
         self.charge(end - reader.at)
-        return super().text(string)
+        text = super().text(string)
+        if end - reader.at <= self.room:
+            self.room -= end - reader.at
+            self.texts[string] = text, end - reader.at
+        return text
 
     def types_at(self, at: int) -> tuple[int, ...]:
         self.charge(2 * unpack("<I", self.data, at)[0] if at else 0)
