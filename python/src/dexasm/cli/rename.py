@@ -31,7 +31,7 @@ from __future__ import annotations
 
 import re
 import sys
-from collections import Counter
+from typing import TYPE_CHECKING
 
 from dexasm.analysis.extras import drop_line
 from dexasm.analysis.xref import classes_in
@@ -44,9 +44,9 @@ from dexasm.cli.mapping import inverted, parse_mapping
 from dexasm.cli.renaming import Names, rename
 from dexasm.cli.sanitize import escaped
 
-TYPE_CHECKING = False  # (as in typing)
 if TYPE_CHECKING:
     from argparse import Namespace
+    from collections.abc import Iterable
 
     from dexasm.cli.main import Parser
     from dexasm.program import Program
@@ -62,7 +62,6 @@ def requested_names(program: Program, args: Namespace, pairs: list[tuple[str, st
         by_mapping(names, args)
     for old, new in pairs:
         names.request(old, new)
-    names.check({one for mention in program.references() if not mention.is_text for one in classes_in(mention.name)})
     return names
 
 
@@ -87,12 +86,22 @@ def by_mapping(names: Names, args: Namespace) -> None:
         print_error(f"dexasm-rename: {display_name(args.mapping)}: {missing} of its classes and members aren't there")
 
 
-def print_warnings(program: Program, names: Names) -> None:
+def mentioned(program: Program) -> tuple[set[str], dict[str, None]]:
+    """The classes that a program names, and its texts in their order."""
+    named, texts = set[str](), dict[str, None]()
+    for one in program.references():
+        if one.is_text:
+            texts[one.name] = None
+        else:
+            named.add(one.name)
+    return {one for name in named for one in classes_in(name)}, texts
+
+
+def print_warnings(texts: Iterable[str], names: Names) -> None:
     """What may need a look: texts that have an old name, and classes from outside that are inherited from."""
     for name in sorted(names.unsure):
         print_error(f"dexasm-rename: a renamed method's class inherits from {escaped(name)}, which isn't there")
     old = {form for name in names.classes for form in (name, name[1:-1], name[1:-1].replace("/", "."))}
-    texts = Counter(mention.name for mention in program.references() if mention.is_text)
     found = [text for text in texts if not old.isdisjoint(WORD.findall(text))]
     for text in found[:MOST_REPORTED]:
         print_error(f"dexasm-rename: a text has an old name, and stays: {escaped(text[:100])}")
@@ -117,7 +126,9 @@ def main(parser: Parser) -> int:
     source = read_input(args.file)
     program = read_program(as_dex(source.data, source.name), source.name)
     names = requested_names(program, args, pairs)
-    print_warnings(program, names)
+    named, texts = mentioned(program)
+    names.check(named)
+    print_warnings(texts, names)
     result = run_or_fail("assemble", data=str(rename(program, names)).encode("ascii"), name=source.name)
     line = None if args.quiet else drop_line(source.name, [source.data], result)
     if line:

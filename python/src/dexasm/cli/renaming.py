@@ -5,13 +5,15 @@ import functools
 from collections.abc import Callable
 from typing import TYPE_CHECKING, TypeVar
 
-from dexasm.analysis.xref import CLASS_IN, Xref, descriptor_of, unescaped
+from dexasm.analysis.xref import CLASS_IN, Xref, classes_in, descriptor_of, unescaped
 from dexasm.cli.errors import REFUSED, USAGE, CliError
 from dexasm.cli.sanitize import escaped
+from dexasm.code import mentions
 from dexasm.names import FieldRef, MethodRef, Proto, Type, member
 
 if TYPE_CHECKING:
     from dexasm.classes import Class, Field, Method, Value
+    from dexasm.code import Code
     from dexasm.program import Program
 
 OBJECT = "Ljava/lang/Object;"
@@ -223,12 +225,20 @@ class Renaming:
     def __init__(self, names: Names) -> None:
         self.names = names
         self.ref: Callable[[str], FieldRef | MethodRef] = functools.lru_cache(None)(self.ref_of)
+        self.changes: Callable[[str], bool] = functools.lru_cache(None)(self.is_changed)
+
+    def is_changed(self, name: str) -> bool:
+        owner, is_member, signature = name.partition("->")
+        number = self.names.uses.resolve(owner, signature) if is_member else None
+        return number in self.names.members or not self.names.classes.keys().isdisjoint(classes_in(name))
 
     def typed(self, name: Form) -> Form:
         """A type, or a prototype."""
         classes = self.names.classes
+        if classes.keys().isdisjoint(CLASS_IN.findall(name)):
+            return name
         new = CLASS_IN.sub(lambda found: classes.get(found[1], found[1]), name)
-        return name if new == name else type(name)(new)
+        return type(name)(new)
 
     def ref_of(self, name: str) -> FieldRef | MethodRef:
         """A member, by whichever class it is named."""
@@ -253,13 +263,19 @@ class Renaming:
         self.value(one.value)
         one.name, one.type = self.names.members.get(number, one.name), self.typed(one.type)
 
-    def method(self, number: int, one: Method) -> None:
-        for insn in one.insns:
+    def code(self, code: Code) -> None:
+        """(One that names nothing that changes stays unread.)"""
+        if not any(self.changes(name) for name, is_text, _ in mentions(code) if not is_text):
+            return
+        for insn in code.insns:
             if insn.name is not None:
                 insn.name = self.operand(insn.name)
-        for each in one.code.tries if one.code else ():
-            for catch in each.catches:
-                catch.type = self.typed(catch.type)
+        for catch in (catch for each in code.tries for catch in each.catches):
+            catch.type = self.typed(catch.type)
+
+    def method(self, number: int, one: Method) -> None:
+        if one.code is not None:
+            self.code(one.code)
         one.name, one.proto = self.names.members.get(number, one.name), self.typed(one.proto)
 
     def heads(self, one: Class) -> None:
