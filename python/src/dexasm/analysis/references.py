@@ -138,13 +138,13 @@ def find_insns(program: Program, patterns: list[str]) -> dict[str, Rows]:
     found: dict[str, Counter[Numbered]] = {one: Counter() for one in patterns}
     forms: dict[str, frozenset[int] | re.Pattern[str]]
     forms = {one: number_of(one) if NUMBER.fullmatch(one) else pattern(one) for one in patterns}
-    for each in numbered(program):
+    is_of = functools.lru_cache(None)(lambda form, how: form.fullmatch(how) is not None)
+    for each, times in numbered(program):
         number = each.number
         numbers = () if number is None else (number, number << HIGH.get(each.how, 0))
         for one, form in forms.items():
-            is_meant = not form.isdisjoint(numbers) if isinstance(form, frozenset) else form.fullmatch(each.how)
-            if is_meant:
-                found[one][each] += 1
+            if not form.isdisjoint(numbers) if isinstance(form, frozenset) else is_of(form, each.how):
+                found[one][each] += times
     return {one: [each._asdict() | {"times": times} for each, times in rows.items()] for one, rows in found.items()}
 
 
@@ -156,15 +156,17 @@ class Numbered(NamedTuple):
     number: int | None
 
 
-def numbered(program: Program) -> Iterator[Numbered]:
+def numbered(program: Program) -> Iterator[tuple[Numbered, int]]:
+    """Each with how often a method, or a value, has it."""
     for one in program.classes:
         for field in one.statics:
             for value in field.value.all() if field.value else ():
                 if value.kind in INTEGERS:
-                    yield Numbered(str(one.ref(field)), "value", value.value)
+                    yield Numbered(str(one.ref(field)), "value", value.value), 1
         for method in one.methods:
             by = str(one.ref(method))
-            yield from (Numbered(by, insn.mnemonic, insn.literal) for insn in method.insns)
+            for (how, number), times in Counter((insn.mnemonic, insn.literal) for insn in method.insns).items():
+                yield Numbered(by, how, number), times
 
 
 def number_of(word: str) -> frozenset[int]:

@@ -49,6 +49,7 @@ if TYPE_CHECKING:
     from dexasm.program import Program
 
 WIDTH = 8  # bytes a line
+MOST_DESCRIBED = 1 << 17  # rows whose names are kept
 UNNEEDED: dict[Read, str] = {
     read_debug: "debug_info_item",
     read_directory: "annotations_directory_item",
@@ -88,6 +89,7 @@ class Dump:
         self.needed: dict[tuple[int, int, str], Parts] = {}
         self.others: dict[tuple[int, int, str], Parts] = {}
         self.followed: set[tuple[Read, int]] = set()
+        self.described: dict[tuple[str, int], tuple[str, int]] = {}  # each with the bytes that are read for it
         fields = [at + size for _, at, size, _ in header(data)]
         self.add(0, max(fields, default=0), MAP_TYPES[0], self.header)
         if not has_tables(data):
@@ -228,8 +230,15 @@ class Dump:
 
     def describe(self, table: str, row: int) -> str:
         """What a row names, as a listing has it."""
+        left = self.tables.left
+        if (known := self.described.get((table, row))) and known[1] <= left:
+            self.tables.charge(known[1])
+            return known[0]
         name = self.tables.name_or_none(table, row)
-        return "not read" if name is None else shortened(quoted(name) if table == "string" else spelled(name))
+        text = "not read" if name is None else shortened(quoted(name) if table == "string" else spelled(name))
+        if name is not None and len(self.described) < MOST_DESCRIBED:
+            self.described[table, row] = text, left - self.tables.left
+        return text
 
     def header(self) -> Iterator[Piece]:
         for name, at, size, value in header(self.data):

@@ -183,8 +183,7 @@ def report(args: Namespace, source: Input, prog: str, low: int, high: int | None
         found = (
             [json.dumps(details)] if args.json else refused_lines(details, data) if refusal else lines(details, data)
         )
-    for line in found:
-        print(line)
+    sys.stdout.writelines(f"{line}\n" for line in found)
     if refusal:
         sys.stdout.flush()
         print_error(f"{prog}: {name}: {result.message()}")

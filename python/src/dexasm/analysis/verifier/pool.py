@@ -76,8 +76,8 @@ def check_by_workers(program: Program, jobs: int, is_boot_skipped: bool, seconds
 
 
 def parts(program: Program, count: int) -> list[Rows]:
-    """The classes in parts of about the same length of text."""
-    ends = [*accumulate(len(text) for text in program.classes.texts())]
+    """The classes in parts of about the same length of code."""
+    ends = [*accumulate(sum(len(str(method.code)) for method in one.methods) for one in program.classes)]
     found: list[Rows] = []
     first = 0
     for row, end in enumerate(ends):
