@@ -219,12 +219,10 @@ def _opcodes(units: int, has_index: bool) -> bytes:
 
 @functools.cache
 def _indexed() -> re.Pattern[bytes]:
-    """Instructions without an index, then one with an index, the end, or a byte with which no instruction begins."""
-    plain = (_opcodes(units, False) for units in (1, 2, 3, 5))
-    index = (_opcodes(units, True) for units in (2, 3))
-    return re.compile(
-        rb"(?s)(?:\x00\x00|%s.|%s.{3}|%s.{5}|%s.{9})*(?:(%s).(..)|(%s).(..)..|\x1b.(....)|\Z|(.))" % (*plain, *index)
-    )
+    """At most 1,000 instructions without an index, then one with an index, the end, one more or what is none."""
+    plain = rb"\x00\x00|%s.|%s.{3}|%s.{5}|%s.{9}" % (*(_opcodes(units, False) for units in (1, 2, 3, 5)),)
+    index = rb"(%s).(..)|(%s).(..)..|\x1b.(....)" % (*(_opcodes(units, True) for units in (2, 3)),)
+    return re.compile(rb"(?s)(?:%s){0,1000}(?:%s|\Z|(?=%s)|(.))" % (plain, index, plain))
 
 
 def mentions_of(data: bytes, at: int, count: int) -> set[tuple[str, int]]:
