@@ -325,26 +325,27 @@ def refused(text: str | bytes, align: bool = False) -> dexasm.Refused | None:
 def large() -> Iterator[tuple[int, list[str]]]:
     """Of each limit of a table or of a list one text."""
 
-    def value(kind: str, names: Iterable[str], *lines: str) -> list[str]:
+    def value(kind: str, names: Iterable[str], *lines: str, head: str = f"«»{CLASS}") -> list[str]:
         words = " ".join(f"{kind} {name}" for name in names)
-        return [HEAD, CLASS, f"static a I 0 = array {{ {words} }}", *lines, "end class"]
+        return [HEAD, head, f"static a I 0 = array {{ {words} }}", *lines, "end class"]
 
     types = [f"L{at};" for at in range(LONG - 3)]
-    yield 80, value("type", types, "static b «LB;» 0")
+    yield 80, value("type", types, "static b «LB;» 0", head=CLASS)
     protos = ["".join(each) for each in itertools.islice(itertools.product("BCDFIJSZ", repeat=6), LONG)]
-    yield 81, value("method", [f"LB;->a({each})V" for each in protos[1:]], "virtual m «()V» 0", "virtual n (I)V 0")
+    named = [f"LB;->a({each})V" for each in protos[1:]]
+    yield 81, value("method", named, "virtual m «()V» 0", "virtual n (I)V 0", head=CLASS)
     strings = [f'"{at:05}"' for at in range(LONG)]
-    yield 82, value("string", strings, *in_code("nop", 'const-string/jumbo v0 "I"', 'const-string v0 «"I"»'))
+    yield 82, value("string", strings, *in_code("nop", 'const-string/jumbo v0 "I"', 'const-string v0 "I"'))
     fields = [f"LA;->{at:05}:I" for at in range(LONG)]
-    yield 83, value("field", fields, *in_code("sget v0 LA;->65535:I", "sget v0 «LA;->a:I»"))
+    yield 83, value("field", fields, *in_code("sget v0 LA;->65535:I", "sget v0 LA;->a:I"))
     methods = [f"LA;->{at:05}()V" for at in range(LONG)]
-    yield 84, value("method", methods, *in_code("nop", "invoke-static { } «LA;->m()V»"))
+    yield 84, value("method", methods, *in_code("nop", "invoke-static { } LA;->m()V"))
     wide = filled(13106, "const-wide v0 0") + filled(5)
-    yield 87, [HEAD, CLASS, *in_code(":a", *wide, "const-wide v0 0", ":c", "«»try :a :c", "catchall :a"), "end class"]
+    far = in_code(":a", *wide, "const-wide v0 0", ":c", "try :a :c", "catchall :a")
+    yield 87, [HEAD, f"«»{CLASS}", *far, "end class"]
     each = [line for at in range(LONG) for line in (f"try @{at} @{at + 1}", "catchall @0")]
-    each[-2] = f"«»{each[-2]}"
     nops = [f"{at}: nop" for at in range(LONG)]
-    yield 88, ["dex 035", CLASS, *in_code(*nops, *each), "end class"]
+    yield 88, ["dex 035", f"«»{CLASS}", *in_code(*nops, *each), "end class"]
     first = [":a", "nop", ":b", "nop", ":c", "nop", ":d", "try :a :b", *filled(20000, "catch LA; :a")]
     second = ["try :b :c", *filled(12765, "catch LA; :a"), "try :c :d", "catchall :a"]
     yield 89, [HEAD, f"«»{CLASS}", *in_code(*first, *second), "end class"]

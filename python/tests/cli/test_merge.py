@@ -277,7 +277,7 @@ class Merge(HelperTest):
         code = b"".join(b'const-string v0 "b%03d"\n' % n for n in range(100))
         code = b"class Lb; 0x1\ndirect m ()V 0x9\ncode 1 0 0\n%sreturn-void\nend code\nend class\n" % code
         out, seen = merged(at, listing(values), listing(code))
-        says = 'dexasm-merge: dexasm: refused 82 StringOutOfReach at 1: Lb;->m()V in 1.dex: "b0'
+        says = "dexasm-merge: dexasm: refused 82 StringOutOfReach at 1: Lb; in 1.dex: a string "
         is_so = is_one_line(seen[2], says) and seen[2].endswith("const-string/jumbo reaches each string\n")
         self.check("dexasm-merge, a string out of reach", seen[:2] == (1, "") and is_so and out is None, seen)
         seen = run([sys.executable, "-B", "-c", UNLOOKED, TOP, "0.dex", "1.dex", "--output", "out"], at=at)

@@ -11,7 +11,7 @@ from typing import NamedTuple
 
 from dexasm.formats import format_of
 from dexasm.listing import source as listed
-from dexasm.listing.limits import LIMITS, Names
+from dexasm.listing.limits import LIMITS, one_too_many
 from dexasm.listing.slots import in_line, target_missing
 from dexasm.listing.source import (
     Class,
@@ -69,7 +69,7 @@ def of(listing: bytes, number: int, place: int, align: bool = False) -> Place | 
         if number in OF_LINES:
             return _of_line(read, number, place)
         if number in OF_COUNTS:
-            diagnostic = Names(read).one_too_many("type" if number == 80 else "proto")
+            diagnostic = one_too_many(read, Type if number == 80 else Proto)
             return diagnostic and _placed(
                 read, sum(head <= diagnostic.line.number for head in read.heads) - 1, diagnostic
             )
@@ -79,7 +79,7 @@ def of(listing: bytes, number: int, place: int, align: bool = False) -> Place | 
         if number in OF_RULES:
             first = next(_violations(read, one, place), None)
             return _placed(read, place, first[1]) if first and first[0] == number else None
-        diagnostic = next(LIMITS[number](read, one, align), None) if number in OF_LIMITS else None
+        diagnostic = next(LIMITS[number](one, align), None) if number in OF_LIMITS else None
         return diagnostic and _placed(read, place, diagnostic)
     except (ValueError, LookupError, AttributeError):
         return None  # (another text than the one that was refused)
