@@ -309,14 +309,13 @@ class Dump:
             yield from self.tries(behind, numbers[3])
 
     def insns(self, at: int, count: int) -> Iterator[Piece]:
-        units = units_of(self.data, at)
-        lines = iter(self.lines_at[at]()) if at in self.lines_at else None
+        units, first = units_of(self.data, at), at + 16
+        lines = iter(self.lines_at[at]()) if at in self.lines_at else iter(())
         for begin, end in steps(units):
             if end > count:
                 raise Malformed
-            line = next(lines, None) if lines else None
-            text = self.instruction(units, begin) if line is None else line
-            yield at + 16 + 2 * begin, at + 16 + 2 * end, f"{begin:04x}: {text}"
+            text = next(lines, None) or self.instruction(units, begin)
+            yield first + 2 * begin, first + 2 * end, f"{begin:04x}: {text}"
 
     def instruction(self, units: tuple[int, ...], at: int) -> str:
         """An instruction that no listing has."""
@@ -455,6 +454,9 @@ def dump(data: bytes, name: str, refusal: tuple[int, str, int] | None, low: int,
         if kind != before and kind:
             yield f"          {kind}"
         before = kind
+        if low <= begin and end <= min(begin + WIDTH, high) and not begin <= place < end:  # (as most are)
+            yield f"{begin:08x}  {data[begin:end].hex(' '):<23}  {text}".rstrip()
+            continue
         for at in range(max(begin, low), min(end, high), WIDTH):
             last = min(at + WIDTH, end, high)
             if at <= place < last:
