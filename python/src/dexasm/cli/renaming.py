@@ -8,7 +8,6 @@ from typing import TYPE_CHECKING, TypeVar
 from dexasm.analysis.xref import CLASS_IN, Xref, classes_in, descriptor_of, unescaped
 from dexasm.cli.errors import REFUSED, USAGE, CliError
 from dexasm.cli.sanitize import escaped
-from dexasm.code import mentions
 from dexasm.names import FieldRef, MethodRef, Proto, Type, member
 
 if TYPE_CHECKING:
@@ -265,6 +264,8 @@ class Renaming:
 
     def code(self, code: Code) -> None:
         """(One that names nothing that changes stays unread.)"""
+        from dexasm.code import mentions
+
         if not any(self.changes(name) for name, is_text, _ in mentions(code) if not is_text):
             return
         for insn in code.insns:
