@@ -342,7 +342,8 @@ for one in check_all(found, asked, lambda: None): print(one.path.decode(), one.s
 WORKERS = """
 import sys
 sys.path.insert(0, sys.argv[1])
-from dexasm.cli.scheduler import Verdict, count_workers
+from dexasm.cli.scheduler import count_workers
+from dexasm.cli.verdict import Verdict
 class asked: lint = False
 for found, jobs in (([], 4), ([(b"a", 500)] * 1000, 4), ([(b"a", 500)] * 20000, 4), ([(b"a", 500)] * 20000, 2),
     ([(b"a", 1 << 40)], 4), ([(b"a", 1 << 40)], 1), ([Verdict(b"a", "", None, "failed")] * 100000, 4)):

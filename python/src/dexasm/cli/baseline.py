@@ -10,7 +10,7 @@ from dexasm.cli.reporters import name_of
 from dexasm.cli.sanitize import escaped
 
 if TYPE_CHECKING:
-    from dexasm.cli.scheduler import Verdict
+    from dexasm.cli.verdict import Verdict
 
 # What has to be the same; where the file is only moved to another line, nothing is.
 FIELDS = ("kind", "number", "name", "place", "line", "class", "member", "instruction", "rule")

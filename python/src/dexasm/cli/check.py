@@ -81,7 +81,7 @@ if TYPE_CHECKING:
     from typing import IO
 
     from dexasm.cli.main import Parser
-    from dexasm.cli.scheduler import Verdict
+    from dexasm.cli.verdict import Verdict
 
 NOTHING = "nothing was looked at: no .dex file, archive or listing is there (--allow-empty takes that)"
 FORMS: dict[str, type[Text]] = {"json": Json, "sarif": Sarif, "github": GitHub, "junit": JUnit}

@@ -109,7 +109,7 @@ from dexasm.cli.io import display_name
 from dexasm.cli.main import command, positive_number, print_error, seconds as in_seconds
 from dexasm.cli.reporters import Json, Sarif, Text, exit_status, sentence_of
 from dexasm.cli.sanitize import escaped
-from dexasm.cli.scheduler import Verdict
+from dexasm.cli.verdict import Verdict
 
 TYPE_CHECKING = False  # (as in typing)
 if TYPE_CHECKING:

@@ -13,7 +13,7 @@ from typing import TYPE_CHECKING, Any
 from dexasm.cli.errors import FAILED, MEMORY, REFUSED
 from dexasm.cli.faults import OF_CLASSES, OF_COUNTS, PAGE, SENTENCES, page_path, section
 from dexasm.cli.sanitize import JSON, TEXT, XML, escaped, without_commands
-from dexasm.cli.scheduler import Verdict
+from dexasm.cli.verdict import Verdict
 
 if TYPE_CHECKING:
     from dexasm._native import Build

@@ -6,13 +6,14 @@ from __future__ import annotations
 import collections
 import time
 from collections.abc import Callable, Generator, Iterable, Iterator
-from typing import Any, NamedTuple
+from typing import Any
 
 from dexasm.cli.discovery import describe_skipped, has_known_name, sniff, walk
 from dexasm.cli.errors import reason
 from dexasm.cli.filetypes import is_dex_name
 from dexasm.cli.pool import Lost, Worker, close_all, end_all
 from dexasm.cli.sanitize import escaped
+from dexasm.cli.verdict import Verdict
 from dexasm.cli.worker import REASONS
 
 WORKERS = 8  # that may end at one archive
@@ -23,34 +24,6 @@ AHEAD = 4  # times as much as the workers do is given out before
 ENOUGH, EACH = 16 << 20, 2 << 10
 LINTED = 32  # times as much time a file takes with --lint, so that workers are given so much less
 SOON = 0.5  # seconds after which the one who waits looks up
-
-
-class Verdict(NamedTuple):
-    """What is known of a file, or of an entry of an archive. The status is `ok`, `refused`, `empty` (an archive without
-    a .dex file), or why it wasn't looked at: `skipped` (and it needn't be), `failed`, `time`, `memory`, `killed`. For
-    dexasm-lint it is what is known of a place of a program: `broken`, with the rule's word and the part of the page
-    that it belongs to.
-    """
-
-    path: bytes
-    entry: str
-    kind: str | None
-    status: str
-    number: int | None = None
-    name: str | None = None
-    place: int | None = None
-    line: int | None = None
-    column: int | None = None
-    class_: str | None = None
-    member: str | None = None
-    instruction: int | None = None
-    program: str | None = None
-    why: str | None = None
-    rule: str | None = None
-    page: str | None = None
-    register: int | None = None
-    address: int | None = None
-    extras: dict[str, int] | None = None  # how many annotations of each visibility, and methods with debug information
 
 
 # ---- one file

@@ -17,7 +17,7 @@ from dexasm.analysis.verifier.rule_table import SENTENCES
 from dexasm.analysis.verifier.structure_rules import PAGE, RULES as FILE_RULES, STATIC, classes_of, violations
 from dexasm.analysis.xref import reread
 from dexasm.cli.sanitize import LONGEST
-from dexasm.cli.scheduler import Verdict
+from dexasm.cli.verdict import Verdict
 
 if TYPE_CHECKING:
     from dexasm import classes as members
