@@ -74,21 +74,22 @@ def outside(program: Program) -> dict[str, dict[str, Any]]:
     members that neither it nor what it inherits from here has."""
     known = Xref(program)
     found: dict[str, dict[str, Any]] = {}
-    for mention in program.references():
-        if mention.is_text:
-            continue
-        owner, is_member, signature = mention.name.partition("->")
-        for name in dict.fromkeys(classes_in(mention.name)):
-            if name not in known.rows:
-                add(found.setdefault(name, {"by": {}, "members": {}})["by"], mention.by)
+
+    @functools.lru_cache(None)
+    def lists_of(name: str) -> list[dict[str, None]]:
+        """Where those are noted who have this name."""
+        owner, is_member, signature = name.partition("->")
+        missing = [one for one in dict.fromkeys(classes_in(name)) if one not in known.rows]
+        lists = [found.setdefault(one, {"by": {}, "members": {}})["by"] for one in missing]
         if is_member and owner.startswith("L") and known.resolve(owner, signature) is None:
-            row = found.setdefault(owner, {"by": {}, "members": {}})
-            add(row["members"].setdefault(signature, {}), mention.by)
+            members = found.setdefault(owner, {"by": {}, "members": {}})["members"]
+            lists.append(members.setdefault(signature, {}))
+        return lists
+
+    for mention in program.references():
+        for users in () if mention.is_text else lists_of(mention.name):
+            users[mention.by] = None
     return {name: listed(found[name]) for name in sorted(found)}
-
-
-def add(to: dict[str, None], by: str) -> None:
-    to[by] = None
 
 
 def listed(row: dict[str, Any]) -> dict[str, Any]:
@@ -99,13 +100,18 @@ def listed(row: dict[str, Any]) -> dict[str, Any]:
 # ---- find
 
 
+def contains(part: str, form: re.Pattern[str] | None, text: str) -> bool:
+    """Whether a text has this part, or is of this form."""
+    return part in text if form is None else form.fullmatch(text) is not None
+
+
 def find(program: Program, patterns: list[str]) -> dict[str, list[str]]:
     """The names and the texts of a program in which a text stands, or that a pattern with * and ? is all of."""
-    forms = [pattern(one if PATTERN.search(one) else f"*{one}*") for one in patterns]
+    forms = [functools.partial(contains, one, pattern(one) if PATTERN.search(one) else None) for one in patterns]
     found: dict[str, dict[str, None]] = {"classes": {}, "fields": {}, "methods": {}, "strings": {}}
 
     def look(kind: str, text: str) -> None:
-        if any(form.fullmatch(text) for form in forms):
+        if any(form(text) for form in forms):
             found[kind][text] = None
 
     for one in program.classes:
