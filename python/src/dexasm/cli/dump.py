@@ -49,7 +49,7 @@ if TYPE_CHECKING:
     from dexasm.program import Program
 
 WIDTH = 8  # bytes a line
-MOST_DESCRIBED = 1 << 17  # rows whose names are kept
+MOST_DESCRIBED = 1 << 16  # rows whose names are kept; those of strings are kept by the tables
 UNNEEDED: dict[Read, str] = {
     read_debug: "debug_info_item",
     read_directory: "annotations_directory_item",
@@ -236,7 +236,7 @@ class Dump:
             return known[0]
         name = self.tables.name_or_none(table, row)
         text = "not read" if name is None else shortened(quoted(name) if table == "string" else spelled(name))
-        if name is not None and len(self.described) < MOST_DESCRIBED:
+        if name is not None and table != "string" and len(self.described) < MOST_DESCRIBED:
             self.described[table, row] = text, left - self.tables.left
         return text
 
