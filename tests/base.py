@@ -39,6 +39,16 @@ class TestCase(unittest.TestCase):
                 self.fail(f"{repr(got)[:LONGEST]} != {repr(want)[:LONGEST]}")
             self.assertEqual(got, want)
 
+    def check_raises(self, what: object, kind: type[Exception], call: Callable[..., object], *words: Any) -> str:
+        """That a call raises an error of this kind; the error's text."""
+        try:
+            returned = call(*words)
+        except kind as error:
+            self.more += 1
+            return str(error)
+        self.check_equal(what, returned, kind)
+        return ""
+
     def need(self, program: str, without: str) -> None:
         """Ends the test, as one that isn't tried to its end, where a program isn't there."""
         if not shutil.which(program):

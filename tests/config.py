@@ -39,7 +39,9 @@ def library() -> str:
     """The folder with libdexasm.a, libdexasm.so and dexasm.h."""
     found = named("LIBRARY") or (made(LIBRARIES) if not named("PROGRAM") else "")
     if not found:
-        raise unittest.SkipTest("no library: tools/build library makes it, or tools/quick library one without its proof")
+        raise unittest.SkipTest(
+            "no library: tools/build library makes it, or tools/quick library one without its proof"
+        )
     return os.path.abspath(found)
 
 

@@ -35,8 +35,7 @@ class Edits:
 
     def one(self) -> None:
         kinds = (
-            [self.edit_class, self.edit_member]
-            + [self.edit_insn] * 4 * bool(self.codes)
+            [self.edit_class, self.edit_member] + [self.edit_insn] * 4 * bool(self.codes)
             + [self.edit_try] * bool(self.codes)
         )
         self.rng.choice(kinds)()
@@ -71,8 +70,7 @@ class Edits:
         members: list[Any] = rng.choice([one.statics, one.instances, one.directs, one.virtuals])
         if not members or rng.random() < 0.2:
             members.append(
-                Field("new", Type("I"), 1)
-                if members in (one.statics, one.instances)
+                Field("new", Type("I"), 1) if members in (one.statics, one.instances)
                 else Method("new", Proto("()V"), 1)
             )
             return
@@ -85,20 +83,12 @@ class Edits:
         elif slot == "flags":
             member.flags = self.number()
         elif slot == "more":
-            more = rng.choice(
-                [
-                    None,
-                    Value("int", self.number()),
-                    Value("string", self.text("a")),
-                    Value("array", [Value("null")]),
-                    Value("type", self.text("I")),
-                ]
-            )
-            setattr(
-                member,
-                "code" if isinstance(member, Method) else "value",
-                rng.choice([None, *self.codes]) if isinstance(member, Method) else more,
-            )
+            more = rng.choice([
+                None, Value("int", self.number()), Value("string", self.text("a")), Value("array", [Value("null")]),
+                Value("type", self.text("I"))
+            ])
+            setattr(member, "code" if isinstance(member, Method) else "value",
+                    rng.choice([None, *self.codes]) if isinstance(member, Method) else more)
         else:
             setattr(member, slot, self.text(getattr(member, slot)))
 
@@ -120,38 +110,22 @@ class Edits:
         else:
             insn = rng.choice(insns)
             slot = rng.choice(["mnemonic", "registers", "literal", "name", "text", "count", "mnemonic"])
-            values = {
-                "mnemonic": rng.choice(self.pool).mnemonic,
-                "registers": (self.number(),) * rng.randrange(4),
-                "name": self.text(insn.name),
-            }
+            values = {"mnemonic": rng.choice(self.pool).mnemonic, "registers": (self.number(),) * rng.randrange(4),
+                      "name": self.text(insn.name)}
             setattr(insn, slot, values.get(slot, self.text(insn.text) if slot == "text" else self.number()))
 
     def edit_try(self) -> None:
         rng, code = self.rng, self.rng.choice(self.codes)
         places = [*code.insns, None]
-        code.tries.insert(
-            0,
-            Try(
-                Label(rng.choice(places)),
-                Label(rng.choice(places)),
-                [Catch(Type("LE;"), Label(rng.choice(places)))] * rng.randrange(2),
-            ),
-        )
+        code.tries.insert(0,
+                          Try(Label(rng.choice(places)), Label(rng.choice(places)),
+                              [Catch(Type("LE;"), Label(rng.choice(places)))] * rng.randrange(2)))
         if rng.random() < 0.5:
             del code.tries[1:]
 
 
-ZEROS = {
-    "Z": "false",
-    "F": "float 00000000",
-    "D": "double 0000000000000000",
-    "J": "long 0",
-    "B": "byte 0",
-    "S": "short 0",
-    "C": "char 0",
-    "I": "int 0",
-}
+ZEROS = {"Z": "false", "F": "float 00000000", "D": "double 0000000000000000", "J": "long 0", "B": "byte 0",
+         "S": "short 0", "C": "char 0", "I": "int 0"}
 
 
 def parts(one: dexasm.Class) -> tuple[str, list[str]]:
@@ -160,9 +134,7 @@ def parts(one: dexasm.Class) -> tuple[str, list[str]]:
     found = []
     for member, text in members:
         if (
-            isinstance(member, Field)
-            and text.startswith("static")
-            and member.value is not None
+            isinstance(member, Field) and text.startswith("static") and member.value is not None
             and str(member.value) == ZEROS.get(member.type, "null")
         ):
             text = text.partition(" = ")[0] + "\n"
@@ -198,8 +170,9 @@ class LawsTest(TestCase):
                     edits.one()
             file = program.write()
         except ValueError as error:
-            self.check(f"{what}: why", str(error).isascii() and str(error).isprintable(), error)
+            self.check_equal(f"{what}: why", str(error).isascii() and str(error).isprintable(), True)
             return False
-        is_so = is_accepted(file) and [*map(parts, Program.read(file).classes)] == [*map(parts, program.classes)]
-        self.check(f"{what}: what it was edited to", is_so, str(program)[-500:])
+        self.check_equal(f"{what}: what it was edited to",
+                         (is_accepted(file), [*map(parts, Program.read(file).classes)]),
+                         (True, [*map(parts, program.classes)]))
         return True

@@ -13,6 +13,7 @@ import dexasm
 from dexasm import _native as calls
 from tests import TOP
 from tests.base import MEGABYTE
+from tests.matchers import EMPTY, Begins, Has, Matches
 from tests.library.calls import JOBS, LISTINGS, LibraryTest, run
 
 ANSWERED, REFUSED, MEMORY, TOO_SMALL = 0, 1, 4, 5
@@ -78,14 +79,14 @@ class Binding(LibraryTest):
                 untouched = bytes([CANARY]) * room
                 for capacity in sorted({0, 1, max(len(made) - 1, 0), len(made), len(made) + 1, len(made) + 32}):
                     got = self.call(job, given, capacity, room)
+                    what = f"{job} of {path} into {capacity} bytes"
                     if status:
-                        is_so = got[:3] == (REFUSED, untouched, 0) and said.startswith(f"dexasm: refused {got[3][0]} ")
-                        is_so = is_so and said.endswith(f" at {got[3][1]}\n")
+                        self.check_equal(what, got[:3], (REFUSED, untouched, 0))
+                        self.check_equal(what, said, Matches(rf"dexasm: refused {got[3][0]} \w+ at {got[3][1]}\n"))
                     elif capacity < len(made):
-                        is_so = got == (TOO_SMALL, untouched, len(made), (0, 0))
+                        self.check_equal(what, got, (TOO_SMALL, untouched, len(made), (0, 0)))
                     else:
-                        is_so = got == (ANSWERED, made + untouched[len(made) :], len(made), (0, 0))
-                    self.check(f"{job} of {path} into {capacity} bytes", is_so, f"{got[0]} {got[2]} {got[3]}")
+                        self.check_equal(what, got, (ANSWERED, made + untouched[len(made) :], len(made), (0, 0)))
 
     def test_texts(self) -> None:
         """The names of the faults and the version, into buffers of each size."""
@@ -95,17 +96,11 @@ class Binding(LibraryTest):
                 needed = ctypes.c_size_t()
                 status = self.by_library.dexasm_fault_name(code, out, capacity, ctypes.byref(needed))
                 put = want.encode() if capacity >= len(want) else b""
-                is_so = (status, needed.value) == (ANSWERED if put else TOO_SMALL, len(want))
-                self.check(
-                    f"the name of {code} into {capacity} bytes",
-                    is_so and bytes(out) == put + bytes([CANARY]) * (64 - len(put)),
-                )
+                self.check_equal(f"the name of {code} into {capacity} bytes", (status, needed.value, bytes(out)),
+                                 ((ANSWERED if put else TOO_SMALL), len(want), put + bytes([CANARY]) * (64 - len(put))))
         names = [dexasm.fault_name(code) for code in (1, 8, 73, 86, 118, 255, 256)]
-        self.check_equal(
-            "names of faults",
-            names,
-            ["TooShort", "Checksum", "Register", "Misaligned", "Register", "Memory", "Unknown"],
-        )
+        self.check_equal("names of faults", names,
+                         ["TooShort", "Checksum", "Register", "Misaligned", "Register", "Memory", "Unknown"])
         wide = [dexasm.fault_name(code) for code in (-1, 1 << 16, (1 << 16) + 1, 1 << 64)]
         self.check_equal("names of numbers that no fault has", wide, ["Unknown"] * 4)
         number = dexasm.version().encode()
@@ -133,34 +128,21 @@ class Binding(LibraryTest):
         """What the module does beside its calls: names, and a library that isn't there."""
         words: list[str] | str
         env = {**os.environ, "PYTHONPATH": os.path.join(TOP, "python", "src"), "PYTHONDONTWRITEBYTECODE": "1"}
-        words = [
-            sys.executable,
-            "-c",
-            "from dexasm import *; import builtins; print(list is builtins.list, strip.__name__)",
-        ]
+        words = [sys.executable, "-c",
+                 "from dexasm import *; import builtins; print(list is builtins.list, strip.__name__)"]
         got = run(*words, env=env)
         self.check_equal("Python: all names leave `list` as it is", got, (0, b"True strip\n", ""))
         got = run(sys.executable, "-c", PARTS, env=env, cwd=TOP)
-        self.check_equal(
-            "Python: its parts are read when they are asked for",
-            got,
-            (0, b"['dexasm._native']\n['dexasm._native', 'dexasm.names']\nTrue True\nno\n", ""),
-        )
-        shutil.copytree(
-            os.path.join(TOP, "python/src/dexasm"),
-            f"{self.work}/alone/dexasm",
-            ignore=shutil.ignore_patterns("__pycache__"),
-        )
+        self.check_equal("Python: its parts are read when they are asked for", got,
+                         (0, b"['dexasm._native']\n['dexasm._native', 'dexasm.names']\nTrue True\nno\n", ""))
+        shutil.copytree(os.path.join(TOP, "python/src/dexasm"), f"{self.work}/alone/dexasm",
+                        ignore=shutil.ignore_patterns("__pycache__"))
         alone = {name: value for name, value in env.items() if name not in ("DEXASM_LIBRARY", "DEXASM_COMMAND")} | {
-            "PYTHONPATH": f"{self.work}/alone",
-            "PATH": "/none",
+            "PYTHONPATH": f"{self.work}/alone", "PATH": "/none"
         }
         status, _, said = run(sys.executable, "-c", "import dexasm; dexasm.version()", env=alone)
-        self.check(
-            "Python: without a library",
-            status == 1 and "ImportError" in said and "DEXASM_LIBRARY" in said and "tools/build library" in said,
-            said,
-        )
+        self.check_equal("Python: without a library", (status, said),
+                         (1, Has("ImportError", "DEXASM_LIBRARY", "tools/build library")))
 
     def test_memory(self) -> None:
         """1,000 calls and more in a limited memory, where no call keeps any; and a call that can't have what it
@@ -176,17 +158,11 @@ class Binding(LibraryTest):
             rounds = 1000 // (4 * len(self.paths)) + 1
             for _ in range(rounds):
                 self.once()
-            self.check(
-                "1,000 calls take no more memory",
-                pages() - before <= MEGABYTE // resource.getpagesize(),
-                f"{before} {pages()}",
-            )
+            self.check("1,000 calls take no more memory", pages() - before <= MEGABYTE // resource.getpagesize(),
+                       f"{before} {pages()}")
             file = dexasm.assemble(LISTINGS["one class"])
-            self.check_equal(
-                "a listing that takes more memory than there is",
-                self.call("assemble", many, 0, 8)[::3],
-                (MEMORY, (255, 0)),
-            )
+            self.check_equal("a listing that takes more memory than there is", self.call("assemble", many, 0, 8)[::3],
+                             (MEMORY, (255, 0)))
             self.check_equal("the next call has memory again", dexasm.list(file), LISTINGS["one class"])
         finally:
             resource.setrlimit(resource.RLIMIT_AS, (soft, hard))
@@ -200,7 +176,7 @@ class Binding(LibraryTest):
             try:
                 for job in ("list", "strip", "assemble", "check"):
                     seen = raised(getattr(dexasm, job), given)
-                    self.check(f"{job} of 60 MB, refused", seen.startswith("refused "), seen)
+                    self.check_equal(f"{job} of 60 MB, refused", seen, Begins("refused "))
             finally:
                 resource.setrlimit(resource.RLIMIT_AS, (soft, hard))
 
@@ -220,4 +196,4 @@ class Binding(LibraryTest):
             each.start()
         for each in threads:
             each.join()
-        self.check("four threads at once", not wrong)
+        self.check_equal("four threads at once", wrong, EMPTY)

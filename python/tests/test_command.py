@@ -5,7 +5,8 @@ import sys
 from typing import Any
 
 from tests import config
-from .cli.support import LISTING, TOP, Ended, HelperTest, assembled, dexasm, put, room, run
+from tests.matchers import ANY, Has
+from .cli.support import LISTING, TOP, Ended, HelperTest, assembled, dexasm, put, puts, room, run
 
 CALLS = """
 import dexasm
@@ -59,9 +60,7 @@ class Command(HelperTest):
         shutil.copytree(os.path.join(TOP, "python/src/dexasm"), os.path.join(at, "modules", "dexasm"))
         file = assembled(LISTING)
         file = dexasm("strip", given=file)
-        put(at, "a.dex", file)
-        put(at, "a.txt", dexasm("list", given=file))
-        put(at, "odd.txt", ODD)
+        puts(at, {"a.dex": file, "a.txt": dexasm("list", given=file), "odd.txt": ODD})
         version = dexasm("--version").decode().split()[-1]
         want = f"None True True\nb'dex\\n'\n4 FileSize 32\n1 TooShort 0\nTrue True\n{OBJECTS}{version}\n"
         seen = python(at, "-c", CALLS)
@@ -70,17 +69,16 @@ class Command(HelperTest):
             seen = python(at, "-c", CALLS, DEXASM_LIBRARY=config.shared_library(), DEXASM_COMMAND="/none")
             self.check_equal("Python over the library", seen, (0, want, ""))
         seen = python(at, "-c", "import dexasm; dexasm.version()", DEXASM_COMMAND="/none")
-        self.check(
-            "Python with neither", seen[0] == 1 and "ImportError: DEXASM_COMMAND names no command: /none" in seen[2], seen
-        )
+        self.check_equal("Python with neither", seen,
+                         (1, ANY, Has("ImportError: DEXASM_COMMAND names no command: /none")))
         for words, ended in (
-            (("check", "a.dex"), (0, "ok\n", "")),
-            (("list", "cut"), (1, "", "dexasm: refused 1 TooShort at 7\n")),
+            (("check", "a.dex"), (0, "ok\n", "")), (("list", "cut"), (1, "", "dexasm: refused 1 TooShort at 7\n"))
         ):
             put(at, "cut", b"dex 034")
             self.check_equal(f"python -m dexasm {words}", python(at, "-m", "dexasm", *words), ended)
         seen = python(at, "-m", "dexasm", "check", "a.dex", DEXASM_COMMAND="/none")
-        self.check_equal("python -m dexasm without the command", seen, (3, "", "dexasm: DEXASM_COMMAND names no command: /none\n"))
+        self.check_equal("python -m dexasm without the command", seen,
+                         (3, "", "dexasm: DEXASM_COMMAND names no command: /none\n"))
         fake = put(at, "fake", b'#!/bin/sh\n[ "$1" = check ] && exit 70\n[ "$1" = strip ] && kill -9 $$\necho dexasm: out of memory >&2\nexit 4\n')
         os.chmod(fake, 0o755)
         for job, want in (

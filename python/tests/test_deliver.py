@@ -53,24 +53,13 @@ class Deliver(output_files.OutTest):
         os.symlink("one", f"{at}/out")
         seen = self.ran("out", at=at)
         links = os.readlink(f"{at}/out"), os.readlink(f"{at}/one")
-        self.says(
-            "a link to a link",
-            seen,
-            "done",
-            links == ("one", "d/real"),
-            holds(f"{at}/d/real", NEW),
-            only(f"{at}/d", "real"),
-        )
+        self.says("a link to a link", seen, "done", links == ("one", "d/real"), holds(f"{at}/d/real", NEW),
+                  only(f"{at}/d", "real"))
         self.says("its mode", mode_of(f"{at}/d/real"), 0o640)
         os.symlink("d/none", f"{at}/nothing")
         seen = self.ran("nothing", at=at, most=20)
-        self.says(
-            "a link to nothing, a write that fails",
-            seen,
-            "EFBIG",
-            os.path.islink(f"{at}/nothing"),
-            only(f"{at}/d", "real"),
-        )
+        self.says("a link to nothing, a write that fails", seen, "EFBIG", os.path.islink(f"{at}/nothing"),
+                  only(f"{at}/d", "real"))
         seen = self.ran("nothing", at=at)
         is_so = os.path.islink(f"{at}/nothing") and holds(f"{at}/d/none", NEW)
         self.says("a link to nothing", seen, "done", is_so, only(f"{at}/d", "real", "none"))
@@ -81,9 +70,8 @@ class Deliver(output_files.OutTest):
         os.symlink("d", f"{at}/to folder")
         for out in ("d", "to folder", ".", "d/", "to folder/"):
             self.says(f"a folder, {out}", self.ran(out, at=at), "EISDIR", only(f"{at}/d", "real", "none"))
-        self.says(
-            "a file as a folder", self.ran("d/real/", at=at) in ("ENOTDIR", "ENOENT"), True, holds(f"{at}/d/real", NEW)
-        )
+        self.says("a file as a folder", self.ran("d/real/", at=at) in ("ENOTDIR", "ENOENT"), True,
+                  holds(f"{at}/d/real", NEW))
         at = self.room("beside")
         out, precious = made(at), put(at, "precious", b"precious")
         os.symlink("precious", f"{at}/out.0.part")
@@ -103,31 +91,18 @@ class Deliver(output_files.OutTest):
             is_so = after.pop("out") == NEW and after == before and os.stat(out).st_ino != inode
             self.says("150 names beside are taken", seen, "done", is_so)
         for through, name, want in (
-            (False, "out", "done"),
-            (False, "out.0.part", "ELOOP"),
-            (False, "out.1.part", "ELOOP"),
-            (False, "out.3.part", "ENXIO"),
-            (False, "out.4.part", "EMLINK"),
-            (False, "new", "done"),
+            (False, "out", "done"), (False, "out.0.part", "ELOOP"), (False, "out.1.part", "ELOOP"),
+            (False, "out.3.part", "ENXIO"), (False, "out.4.part", "EMLINK"), (False, "new", "done")
         ):
             seen = self.ran(f"{at}/{name}", through=through)
-            self.says(
-                f"through nothing else, {name}",
-                seen,
-                want,
-                holds(precious, b"precious"),
-                not os.path.exists(f"{at}/nothing"),
-            )
+            self.says(f"through nothing else, {name}", seen, want, holds(precious, b"precious"),
+                      not os.path.exists(f"{at}/nothing"))
 
     def test_devices(self) -> None:
         """Devices, pipes and sockets are written as they are."""
         at = self.room("devices")
-        self.says(
-            "a device",
-            (self.ran("/dev/null"), self.ran("/dev/full")),
-            ("done", "ENOSPC"),
-            stat.S_ISCHR(os.stat("/dev/null").st_mode),
-        )
+        self.says("a device", (self.ran("/dev/null"), self.ran("/dev/full")), ("done", "ENOSPC"),
+                  stat.S_ISCHR(os.stat("/dev/null").st_mode))
         os.mkfifo(f"{at}/pipe")
         took: list[bytes] = []
         reader: Any  # (a thread, and then the number of a file)

@@ -9,16 +9,15 @@ import subprocess
 import sys
 from collections.abc import Iterator
 
+from tests.matchers import ANY, SOME, Above
 from .write_cases import BEGINS, SETTINGS, Room, order_wrong
-from .cli.support import TOP, HelperTest, can_trace, get, put, room, run, scratch
+from .cli.support import TOP, HelperTest, get, put, room, run, scratch
 
 # What each call is failed and ended by; of some more, since what follows hangs on the error.
 ENDS = ("error=ENOSPC", "signal=SIGKILL", "signal=SIGTERM")
-MORE = {
-    "openat": ("error=EACCES", "error=EEXIST", "error=ENOENT"),
-    "rename": ("error=EPERM", "error=EBUSY", "error=EIO", "signal=SIGHUP", "signal=SIGINT"),
-    "write": ("retval=0", "error=EIO", "error=EINTR", "signal=SIGHUP", "signal=SIGINT"),
-}
+MORE = {"openat": ("error=EACCES", "error=EEXIST", "error=ENOENT"),
+        "rename": ("error=EPERM", "error=EBUSY", "error=EIO", "signal=SIGHUP", "signal=SIGINT"),
+        "write": ("retval=0", "error=EIO", "error=EINTR", "signal=SIGHUP", "signal=SIGINT")}
 
 
 def ran_once(name: str, injected: str | None = None) -> tuple[str | None, list[str]]:
@@ -55,8 +54,7 @@ class DeliverCalls(HelperTest):
     def test_close(self) -> None:
         """The old file fails to be closed that was replaced, as on a disk of the network: OUT has the answer, and that is
         no failure. One that was written itself is one."""
-        if not can_trace():
-            self.skipTest("no strace here, or it may not trace: no calls are failed")
+        self.need_trace()
         words = [sys.executable, "-B", "-c", DELIVERS, os.path.join(TOP, "python", "src")]
         for names, status in ((1, 0), (2, 1)):
             at = room(f"deliver close {names}")
@@ -67,13 +65,16 @@ class DeliverCalls(HelperTest):
             run(["strace", "-qq", "-o", log, "-e", "trace=close", *words], at=at)
             put(at, "OUT", b"old")
             count = get(log).count(b"close(")  # (the last one is OUT's)
-            seen = run(["strace", "-qq", "-o", "/dev/null", "-e", f"inject=close:error=EIO:when={count}", *words], at=at)
-            self.check_equal(f"deliver, close of a file with {names} names fails", (seen[0], get(out)), (status, b"new"))
+            seen = run(
+                ["strace", "-qq", "-o", "/dev/null", "-e", f"inject=close:error=EIO:when={count}", *words], at=at
+            )
+            self.check_equal(
+                f"deliver, close of a file with {names} names fails", (seen[0], get(out)), (status, b"new")
+            )
 
 
     def test_calls(self) -> None:
-        if not can_trace():
-            self.skipTest("no strace here, or it may not trace: no calls are failed")
+        self.need_trace()
         os.chmod(scratch(), os.stat(scratch()).st_mode | 0o011)
         with concurrent.futures.ThreadPoolExecutor(os.cpu_count() or 1) as pool:
             for name, setting in SETTINGS.items():
@@ -83,16 +84,12 @@ class DeliverCalls(HelperTest):
                     alone, log = ran_once(name)
                 except (OSError, subprocess.CalledProcessError):
                     continue
-                self.check(f"deliver, {name}, left alone", alone is None, alone)
-                self.check(
-                    f"deliver, {name}, the order",
-                    log and order_wrong(name, log) is None,
-                    log and order_wrong(name, log),
-                )
+                self.check_equal(f"deliver, {name}, left alone", alone, None)
+                self.check_equal(f"deliver, {name}, the order", (log, order_wrong(name, log)), (SOME, None))
                 runs = {injected: pool.submit(ran_once, name, injected) for injected in faults_of(log)}
                 for injected, ended in runs.items():
                     wrong, calls = ended.result()
                     signal_of = re.search("SIG[A-Z]+", injected)
-                    is_met = signal_of is None or any(signal_of[0] in call for call in calls)
-                    self.check(f"deliver, {name}, {injected}", wrong is None and is_met, wrong or "no signal came")
-                self.check(f"deliver, {name}, calls are failed", len(runs) > 20, len(runs))
+                    met = [call for call in calls if signal_of is None or signal_of[0] in call]
+                    self.check_equal(f"deliver, {name}, {injected}", (wrong, met), (None, SOME if signal_of else ANY))
+                self.check_equal(f"deliver, {name}, calls are failed", len(runs), Above(20))

@@ -20,82 +20,20 @@ from typing import Any
 
 import dexasm
 from dexasm import (
-    ArrayData,
-    Catch,
-    Class,
-    Code,
-    Field,
-    FieldRef,
-    Insn,
-    Label,
-    Method,
-    MethodRef,
-    PackedSwitch,
-    Program,
-    Proto,
-    Refused,
-    SparseSwitch,
-    Try,
-    Type,
-    Value,
-    code,
-    formats,
+    ArrayData, Catch, Class, Code, Field, FieldRef, Insn, Label, Method, MethodRef, PackedSwitch, Program, Proto,
+    Refused, SparseSwitch, Try, Type, Value, code, formats
 )
 from tests import TOP, config
+from tests.matchers import Begins, Has, Lacks, Other, That
+from .cases import TEXTS
 from . import edits
 from .edits import is_accepted, made_files
 from .bad_values import EVIL, MEMBERS, MNEMONICS, WRONG
 from .binding_case import ModuleTest
 
 Change = Callable[[Any, Any], Any]  # of a program and its class, also to what their types forbid
-REFERENCES = r"""dex 035 listing 2
-class LA; 0x1
-super LB;
-implements LI;
-static n I 0x8 = int 5
-static s [LB; 0x8 = array { string "a \u00e9" field LC;->f:I null }
-direct m (I)V 0x8
-code 2 1 0
-:L0
-const-string v0 "x \"y\""
-invoke-static { } LB;->go()V
-check-cast v0 [LB;
-:L3
-return-void
-try :L0 :L3
-catch LE; :L3
-end code
-virtual none (J)V 0x400
-end class
-"""
-HELLO = r"""dex 035 listing 2
-class LHello; 0x1
-super Ljava/lang/Object;
-source "Hello.java"
-static name Ljava/lang/String; 0x19 = string "the answer"
-direct get (Z)I 0x9
-code 2 1 0
-const/16 v0 41
-if-eqz v1 :L3
-add-int/lit8 v0 v0 -1
-:L3
-return v0
-end code
-direct pick (I)V 0x9
-code 2 1 1
-packed-switch v1 :L3
-:L1
-const/16 v0 7
-:L2
-return-void
-:L3
-packed-switch-payload 0 :L1 :L2
-try :L1 :L2
-catch Ljava/lang/Exception; :L2
-catchall :L2
-end code
-end class
-"""
+REFERENCES = TEXTS["test_objects REFERENCES"]
+HELLO = TEXTS["test_objects HELLO"]
 
 
 def changed(change: Change) -> str | ValueError | KeyError:
@@ -119,23 +57,10 @@ def set_in(path: str, value: Any) -> Change:
     """A change that gives one slot another value."""
 
     def change(_: Program, hello: Any) -> None:
-        code = hello.method("pick").code
-        at = {
-            "hello": hello,
-            "name": hello.statics[0],
-            "get": hello.method("get"),
-            "const": code.insns[1],
-            "payload": code.insns[3],
-        }
-        at.update(
-            {
-                "code": code,
-                "try": code.tries[0],
-                "catch": code.tries[0].catches[0],
-                "value": hello.statics[0].value,
-                "switch": code.insns[0],
-            }
-        )
+        code, name = hello.method("pick").code, hello.statics[0]
+        at = {"hello": hello, "name": name, "value": name.value, "get": hello.method("get"), "code": code}
+        at |= {"switch": code.insns[0], "const": code.insns[1], "payload": code.insns[3]}
+        at |= {"try": code.tries[0], "catch": code.tries[0].catches[0]}
         one, slot = path.split(".")
         setattr(at[one], slot, value)
 
@@ -161,42 +86,18 @@ def nested(depth: int) -> Value:
 RING = Value("array", [])
 RING.value.append(RING)
 WRONG_VALUES: tuple[Any, ...] = (
-    Value("int\nx", 1),
-    Value("int", "1"),
-    Value("int", 1 << 40),
-    Value("boolean", 1),
-    Value("null", 1),
-    Value("float", -1),
-    Value("float", 1 << 32),
-    Value("type", "LA; x"),
-    Value("enum", "LA;->a()V"),
-    Value("array", 5),
-    Value("array", ["int 3"]),
     Value([], 1),  # type: ignore[arg-type]  # (which is tried)
-    Value("} int", 1),
-    nested(70),
-    RING,
-    "int 3",
-    "int 3\nend class",
-    5,
-    [],
+    Value("int\nx", 1), Value("int", "1"), Value("int", 1 << 40), Value("boolean", 1), Value("null", 1), Value("float", -1), Value("float", 1 << 32), Value("type", "LA; x"), Value("enum", "LA;->a()V"), Value("array", 5), Value("array", ["int 3"]), Value("} int", 1), nested(70), RING, "int 3", "int 3\nend class", 5, []
 )
 VALUES = [Value("int", -3), Value("boolean", False), Value("float", 0x7F800001), Value("enum", FieldRef("LA;->a:LA;"))]
 WORDS = "array { int -3 false float 7f800001 enum LA;->a:LA; array { } }"
 
 
-CALLS = [
-    Insn("invoke-static/range", 0, count=2, name="LA;->m(II)V"),
-    Insn("invoke-static", 0, 1, name=MethodRef("LA;->m(II)V")),
-    Insn("invoke-static", name="LA;->m()V"),
-]
+CALLS = [Insn("invoke-static/range", 0, count=2, name="LA;->m(II)V"),
+         Insn("invoke-static", 0, 1, name=MethodRef("LA;->m(II)V")), Insn("invoke-static", name="LA;->m()V")]
 # (labels of the second method, when two instructions come before all)
-PICKED: tuple[tuple[str, str], ...] = (
-    ("v1 :L3", "v1 :L5"),
-    (":L1\nconst", ":L3\nconst"),
-    (":L2\nreturn-void\n:L3", ":L4\nreturn-void\n:L5"),
-    ("0 :L1 :L2", "0 :L3 :L4"),
-)
+PICKED: tuple[tuple[str, str], ...] = (("v1 :L3", "v1 :L5"), (":L1\nconst", ":L3\nconst"),
+                                       (":L2\nreturn-void\n:L3", ":L4\nreturn-void\n:L5"), ("0 :L1 :L2", "0 :L3 :L4"))
 PICKED += (("try :L1 :L2", "try :L3 :L4"), ("Exception; :L2", "Exception; :L4"), ("catchall :L2", "catchall :L4"))
 
 
@@ -204,32 +105,7 @@ def replaced(code: Code, at: int, *by: Insn) -> None:
     code.replace(code.insns[at], *by)
 
 
-MADE = """dex 035 listing 2
-class LA; 0x1
-instance f [[J 0x2
-direct m ()V 0x9
-code 1 0 0
-:L0
-nop
-const/4 v0 -8
-fill-array-data v0 :L6
-packed-switch v0 :L7
-sparse-switch v0 :L8
-:L5
-return-void
-:L6
-array-payload 2 01000200
-:L7
-packed-switch-payload -1 :L0
-:L8
-sparse-switch-payload -5 :L0 7 :L5
-:L9
-try :L0 :L9
-catch LE; :L5
-catchall :L0
-end code
-end class
-"""
+MADE = TEXTS["test_objects MADE"]
 
 
 def class_of_objects() -> Class:
@@ -313,14 +189,8 @@ def run(words: list[str], at: str) -> str:
         "PYTHONDONTWRITEBYTECODE": "1",
         "PYTHONUNBUFFERED": "1",  # so that lines come in their order
     }
-    done = subprocess.run(
-        words,
-        cwd=at,
-        env={**os.environ, **ways},
-        stdin=subprocess.DEVNULL,
-        stdout=subprocess.PIPE,
-        stderr=subprocess.STDOUT,
-    )
+    done = subprocess.run(words, cwd=at, env={**os.environ, **ways}, stdin=subprocess.DEVNULL, stdout=subprocess.PIPE,
+                          stderr=subprocess.STDOUT)
     said: str = done.stdout.decode()
     return said
 
@@ -330,26 +200,7 @@ def page(name: str) -> list[tuple[str, str]]:
         return re.findall(r"^```(\w+)\n(.*?)^```$", file.read(), re.S | re.M)
 
 
-CALLED = """dex 035 listing 2
-class LHello; 0x1
-static method Ljava/lang/Object; 0x1 = method LHello;->get(Z)I
-direct get (Z)I 0x9
-code 2 1 0
-const/16 v0 41
-return v0
-end code
-direct pick (I)V 0x9
-code 1 1 1
-invoke-static { v0 } LHello;->get(Z)I
-return-void
-end code
-end class
-class La/B; 0x1
-virtual m ()V 0x401
-end class
-class Lc; 0x1
-end class
-"""
+CALLED = TEXTS["test_objects CALLED"]
 
 
 USER = """
@@ -376,20 +227,15 @@ def renamed(insn: Insn, mnemonic: Any) -> Insn:
     return insn
 
 
-def raised(program: Program, asked: Any) -> str:
-    """What is told of a class that isn't there."""
-    try:
-        return str(program[asked])
-    except KeyError as error:
-        return str(error)
+def is_plain(error: object) -> bool:
+    return str(error).isascii() and str(error).isprintable()
 
 
 class ObjectsTest(ModuleTest):
     def is_refused(self, what: str, change: Change) -> None:
         """That nothing is written after a change: a ValueError, of which Refused is one kind, tells why in one line."""
         seen = changed(change)
-        is_so = isinstance(seen, ValueError) and str(seen).isascii() and str(seen).isprintable()
-        self.check(f"{what} is refused", is_so, seen)
+        self.check_equal(f"{what} is refused", (isinstance(seen, ValueError), seen), (True, That(is_plain)))
 
     def becomes(self, what: str, old: str, new: str, change: Change, *labels: tuple[str, str]) -> None:
         """That a change of the program is this change of its listing, these of its labels, and no other."""
@@ -397,12 +243,11 @@ class ObjectsTest(ModuleTest):
         for label, other in labels:
             head, tail = want.split("direct pick")
             want = (
-                f"{head}direct pick{tail.replace(label, other)}"
-                if label in dict(PICKED)
+                f"{head}direct pick{tail.replace(label, other)}" if label in dict(PICKED)
                 else f"{head.replace(label, other)}direct pick{tail}"
             )
         seen = changed(change)
-        self.check(what, old in HELLO and seen == want, (seen, want))
+        self.check_equal(what, (HELLO, seen), (Has(old), want))
 
 
 class Words(ObjectsTest):
@@ -414,32 +259,22 @@ class Words(ObjectsTest):
         for path in (*types, "name.name", "get.name", "get.proto", "const.name"):
             for evil in (*EVIL, *WRONG):
                 is_right = (
-                    evil is None
-                    if path in ("hello.superclass", "const.name")
+                    evil is None if path in ("hello.superclass", "const.name")
                     else evil in MEMBERS and path in ("name.name", "get.name")
                 )
                 if not is_right:
                     self.is_refused(f"{path} = {ascii(evil)}", set_in(path, evil))
         for path in (
-            "hello.flags",
-            "name.flags",
-            "get.flags",
-            "code.registers",
-            "code.ins",
-            "code.outs",
-            "payload.first",
-            "const.literal",
+            "hello.flags", "name.flags", "get.flags", "code.registers", "code.ins", "code.outs", "payload.first",
+            "const.literal"
         ):
             for evil in (*EVIL, 1.5, b"1", [], 1 << 40, -1 << 40, "1", "0x1"):
                 self.is_refused(f"{path} = {ascii(evil)}", set_in(path, evil))
         for evil in (*EVIL, *WRONG, Label(Insn("nop")), Label()):
-            self.is_refused(
-                f"a target {ascii(evil)}",
-                set_in("switch.target", evil) if evil is not None else set_in("try.start", evil),
-            )
-            self.is_refused(
-                f"a register {ascii(evil)}", at_first(Insn("const/4", 300 if evil is True else evil, literal=0))
-            )
+            self.is_refused(f"a target {ascii(evil)}",
+                            set_in("switch.target", evil) if evil is not None else set_in("try.start", evil))
+            self.is_refused(f"a register {ascii(evil)}",
+                            at_first(Insn("const/4", 300 if evil is True else evil, literal=0)))
             if not isinstance(evil, Label):
                 self.is_refused(f"interfaces {ascii(evil)}", lambda _, hello: hello.interfaces.append(evil))
         forged = str.__new__(Type, "LA; 0x1\nend class")
@@ -452,12 +287,8 @@ class Words(ObjectsTest):
             for evil in (*EVIL, *WRONG):
                 if (kind, evil) == (MethodRef, "LA;->m()V"):
                     continue
-                try:
-                    self.check(f"{kind.__name__} of {ascii(evil)}", False, kind(evil))
-                except ValueError as error:
-                    self.check(
-                        f"{kind.__name__} of {ascii(evil)}", str(error).isascii() and str(error).isprintable(), error
-                    )
+                what = f"{kind.__name__} of {ascii(evil)}"
+                self.check_equal(what, self.check_raises(what, ValueError, kind, evil), That(is_plain))
 
     def test_insns(self) -> None:
         for evil in (*MNEMONICS, *WRONG, "no-such", "packed-switch-payload", "sparse-switch-payload"):
@@ -473,43 +304,30 @@ class Words(ObjectsTest):
             for members in ("statics", "instances", "directs", "virtuals"):
                 self.is_refused(f"{members} {ascii(evil)}", lambda _, hello: getattr(hello, members).append(evil))
         nop = Insn("nop")
-        self.is_refused(
-            "a label of what stands twice",
-            lambda _, hello: hello.method("get").code.insns.extend([nop, nop, Insn("goto", target=Label(nop))]),
-        )
+        self.is_refused("a label of what stands twice", lambda _, hello: hello.method("get").code.insns.extend(
+            [nop, nop, Insn("goto", target=Label(nop))]
+        ))
         self.is_refused("keys without targets", at_first(SparseSwitch([1], [])))
         self.is_refused("data that is no bytes", at_first(ArrayData(1, "00\nnop")))  # type: ignore[arg-type]  # (which is tried)
 
     def test_operands(self) -> None:
         """What an instruction doesn't take is refused when it is made, with what it takes; what is missing may come."""
         made: tuple[Callable[[], Insn], ...] = (
-            lambda: Insn("const-strng", 0),
-            lambda: Insn("return-void", 0),
-            lambda: Insn("add-int", 0, 1),
-            lambda: Insn("move", 0, 1, literal=3),
-            lambda: Insn("sget", 0, text="x"),
-            lambda: Insn("invoke-static", *range(6)),
-            lambda: Insn("goto", target=Label(), count=1),
+            lambda: Insn("const-strng", 0), lambda: Insn("return-void", 0), lambda: Insn("add-int", 0, 1),
+            lambda: Insn("move", 0, 1, literal=3), lambda: Insn("sget", 0, text="x"),
+            lambda: Insn("invoke-static", *range(6)), lambda: Insn("goto", target=Label(), count=1)
         )
-        wants = (
-            "no mnemonic: 'const-strng'; near it: const-string, ",
-            "return-void takes no operand: 1 register here",
-            "add-int takes vA vB vC: 2 registers here",
-            "move takes vA vB, and no literal: 3",
-            "sget takes vA FIELD, and no text: 'x'",
-            "invoke-static takes { registers } METHOD: 6 registers here",
-            "goto takes :LABEL, and no count: 1",
-        )
+        wants = ("no mnemonic: 'const-strng'; near it: const-string, ", "return-void takes no operand: 1 register here",
+                 "add-int takes vA vB vC: 2 registers here", "move takes vA vB, and no literal: 3",
+                 "sget takes vA FIELD, and no text: 'x'", "invoke-static takes { registers } METHOD: 6 registers here",
+                 "goto takes :LABEL, and no count: 1")
         for make, want in zip(made, wants):
-            try:
-                self.check(want, False, make())
-            except ValueError as error:
-                self.check(want, str(error).startswith(want), error)
+            self.check_equal(want, self.check_raises(want, ValueError, make), Begins(want))
         for mnemonic in formats.MNEMONICS:
             form = formats.format_of(mnemonic)
             assert form is not None
             insn = Insn(mnemonic, *range(len(form.registers)))
-            self.check(f"{mnemonic}, what is missing may come", insn.mnemonic == mnemonic)
+            self.check_equal(f"{mnemonic}, what is missing may come", insn.mnemonic, mnemonic)
 
     def test_texts(self) -> None:
         """Any text is one text."""
@@ -522,20 +340,14 @@ class Words(ObjectsTest):
             insert = at_first(Insn("const-string", 0, text=evil))
             head = "code 2 1 0\n"
             seen = changed(insert)
-            self.check(
-                f"a constant {ascii(evil)}",
-                isinstance(seen, str) and f'{head}const-string v0 "{canonical}"\nconst/16' in seen,
-                seen,
-            )
+            self.check_equal(f"a constant {ascii(evil)}", (isinstance(seen, str), seen),
+                             (True, Has(f'{head}const-string v0 "{canonical}"\nconst/16')))
             program = Program.parse(HELLO)
             insert(program, program["LHello;"])
             again = Program.read(program.write())["LHello;"].method("get").insns[0].text
             assert again is not None  # (it is that of a const-string)
-            self.check(
-                f"a constant {ascii(evil)} is read again",
-                units(again) == units(evil) and "\ud83d\ude00" not in again,
-                again,
-            )
+            self.check_equal(f"a constant {ascii(evil)} is read again", (units(again), again),
+                             (units(evil), Lacks("\ud83d\ude00")))
         for evil in (5, b"a", [], True):
             self.is_refused(f"a source {evil!a}", set_in("hello.source", evil))
             self.is_refused(f"a value {evil!a}", set_in("value.value", evil))
@@ -550,13 +362,9 @@ class Words(ObjectsTest):
         self.becomes("an array", 'string "the answer"', WORDS, set_in("name.value", array))
         kinds = [one.kind for one in array.all()]
         self.check_equal("all values of an array", kinds, ["array", "int", "boolean", "float", "enum", "array"])
-        self.check_equal(
-            "the number of bits", (Value("float", 0x3F800000).number, Value("double", 0xBFF << 52).number), (1.0, -1.0)
-        )
-        try:
-            self.check("all values of a ring", False, [*itertools.islice(RING.all(), 10**6)])
-        except ValueError:
-            self.check("all values of a ring", True)
+        self.check_equal("the number of bits", (Value("float", 0x3F800000).number, Value("double", 0xBFF << 52).number),
+                         (1.0, -1.0))
+        self.check_raises("all values of a ring", ValueError, lambda: [*itertools.islice(RING.all(), 10**6)])
 
     def test_bytes(self) -> None:
         """What is no bytes is no file."""
@@ -564,18 +372,13 @@ class Words(ObjectsTest):
         evil: Any
         for job in (dexasm.check, dexasm.list, dexasm.strip, dexasm.assemble, Program.read):
             for evil in (5, 0, True, None, [1, 2], 1.5, {}):
-                try:
-                    self.check(f"{job.__name__} of {evil!a}", False, job(evil))
-                except TypeError:
-                    self.check(f"{job.__name__} of {evil!a}", True)
+                self.check_raises(f"{job.__name__} of {evil!a}", TypeError, job, evil)
         file = dexasm.assemble(HELLO)
         for given in (bytearray(file), memoryview(file), memoryview(b"".join(bytes([byte, 0]) for byte in file))[::2]):
             self.check_equal("bytes of another kind", dexasm.list(given), HELLO)
         for text in ("\ud800", "dex 035 listing 2\n\ud800", "\u00e9"):
-            try:
-                self.check("a text of another kind", False, dexasm.assemble(text))
-            except Refused as refused:
-                self.check("a text of another kind", refused.number == 100, refused)
+            seen = self.check_raises("a text of another kind", Refused, dexasm.assemble, text)
+            self.check_equal("a text of another kind", seen, Begins("refused 100 "))
 
 
 class Kept(ModuleTest):
@@ -593,19 +396,11 @@ class Kept(ModuleTest):
 class Changes(ObjectsTest):
     def test_changes(self) -> None:
         """A few changes, each with what becomes of the listing."""
-        self.becomes(
-            "a constant",
-            "v0 41",
-            "v0 42",
-            lambda _, hello: setattr(hello.method("get(Z)I").code.insns[0], "literal", 42),
-        )
+        self.becomes("a constant", "v0 41", "v0 42",
+                     lambda _, hello: setattr(hello.method("get(Z)I").code.insns[0], "literal", 42))
         self.becomes("a name", "direct get (Z)I", "direct fetch (Z)I", set_in("get.name", "fetch"))
-        self.becomes(
-            "a name that isn't ASCII",
-            "class LHello;",
-            "class LH\\u00e9/\\ud83d\\ude00;",
-            set_in("hello.name", "LH\u00e9/\U0001f600;"),
-        )
+        self.becomes("a name that isn't ASCII", "class LHello;", "class LH\\u00e9/\\ud83d\\ude00;",
+                     set_in("hello.name", "LH\u00e9/\U0001f600;"))
         self.becomes(
             "a call of a range, and one of two registers",
             "code 2 1 0\n",
@@ -615,84 +410,62 @@ class Changes(ObjectsTest):
             (":L3", ":L6"),
         )
         self.becomes(
-            "one more moves branches, payloads and tries",
-            "code 2 1 1\n",
-            "code 2 1 1\nnop\nnop\n",
+            "one more moves branches, payloads and tries", "code 2 1 1\n", "code 2 1 1\nnop\nnop\n",
             lambda _, hello: hello.method("pick").code.insns.__setitem__(slice(0, 0), [Insn("nop"), Insn("nop")]),
-            *PICKED,
+            *PICKED
         )
 
     def test_replacing(self) -> None:
         """Branches to what is replaced; classes more and none."""
         self.becomes(
-            "what led to an instruction leads to those in its place",
-            ":L3\nreturn v0",
-            ":L3\nconst/4 v0 0\nreturn v0",
-            lambda _, hello: replaced(hello.method("get").code, 3, Insn("const/4", 0, literal=0), Insn("return", 0)),
+            "what led to an instruction leads to those in its place", ":L3\nreturn v0", ":L3\nconst/4 v0 0\nreturn v0",
+            lambda _, hello: replaced(hello.method("get").code, 3, Insn("const/4", 0, literal=0), Insn("return", 0))
         )
-        self.becomes(
-            "what led to one that is taken away leads to the next",
-            "v1 :L3\nadd-int/lit8 v0 v0 -1\n:L3\n",
-            "v1 :L2\n:L2\n",
-            lambda _, hello: replaced(hello.method("get").code, 2),
-        )
-        self.becomes(
-            "a class more",
-            "end code\nend class\n",
-            "end code\nend class\nclass LB; 0x1\nend class\n",
-            lambda program, _: program.classes.append(Class(Type("LB;"))),
-        )
+        self.becomes("what led to one that is taken away leads to the next", "v1 :L3\nadd-int/lit8 v0 v0 -1\n:L3\n",
+                     "v1 :L2\n:L2\n", lambda _, hello: replaced(hello.method("get").code, 2))
+        self.becomes("a class more", "end code\nend class\n", "end code\nend class\nclass LB; 0x1\nend class\n",
+                     lambda program, _: program.classes.append(Class(Type("LB;"))))
         self.becomes("other classes", HELLO[18:], "", lambda program, _: setattr(program, "classes", []))
         self.becomes("no class", HELLO[18:], "", lambda program, _: program.classes.clear())
         self.becomes("a field's value", ' = string "the answer"', "", set_in("name.value", None))
 
     def test_made(self) -> None:
         program = Program([class_of_objects()])
-        self.check(
-            "a program that is made", str(program) == MADE and dexasm.list(program.write()) == MADE, str(program)
-        )
+        self.check_equal("a program that is made", (str(program), dexasm.list(program.write())), (MADE, MADE))
         read: Any = Program.parse(MADE)["LA;"].method("m").code
         array, packed, sparse = read.insns[6:]
         seen = type(array), type(packed), type(sparse), array.data, packed.first, sparse.keys, read.tries[0].end.insn
         want = ArrayData, PackedSwitch, SparseSwitch, b"\1\0\2\0", -1, [-5, 7], None
         self.check_equal("payloads are read", seen, want)
         start = read.tries[0].start
-        self.check("one label a place", packed.targets[0] is start and start.insn is read.insns[0])
+        self.check_equal("one label a place", (packed.targets[0] is start, start.insn is read.insns[0]), (True, True))
 
     def test_copies(self) -> None:
         made: Any = class_of_objects()
         first = made.directs[0].code.insns[0]
         copies = copy.deepcopy(made), pickle.loads(pickle.dumps(made)), Class.of_text(str(made))
-        self.check("copies", all(one == made and one.directs[0].code.insns[0] is not first for one in copies))
+        self.check_equal("copies",
+                         [one for one in copies if not (one == made and one.directs[0].code.insns[0] is not first)], [])
         copies[0].directs[0].code.insns[1].literal = 3
-        self.check("a copy's change is its own", copies[0] != made and str(Program([made])) == MADE)
+        self.check_equal("a copy's change is its own", (copies[0], str(Program([made]))), (Other(made), MADE))
 
     def test_kinds(self) -> None:
         """What names tell."""
         one, inner = Type("[[Ljava/lang/String;"), Type("[I").element
         seen = one.element, one.pretty, Type("V").pretty, inner and inner.element
         self.check_equal("a type", seen, ("[Ljava/lang/String;", "java.lang.String[][]", "void", None))
-        self.check_equal(
-            "a package",
-            (Type("La/b/C;").package, Type("LC;").package, Type("I").package, one.package),
-            ("a.b", "", "", ""),
-        )
+        self.check_equal("a package", (Type("La/b/C;").package, Type("LC;").package, Type("I").package, one.package),
+                         ("a.b", "", "", ""))
         proto = Proto("(I[[JLx/Y;[Z)V")
-        self.check(
-            "a prototype",
-            proto.parameters == ("I", "[[J", "Lx/Y;", "[Z") and proto.returns == "V" and Proto("()[I").parameters == (),
-        )
+        self.check_equal("a prototype", (proto.parameters, proto.returns, Proto("()[I").parameters),
+                         (("I", "[[J", "Lx/Y;", "[Z"), "V", ()))
         method, field = MethodRef.of("[LA;", "<init>", "(I)V"), FieldRef.of("La-;", "x-", "[LB;")
-        self.check_equal(
-            "a method's parts",
-            (method, method.owner, method.name, method.proto),
-            ("[LA;-><init>(I)V", "[LA;", "<init>", "(I)V"),
-        )
-        self.check_equal(
-            "a field's parts", (field, field.owner, field.name, field.type), ("La-;->x-:[LB;", "La-;", "x-", "[LB;")
-        )
+        self.check_equal("a method's parts", (method, method.owner, method.name, method.proto),
+                         ("[LA;-><init>(I)V", "[LA;", "<init>", "(I)V"))
+        self.check_equal("a field's parts", (field, field.owner, field.name, field.type),
+                         ("La-;->x-:[LB;", "La-;", "x-", "[LB;"))
         known: dict[str, int] = {method: 1}
-        self.check("names hash", known["[LA;-><init>(I)V"] == 1 and pickle.loads(pickle.dumps(method)) == method)
+        self.check_equal("names hash", (known["[LA;-><init>(I)V"], pickle.loads(pickle.dumps(method))), (1, method))
 
     def test_near(self) -> None:
         """What is told of a class that isn't there, and the text of a member."""
@@ -706,11 +479,12 @@ class Changes(ObjectsTest):
             (5, "no class 5"),
             ("x" * 10000, "no class " + "'" + "x" * 20),
         ):
-            self.check(f"a class that is near {asked!r:.30}", raised(program, asked).startswith(want), raised(program, asked))
+            what = f"a class that is near {asked!r:.30}"
+            self.check_equal(what, self.check_raises(what, KeyError, program.__getitem__, asked), Begins(want))
         get = hello.method("get(Z)I")
         listed = f"direct get (Z)I 0x9\n{get.code}"
-        self.check("a method's text is its listing", str(get) == listed and listed in str(program), str(get))
-        self.check("a field's text is its listing", str(hello.fields[0]) in str(program), str(hello.fields[0]))
+        self.check_equal("a method's text is its listing", (str(get), str(program)), (listed, Has(listed)))
+        self.check_equal("a field's text is its listing", str(program), Has(str(hello.fields[0])))
         plain = str(Method("m", Proto("()V"), 0x101)), str(Method("<init>", Proto("()V"), 0x100))
         self.check_equal("the lists of methods", plain, ("virtual m ()V 0x101\n", "direct <init> ()V 0x100\n"))
 
@@ -718,45 +492,32 @@ class Changes(ObjectsTest):
         """How classes and members are found."""
         program = Program.parse(HELLO)
         hello = program["LHello;"]
-        self.check_equal(
-            "names of members",
-            (hello.ref(hello.methods[0]), hello.ref(hello.fields[0])),
-            ("LHello;->get(Z)I", "LHello;->name:Ljava/lang/String;"),
-        )
-        self.check(
-            "a class is found",
-            "LHello;" in program and "LB;" not in program and 5 not in program and program["LHello;"] is hello,
-        )
+        self.check_equal("names of members", (hello.ref(hello.methods[0]), hello.ref(hello.fields[0])),
+                         ("LHello;->get(Z)I", "LHello;->name:Ljava/lang/String;"))
+        self.check_equal("a class is found",
+                         ([one in program for one in ("LHello;", "LB;", 5)], program["LHello;"] is hello),
+                         ([True, False, False], True))
         for find, wrong in (
-            (program.__getitem__, "LB;"),
-            (hello.method, "get(I)I"),
-            (hello.method, "put"),
-            (hello.field, "name:I"),
+            (program.__getitem__, "LB;"), (hello.method, "get(I)I"), (hello.method, "put"), (hello.field, "name:I")
         ):
-            try:
-                self.check(f"no {wrong}", False, find(wrong))
-            except KeyError:
-                self.check(f"no {wrong}", True)
+            self.check_raises(f"no {wrong}", KeyError, find, wrong)
         hello.directs.append(Method("get", Proto("()V")))
         self.check("a method is found", hello.method("get()V") is hello.directs[-1])
-        try:
-            self.check("a name of two methods", False, hello.method("get"))
-        except KeyError:
-            self.check("a name of two methods", True)
+        self.check_raises("a name of two methods", KeyError, hello.method, "get")
         hello.name = Type("LB;")
-        self.check("a class of another name", program["LB;"] is hello and "LHello;" not in program)
+        self.check_equal("a class of another name", (program["LB;"] is hello, "LHello;" in program), (True, False))
         program.classes.append(Class(Type("LB;"), 0x10))
         program.classes.append(Class(Type("LC;")))
-        self.check("classes behind", program["LB;"] is hello and program["LC;"] is program.classes[2])
-        del program.classes[1:]
-        self.check("classes that are gone", "LC;" not in program and program["LB;"] is hello)
-        program.classes.insert(0, Class(Type("LHello;")))
-        self.check(
-            "a class in front",
-            program["LHello;"] is program.classes[0]
-            and program.classes[1] is hello
-            and [*program.classes.names()] == ["LHello;", "LB;"],
+        self.check_equal(
+            "classes behind", (program["LB;"] is hello, program["LC;"] is program.classes[2]), (True, True)
         )
+        del program.classes[1:]
+        self.check_equal("classes that are gone", ("LC;" in program, program["LB;"] is hello), (False, True))
+        program.classes.insert(0, Class(Type("LHello;")))
+        self.check_equal("a class in front",
+                         (program["LHello;"] is program.classes[0], program.classes[1] is hello,
+                          [*program.classes.names()]),
+                         (True, True, ["LHello;", "LB;"]))
 
     def test_references(self) -> None:
         """Each name and text that a program has, in the order of its listing, and by what."""
@@ -783,15 +544,10 @@ class Changes(ObjectsTest):
         """The sizes of instructions and payloads ("Dalvik Executable instruction formats", "Dalvik bytecode")."""
         end = Label()
         for insn, units in (
-            (Insn("nop"), 1),
-            (Insn("goto/16", target=end), 2),
-            (Insn("const-string/jumbo", 0, text=""), 3),
-            (Insn("invoke-static", name="LA;->m()V"), 3),
-            (Insn("const-wide", 0, literal=1), 5),
-            (PackedSwitch(0, [end] * 3), 10),
-            (SparseSwitch([1, 2, 3], [end] * 3), 14),
-            (ArrayData(1, b"abc"), 6),
-            (ArrayData(8, bytes(16)), 12),
+            (Insn("nop"), 1), (Insn("goto/16", target=end), 2), (Insn("const-string/jumbo", 0, text=""), 3),
+            (Insn("invoke-static", name="LA;->m()V"), 3), (Insn("const-wide", 0, literal=1), 5),
+            (PackedSwitch(0, [end] * 3), 10), (SparseSwitch([1, 2, 3], [end] * 3), 14), (ArrayData(1, b"abc"), 6),
+            (ArrayData(8, bytes(16)), 12)
         ):
             self.check_equal(f"units of {insn!r}", insn.units, units)
 
@@ -802,14 +558,13 @@ class Changes(ObjectsTest):
             seen = changed(both(change))
             place = (seen.number, seen.class_name, seen.member, seen.insn) if isinstance(seen, Refused) else seen
             want = (number, "LHello;", member and f"LHello;->{member}", insn)
-            self.check(f"the place of {what}", place == want, (place, str(seen)))
+            self.check_equal(f"the place of {what}", place, want)
         seen = changed(inserted("pick", 1, WIDE))
         said = "LHello;->pick(I)V, instruction 1: 42000: a number from -32768 to 32767 stands here; const takes more"
         self.check_equal("its line", str(seen), f"refused 102 Number at {seen.place}: {said}")
         again = pickle.loads(pickle.dumps(seen))
-        self.check_equal(
-            "it is pickled whole", (str(again), again.insn, again.member), (str(seen), 1, "LHello;->pick(I)V")
-        )
+        self.check_equal("it is pickled whole", (str(again), again.insn, again.member),
+                         (str(seen), 1, "LHello;->pick(I)V"))
         self.check_equal("where there is no program", str(Refused(8, "Checksum", 8)), "refused 8 Checksum at 8")
 
 
@@ -818,14 +573,9 @@ COOKBOOK = (
     ("python3 make-hello.py hello.dex", ""),
     ("wc -c <hello.dex", "620\n"),
     ("cp hello.dex broken.dex; printf 'X' | dd of=broken.dex bs=1 seek=200 conv=notrunc status=none", ""),
-    (
-        "python3 verdict.py hello.dex broken.dex",
-        "hello.dex: ok\nbroken.dex: 8 Checksum at 8\nError: 1 refused\n",
-    ),
-    (
-        "python3 callers.py hello.dex 'Ljava/io/PrintStream;->println(Ljava/lang/String;)V'",
-        "LMain;->main([Ljava/lang/String;)V\n",
-    ),
+    ("python3 verdict.py hello.dex broken.dex", "hello.dex: ok\nbroken.dex: 8 Checksum at 8\nError: 1 refused\n"),
+    ("python3 callers.py hello.dex 'Ljava/io/PrintStream;->println(Ljava/lang/String;)V'",
+     "LMain;->main([Ljava/lang/String;)V\n"),
     ("python3 retext.py hello.dex hello 'good evening, \"all\"' evening.dex", ""),
     ("python3 verdict.py evening.dex", "evening.dex: ok\n"),
     ("python3 changed.py hello.dex evening.dex", "changed LMain;\n"),
@@ -849,19 +599,11 @@ class Pages(ObjectsTest):
             "refused 118 Register at 0: LHello;->m()V, instruction 0: v9 of 2 registers\n5; 9; v9; v9 of 2 registers\n"
         )
         self.check_equal("README: a place", place, said)
-        self.check(
-            "README: examples, under twenty lines each",
-            len(examples) == 5 and all(example.count("\n") < 20 for example in examples),
-            len(examples),
-        )
-        self.check(
-            "README: a constant", answers[0] == "" and made[0] == text.replace("v0 41", "v0 42"), (answers[0], made[0])
-        )
-        self.check(
-            "README: a method",
-            answers[1] == "" and made[1] == text.replace("get (Z)I", "fetch (Z)I").replace("->get(Z)I", "->fetch(Z)I"),
-            answers[1],
-        )
+        self.check_equal("README: examples, under twenty lines each",
+                         (len(examples), [example for example in examples if example.count("\n") >= 20]), (5, []))
+        self.check_equal("README: a constant", (answers[0], made[0]), ("", text.replace("v0 41", "v0 42")))
+        self.check_equal("README: a method", (answers[1], made[1]),
+                         ("", text.replace("get (Z)I", "fetch (Z)I").replace("->get(Z)I", "->fetch(Z)I")))
         self.check_equal("README: calls", answers[2], "LHello;->pick(I)V calls LHello;->get(Z)I\n")
         self.check_equal("README: packages", answers[3], "2 ''\n1 'a'\n")
 
@@ -877,15 +619,16 @@ class Pages(ObjectsTest):
             module = glob.glob(os.path.join(glob.escape(TOP), "python/src/dexasm/*.py"))
             words = ["mypy", "--strict", "--python-version", "3.10", "--cache-dir", f"{at}/cache"]
             seen = run([*words, *module, "user.py"], at)
-            self.check("mypy of the module", seen.startswith("Success: "), seen)
+            self.check_equal("mypy of the module", seen, Begins("Success: "))
             seen = run([*words, *module, "wrong.py"], at)
-            self.check("mypy of a wrong use", seen.startswith("wrong.py:8: error: ") and "Found 1 error" in seen, seen)
+            self.check_equal("mypy of a wrong use", seen, Begins("wrong.py:8: error: ") & Has("Found 1 error"))
 
     def test_cookbook(self) -> None:
         """The cookbook's programs, each on what those before it made."""
         folder = os.path.join(TOP, "docs", "cookbook")
         names = {name for name in os.listdir(folder) if name.endswith(".py")}
-        self.check_equal("cookbook: each program is run", names, {name for step in COOKBOOK for name in names if name in step[0]})
+        self.check_equal("cookbook: each program is run", names,
+                         {name for step in COOKBOOK for name in names if name in step[0]})
         with tempfile.TemporaryDirectory() as at:
             os.mkdir(f"{at}/bin")
             os.symlink(sys.executable, f"{at}/bin/python3")

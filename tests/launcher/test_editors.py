@@ -31,7 +31,7 @@ LINES = (
     ('source "a v0 \\" :L1 #"', "Member source", 'Text "a v0 \\" :L1 #"'),
     ("static count I 0x9 = int -3", "Member static", "Type I", "Number 0x9", "Value int", "Number -3"),
     ("static int [J 0x9 = array { long 0x10 null }", "Member static", "Type [J", "Number 0x9", "Value array",
-        "Value long", "Number 0x10", "Value null"),
+     "Value long", "Number 0x10", "Value null"),
     ("static f LE; 0x9 = enum LE;->A:LE;", "Member static", "Type LE;", "Number 0x9", "Value enum", "Type LE;"),
     ("direct return (I)V 0x9", "Member direct", "Number 0x9"),
     ("virtual nop ()V 1", "Member virtual", "Number 1"),
@@ -47,9 +47,9 @@ LINES = (
     ("catchall :b", "Member catchall", "Target :b"),
     ("end code", "Block end code"),
     ("end  class", "Block end  class"),
-    ("iff v0x 0x", ),
-    ("movement", ),
-)  # fmt: skip
+    ("iff v0x 0x",),
+    ("movement",),
+)
 
 
 FAULT = "app/a b.txt:5:9: error: 118 Register: v9 of 2 registers: 3"

@@ -15,7 +15,8 @@ def linted(text: str) -> tuple[int, str]:
         os.mkdir(os.path.join(folder, "tools"))
         shutil.copy(os.path.join(TOP, "tools", "lint"), os.path.join(folder, "tools"))
         parts = os.path.join(TOP, "tools", "parts")
-        shutil.copytree(parts, os.path.join(folder, "tools", "parts"), ignore=shutil.ignore_patterns("out", "__pycache__"))
+        shutil.copytree(parts, os.path.join(folder, "tools", "parts"),
+                        ignore=shutil.ignore_patterns("out", "__pycache__"))
         with open(os.path.join(folder, "README.md"), "w", encoding="utf8") as page:
             page.write(f"# A page\n\n{text}\n")
         done = subprocess.run([sys.executable, "tools/lint", "words"], cwd=folder, capture_output=True, text=True)

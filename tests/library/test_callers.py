@@ -10,6 +10,7 @@ from collections.abc import Callable
 import dexasm
 from .. import TOP
 from ..base import Ended, compiler, get
+from ..matchers import Has
 from .calls import JOBS, LISTINGS, LibraryTest, run
 
 Words = dict[str, list[str]]  # of each caller, by its name
@@ -22,11 +23,8 @@ def checked(given: bytes) -> bytes:
 
 # The module's calls, with the command's output of each.
 MODULE: dict[str, Callable[[bytes], bytes]] = {
-    "check": checked,
-    "list": lambda given: dexasm.list(given).encode("ascii"),
-    "assemble": dexasm.assemble,
-    "align": lambda given: dexasm.assemble(given, align=True),
-    "strip": dexasm.strip,
+    "check": checked, "list": lambda given: dexasm.list(given).encode("ascii"), "assemble": dexasm.assemble,
+    "align": lambda given: dexasm.assemble(given, align=True), "strip": dexasm.strip
 }
 # Where a version stands, and how.
 VERSIONS = (
@@ -67,10 +65,8 @@ int main(int argc, char **argv) {
 class CallersTest(LibraryTest):
     def example(self, kind: str) -> tuple[str, Ended]:
         """The caller in C with the static library or with the shared one: where it is, and how its compiling ended."""
-        libraries = {
-            "static": [f"{self.library}/libdexasm.a"],
-            "shared": [f"{self.library}/libdexasm.so", f"-Wl,-rpath,{self.library}"],
-        }
+        libraries = {"static": [f"{self.library}/libdexasm.a"],
+                     "shared": [f"{self.library}/libdexasm.so", f"-Wl,-rpath,{self.library}"]}
         made = os.path.join(self.work, f"example-{kind}")
         words = ["-O2", "-Wall", "-Wextra", "-Werror", "-I", self.library, f"{TOP}/bindings/c/example.c"]
         return made, run(*compiler(), *words, *libraries[kind], "-o", made)
@@ -101,7 +97,7 @@ class Callers(CallersTest):
         for name in LISTINGS:
             path = os.path.join(self.work, name.replace(" ", "-"))
             status, _, said = self.command("align", path)
-            self.check(f"the command's align of {path}", status == 0, said)
+            self.check_equal(f"the command's align of {path}", status, 0)
 
     def test_c(self) -> None:
         callers: Words = {}
@@ -117,7 +113,7 @@ class Callers(CallersTest):
         for standard in ("-std=c99", "-std=c11"):
             words = [standard, "-Wall", "-Wextra", "-Wpedantic", "-Werror", "-I", self.library, header, "-o", made]
             status, _, said = run(*compiler(), *words)
-            self.check(f"the header is {standard}", status == 0 and run(made)[0] == 0, said)
+            self.check_equal(f"the header is {standard}", (status, run(made)[0]), (0, 0))
 
     def test_rust(self) -> None:
         if not shutil.which("cargo"):
@@ -126,10 +122,9 @@ class Callers(CallersTest):
         crate = os.path.join(self.work, "rust")
         shutil.copytree(os.path.join(TOP, "bindings/rust"), crate)
         status, out, said = run("cargo", "test", "--offline", cwd=crate, env=env)
-        is_so = status == 0 and b"5 passed" in out
-        self.check("the tests of the crate for Rust", is_so, out.decode()[-600:] + said[-600:])
+        self.check_equal("the tests of the crate for Rust", (status, out), (0, Has(b"5 passed")))
         status, _, said = run("cargo", "build", "--offline", "--examples", cwd=crate, env=env)
-        self.check("the example of the crate for Rust", status == 0, said[-600:])
+        self.check_equal("the example of the crate for Rust", status, 0)
         self.check_answers({"Rust": [f"{self.work}/target/debug/examples/run"]})
 
     def test_python(self) -> None:
@@ -145,7 +140,8 @@ class Callers(CallersTest):
         python, maven = number.replace("-dev", ".dev0"), number.replace("-dev", "-SNAPSHOT")
         for path, line in VERSIONS:
             with open(os.path.join(TOP, path), encoding="ascii") as file:
-                self.check(f"{path}: the version", line.format(number, python=python, maven=maven) in file.read())
+                self.check_equal(f"{path}: the version", file.read(),
+                                 Has(line.format(number, python=python, maven=maven)))
 
     def test_valgrind(self) -> None:
         """valgrind reports nothing about the caller in C, which does all jobs in one process."""

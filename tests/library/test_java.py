@@ -8,6 +8,7 @@ import shutil
 import jars_of_dexasm
 from .. import TOP, sought
 from ..base import get
+from ..matchers import ANY, EMPTY, ONE_LINE, SOME, Above, Begins, Ends, Has, Lacks, Matches
 from ..program import out_cases
 from .calls import JOBS, put, run
 from .java import JAVA, QUICK, JavaTest
@@ -30,10 +31,7 @@ HOSTILE = ("check", "--\x1b[31m\n\u202e\x07")
 COOKBOOK = (
     ("MakeHello hello.dex", ""),
     ("Verdict hello.dex broken.dex", "hello.dex: ok\nbroken.dex: 8 Checksum at 8\n"),
-    (
-        "Callers hello.dex 'Ljava/io/PrintStream;->println(Ljava/lang/String;)V'",
-        "LMain;->main([Ljava/lang/String;)V\n",
-    ),
+    ("Callers hello.dex 'Ljava/io/PrintStream;->println(Ljava/lang/String;)V'", "LMain;->main([Ljava/lang/String;)V\n"),
     ("Retext hello.dex hello 'good evening, \"all\"' evening.dex", ""),
     ("Verdict evening.dex", "evening.dex: ok\n"),
     ("Changed hello.dex evening.dex", "changed LMain;\n"),
@@ -84,9 +82,8 @@ class JavaBinding(JavaTest):
         for at, path in enumerate(paths):
             shutil.copy(path, f"{folder}/{at}")
             for job in JOBS:
-                status, made, said = run(
-                    self.java.program, *(["assemble", "--align"] if job == "align" else [job]), path
-                )
+                status, made, said = run(self.java.program, *(["assemble", "--align"] if job == "align" else [job]),
+                                         path)
                 put(f"{folder}/{at}.{job}", b"" if job == "check" else made)
                 lines.append(f"{job}\t{at}\t{said.strip().removeprefix('dexasm: ') if status else ''}\t{at}.{job}")
         put(f"{folder}/cases", "\n".join(lines).encode())
@@ -94,8 +91,7 @@ class JavaBinding(JavaTest):
         for what, words in (("its tries", (folder, number)), ("a small heap", ("small", folder))):
             options = SMALL if words[0] == "small" else ()
             status, out, said = self.java.run(*options, "-XX:+UseSerialGC", "-cp", self.java.path(), "Tries", *words)
-            is_so = status == 0 and re.fullmatch(rb"[1-9]\d* tried, 0 failed\n", out)
-            self.check(f"Java: {what}", is_so, f"{status} {out!r} {said[-600:]}")
+            self.check_equal(f"Java: {what}", (status, out), (0, Matches(rb"[1-9]\d* tried, 0 failed\n")))
 
     def session(self) -> list[str]:
         """README's session: its listing, the file of it, and that with a byte changed, refused as the page says."""
@@ -125,8 +121,8 @@ class JavaBinding(JavaTest):
         put(f"{folder}/places", "\n".join(rows).encode("ascii"))
         words = ("-Xmx1g", "-XX:+UseSerialGC", "-cp", self.java.path(), "Tries", "places", folder)
         status, out, said = self.java.run(*words)
-        is_so = status == 0 and out.endswith(b" tried, 0 failed\n") and len(rows) > 250
-        self.check("Java: the places of refusals", is_so, f"{status} {out!r} {said[-600:]}")
+        self.check_equal("Java: the places of refusals", (status, out, len(rows)),
+                         (0, Ends(b" tried, 0 failed\n"), Above(250)))
 
     def test_words(self) -> None:
         """The jar's main beside the command: status, standard output, and of a refusal or a failure the line."""
@@ -145,21 +141,21 @@ class JavaBinding(JavaTest):
                 shutil.rmtree(folder)
             self.check_equal(f"Java: the words {words}", ends[0], ends[1])
         status, out, said = run(self.java.command, *HOSTILE, env=self.java.env)
-        is_escaped = r"--\u{1b}[31m\u{a}\u{202e}\u{7}" in said and said.isascii() and "\x1b" not in said
-        self.check("Java: words that a terminal obeys", status == 2 and not out and is_escaped, repr(said))
+        self.check_equal("Java: words that a terminal obeys", (status, out, said, said.isascii()),
+                         (2, EMPTY, Has(r"--\u{1b}[31m\u{a}\u{202e}\u{7}") & Lacks("\x1b"), True))
         where = {"cwd": self.java.folder, "env": self.java.env | {"LC_ALL": "C"}}
         got = run(self.java.command, "list", self.right, "--output", "\u00e9", **where)
         is_made = os.path.exists(f"{self.java.folder}/??")
-        self.check("Java: a name that the locale can't spell", got[:2] == (2, b"") and not is_made, got)
+        self.check_equal("Java: a name that the locale can't spell", (got[:2], is_made), ((2, b""), EMPTY))
         status, out, _ = run(self.java.command, "--help", env=self.java.env)
         said = all(f" {word} ".encode() in out for word in ("check", "--align", "70"))
-        self.check("Java: help", status == 0 and said, out)
+        self.check_equal("Java: help", (status, said), (0, SOME))
 
     def check_ends(self) -> None:
         """Standard output that fails, and memory that runs out."""
         with open("/dev/full", "wb") as full:
             got = run(self.java.command, "list", self.right, stdout=full, env=self.java.env)
-        self.check("Java: standard output is full", got[::2] == (3, "dexasm: cannot write\n"), got)
+        self.check_equal("Java: standard output is full", got, (3, ANY, "dexasm: cannot write\n"))
         big = f"{self.java.folder}/cases/big"
         got = self.java.run(*SMALL, "-jar", self.java.jar, "check", big)
         self.check_equal("Java: no room for FILE", got, (4, b"", "dexasm: out of memory\n"))
@@ -184,15 +180,8 @@ class JavaBinding(JavaTest):
             ('list "$1" --output /dev/fd/3 && cat /dev/fd/3', (0, listing, "")),  # (a file that was removed)
             ('list "$1" --output pipe & sleep 1; kill $!; wait $!', (143, b"", "")),  # (nobody reads it)
         ):
-            got = run(
-                "bash",
-                "-c",
-                f'exec 3<>gone; rm gone; "$0" {words}',
-                self.java.command,
-                self.right,
-                env=self.java.env,
-                cwd=folder,
-            )
+            got = run("bash", "-c", f'exec 3<>gone; rm gone; "$0" {words}', self.java.command, self.right,
+                      env=self.java.env, cwd=folder)
             self.check_equal(f"Java: {words}", got, want)
         left = sorted(os.listdir(folder)), os.path.islink(f"{folder}/link")
         self.check_equal("Java: a link to standard output stays", left, (["link", "pipe"], True))
@@ -200,10 +189,8 @@ class JavaBinding(JavaTest):
     def test_libraries(self) -> None:
         """A library that isn't there, is none, lacks a call or is another one, and no JNA: one line, and status 70."""
         number = run(self.java.program, "--version")[1].decode().split()[1]
-        libraries = [
-            ("isn't there", f"{self.java.folder}/none.so", "isn't there"),
-            ("is no library", self.right, "ELF header"),
-        ]
+        libraries = [("isn't there", f"{self.java.folder}/none.so", "isn't there"),
+                     ("is no library", self.right, "ELF header")]
         for name, text, line in (
             ("lacks a call", VERSION_ELSE.replace("CALL(strip)", ""), "dexasm_strip"),
             ("has another version", VERSION_ELSE, "is of version 9.8.7"),
@@ -212,27 +199,21 @@ class JavaBinding(JavaTest):
             libraries += [(name, made, line)] if made else []
         for name, library, line in libraries:
             for options, env in (
-                ([f"-Ddexasm.library={library}"], dict[str, str]()),
-                (list[str](), {"DEXASM_LIBRARY": library}),
+                ([f"-Ddexasm.library={library}"], dict[str, str]()), (list[str](), {"DEXASM_LIBRARY": library})
             ):
                 status, out, said = self.java.run(*QUICK, *options, "-jar", self.java.jar, "strip", self.right, env=env)
-                is_so = said.startswith(f"dexasm: no libdexasm {number}: ") and said.count("\n") == 1 and line in said
-                self.check(f"Java: a library that {name}", (status, out) == (70, b"") and is_so, f"{status} {said}")
+                self.check_equal(f"Java: a library that {name}", (status, out, said),
+                                 (70, b"", Begins(f"dexasm: no libdexasm {number}: ") & ONE_LINE & Has(line)))
         long = self.java.compiled_c("long.so", TOO_LONG % {"version": number, "length": len(number)})
         for job in ("strip", "list") if long else ():
             assert long is not None  # (there are no jobs without)
             got = self.java.run(*QUICK, "-jar", self.java.jar, job, self.right, env={"DEXASM_LIBRARY": long})
             self.check_equal(f"Java: out of memory in {job}", got, (4, b"", "dexasm: out of memory\n"))
         got = self.java.run(*QUICK, "-cp", f"{self.java.folder}/alone", "dexasm.Main", "check", self.right)
-        self.check("Java: no JNA", got[:2] == (70, b"") and re.fullmatch(r"dexasm: JNA isn't there: .*\n", got[2]), got)
+        self.check_equal("Java: no JNA", got, (70, b"", Matches(r"dexasm: JNA isn't there: .*\n")))
         shutil.copy(f"{self.java.library}/libdexasm.so", f"{self.java.folder}/libdexasm.so.0")
-        words = (
-            "-cp",
-            f"{self.java.folder}/alone{os.pathsep}{jars_of_dexasm.jna()}",
-            "dexasm.Main",
-            "check",
-            self.right,
-        )
+        words = ("-cp", f"{self.java.folder}/alone{os.pathsep}{jars_of_dexasm.jna()}", "dexasm.Main", "check",
+                 self.right)
         got = self.java.run(*QUICK, *words, env={"LD_LIBRARY_PATH": self.java.folder})
         self.check_equal("Java: the system's library", got, (0, b"ok\n", ""))
 
@@ -245,7 +226,7 @@ class JavaBinding(JavaTest):
         path = put(f"{self.java.folder}/longer.dex", longer)
         given = run(f"{TOP}/python/bin/dexasm-close", path, "--output", "-")[1]
         status, made, _ = run(self.java.command, "strip", put(path, given), env=self.java.env)
-        self.check("Java: strip of a longer file", status == 0 and made == answer != given, status)
+        self.check_equal("Java: strip of a longer file", (status, made == answer != given), (0, True))
 
         def check(what: str, is_so: bool, seen: object) -> None:
             self.check(f"Java: {what}", is_so, seen)
@@ -264,15 +245,14 @@ class JavaBinding(JavaTest):
         for line, want in COOKBOOK:
             command = f"java -cp .:dexasm.jar {line}"
             status, out, said = run("bash", "-c", command, cwd=folder, env=self.java.env)
-            self.check(f"Java: the cookbook's {line}", out.decode() + said == want, f"{status} {out!r} {said!r}")
+            self.check_equal(f"Java: the cookbook's {line}", out.decode() + said, want)
             if line.startswith("MakeHello"):
                 made = get(f"{folder}/hello.dex")
                 self.check_equal("Java: the cookbook's hello.dex has as many bytes as the page says", len(made), 620)
                 put(f"{folder}/broken.dex", made[:200] + b"X" + made[201:])
         by, small = f"{folder}{os.pathsep}{self.java.jar}", f"{folder}/small.dex"
         got = self.java.run(*QUICK, "-cp", by, "StripOne", self.right, small)
-        is_so = got == (0, b"", "") and get(small) == run(self.java.program, "strip", self.right)[1]
-        self.check("Java: the example of its README", is_so, got)
+        self.check_equal("Java: the example of its README", (got, get(small)),
+                         ((0, b"", ""), run(self.java.program, "strip", self.right)[1]))
         status, out, said = self.java.run(*QUICK, "-cp", by, "Small", self.right)
-        is_so = status == 0 and re.fullmatch(rb"\d+ bytes, stripped \d+\n", out)
-        self.check("Java: the example of the class", is_so, f"{out!r} {said}")
+        self.check_equal("Java: the example of the class", (status, out), (0, Matches(rb"\d+ bytes, stripped \d+\n")))

@@ -16,26 +16,21 @@ from urllib.parse import quote, unquote
 from python.tests import output_files, write_cases
 from python.tests.cli import support
 from ..base import LIMIT
+from ..matchers import EMPTY, Above
 from .java import QUICK, Java, JavaTest, made
 
 NAMES = {os.strerror(number): name for number, name in errno.errorcode.items()}
 # The calls by which an answer is brought. Each is failed by the first of these errors, and some by more.
-CALLS = (
-    "open", "close", "statx", "readlink", "rename", "unlink", "write", "pread", "lseek", "ftruncate", "fsync", "fchown",
-    "fchmod", "flistxattr", "fgetxattr", "fsetxattr", "fremovexattr",
-)  # fmt: skip
+CALLS = ("open", "close", "statx", "readlink", "rename", "unlink", "write", "pread", "lseek", "ftruncate", "fsync",
+         "fchown", "fchmod", "flistxattr", "fgetxattr", "fsetxattr", "fremovexattr")
 ERRORS = ("ENOSPC", "EIO", "EACCES", "EPERM")
-MORE = {
-    "open": (*ERRORS, "EEXIST", "ENOENT", "EROFS"), "rename": (*ERRORS, "EBUSY"), "write": (*ERRORS, "EINTR"),
-    "fsync": (*ERRORS, "EINTR"), "fchown": ERRORS, "fchmod": ERRORS,
-}  # fmt: skip
+MORE = {"open": (*ERRORS, "EEXIST", "ENOENT", "EROFS"), "rename": (*ERRORS, "EBUSY"), "write": (*ERRORS, "EINTR"),
+        "fsync": (*ERRORS, "EINTR"), "fchown": ERRORS, "fchmod": ERRORS}
 # Access control lists, and what the owner, the group and the others may do with a file that can't have them: whom a
 # list names may do no more as one of the group or the others, and the mask holds for all that it names and the group.
-LISTS = (
-    (output_files.listed(6, 6, 6, 4, 4), 0o644), (output_files.listed(6, 7, 6, 4, 6), 0o644),
-    (output_files.listed(6, 0, 4, 4, 4), 0o600), (output_files.listed(6, 4, 6, 6, 6), 0o644),
-    (output_files.listed(6, 6, 0, 6, 0), 0o600),
-)  # fmt: skip
+LISTS = ((output_files.listed(6, 6, 6, 4, 4), 0o644), (output_files.listed(6, 7, 6, 4, 6), 0o644),
+         (output_files.listed(6, 0, 4, 4, 4), 0o600), (output_files.listed(6, 4, 6, 6, 6), 0o644),
+         (output_files.listed(6, 6, 0, 6, 0), 0o600))
 # How bringing ends where some of these failed.
 TOLD = {(call, error): error for call in ("write", "fsync", "rename") for error in ("ENOSPC", "EIO")}
 TOLD |= {("close", "ENOSPC"): "ENOSPC", ("write", "EINTR"): "done", ("fsync", "EINTR"): "done"}
@@ -80,13 +75,10 @@ ssize_t write(int file, const void *bytes, size_t length) {
 }
 """
 # What strace does with calls on the part: fails them, or ends the process.
-INJECTED = (
-    *(f"{call}:error={error}" for call in ("openat", "fchown", "fchmod", "write") for error in ERRORS),
-    *(f"{call}:error={error}" for call in ("fsync", "rename") for error in ERRORS),
-    "write:retval=0",
-    *(f"{call}:signal=SIGKILL" for call in ("write", "fsync", "rename")),
-    *(f"{call}:signal={name}" for call in ("openat", "write") for name in ("SIGTERM", "SIGINT", "SIGHUP")),
-)
+INJECTED = (*(f"{call}:error={error}" for call in ("openat", "fchown", "fchmod", "write") for error in ERRORS),
+            *(f"{call}:error={error}" for call in ("fsync", "rename") for error in ERRORS), "write:retval=0",
+            *(f"{call}:signal=SIGKILL" for call in ("write", "fsync", "rename")),
+            *(f"{call}:signal={name}" for call in ("openat", "write") for name in ("SIGTERM", "SIGINT", "SIGHUP")))
 
 
 class Process:
@@ -110,15 +102,8 @@ class Process:
         self.timer.cancel()
 
     def ran(
-        self,
-        out: str | bytes | os.PathLike[str],
-        given: bytes = output_files.NEW,
-        user: int = 0,
-        groups: Sequence[int] = (),
-        mask: int = 0o022,
-        most: int | None = None,
-        at: str | None = None,
-        fault: str = "",
+        self, out: str | bytes | os.PathLike[str], given: bytes = output_files.NEW, user: int = 0,
+        groups: Sequence[int] = (), mask: int = 0o022, most: int | None = None, at: str | None = None, fault: str = ""
     ) -> str:
         """How bringing it ends: "done", or the name of an error; with a zero after it if the fault was met."""
         assert self.process.stdin is not None and self.process.stdout is not None  # (both are pipes)
@@ -178,7 +163,7 @@ class JavaFaults(JavaTest):
                 except (OSError, subprocess.CalledProcessError):
                     continue  # (none can be set up here)
                 count = sum(self.fail_each(process, name, call) for call in CALLS)
-                self.check(f"Java: OUT, {name}, calls are failed", count > 10, count)
+                self.check_equal(f"Java: OUT, {name}, calls are failed", count, Above(10))
 
     def check_lists(self, process: Process) -> None:
         """An access control list that can't be given."""
@@ -189,8 +174,8 @@ class JavaFaults(JavaTest):
             except OSError:
                 return
             seen = process.ran(out, fault=f"fsetxattr 1 {errno.EOPNOTSUPP}")
-            is_so = seen == "done\0" and output_files.acl_of(out) is None and output_files.mode_of(out) == mode
-            self.check(f"Java: OUT, a list that can't be given, {mode:o}", is_so, f"{seen!r} {output_files.mode_of(out):o}")
+            self.check_equal(f"Java: OUT, a list that can't be given, {mode:o}",
+                             (seen, output_files.acl_of(out), output_files.mode_of(out)), ("done\0", None, mode))
 
     def fail_each(self, process: Process, name: str, call: str) -> int:
         """How many runs have met what was to fail."""
@@ -206,7 +191,7 @@ class JavaFaults(JavaTest):
                         wrong = wrong or (None if ended.split()[0] == TOLD[call, error] else "it isn't told so")
                 finally:
                     room.end()
-                self.check(f"Java: OUT, {name}, {call} {nth} ends with {error}", wrong is None, f"{ended} {wrong}")
+                self.check_equal(f"Java: OUT, {name}, {call} {nth} ends with {error}", wrong, None)
                 if not is_met:
                     break
                 count += 1
@@ -230,10 +215,10 @@ class JavaFaults(JavaTest):
             self.skipTest("no strace here, or it may not trace")
         wrong, calls = self.traced()
         order = write_cases.order_wrong("one name", calls) if wrong is None else None
-        self.check("Java: OUT, the order of its calls", not wrong and order is None, f"{wrong} {order}")
+        self.check_equal("Java: OUT, the order of its calls", (wrong, order), (EMPTY, None))
         with concurrent.futures.ThreadPoolExecutor(os.cpu_count() or 1) as pool:
             for injected, (seen, _) in zip(INJECTED, pool.map(self.traced, INJECTED)):
-                self.check(f"Java: OUT, {injected}", seen is None, seen)
+                self.check_equal(f"Java: OUT, {injected}", seen, None)
 
 
 class JavaOut(output_files.OutTest):

@@ -47,15 +47,8 @@ class MemoryTest(TestCase):
         if out and os.path.exists(out):
             os.remove(out)
         try:
-            done = subprocess.run(
-                [of or self.program, *words],
-                input=given,
-                capture_output=True,
-                env=env,
-                cwd=self.folder,
-                pass_fds=[writes],
-                timeout=LIMIT,
-            )
+            done = subprocess.run([of or self.program, *words], input=given, capture_output=True, env=env,
+                                  cwd=self.folder, pass_fds=[writes], timeout=LIMIT)
         except subprocess.TimeoutExpired:
             # (it counts as an end that isn't right, and as the last one of this call)
             os.close(reads)

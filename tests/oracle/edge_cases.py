@@ -17,11 +17,8 @@ class Handmade(Draft):
     """A file whose items of some sections are these bytes, in place of what the classes have there."""
 
     def __init__(
-        self,
-        classes: list[Made],
-        items: dict[str, Sequence[str]],
-        blocks: list[int | str] | None = None,
-        has_empty: bool = False,
+        self, classes: list[Made], items: dict[str, Sequence[str]], blocks: list[int | str] | None = None,
+        has_empty: bool = False
     ) -> None:
         super().__init__(classes, Layout(), ())
         self.items, self.has_empty = items, has_empty
@@ -143,8 +140,7 @@ def texts_that_name() -> Iterator[Example]:
     for what, text, fault in (
         ("255 dimensions", "[" * 255 + "I", None), ("256 dimensions", "[" * 256 + "I", "TypeText"),
         ("arrays of V", "[V", "TypeText"), ("a class without a name", "L;", "TypeText"),
-        ("a class with an empty part", "LA//B;", "TypeText"),
-        ("a class that ends in an empty part", "LA/;", "TypeText"),
+        ("a class with an empty part", "LA//B;", "TypeText"), ("a class that ends in an empty part", "LA/;", "TypeText")
     ):
         data = file_of([], extra=[("type", text)])
         yield f"a type of {what}", data, (fault, u4(data, 68)) if fault else None

@@ -186,8 +186,7 @@ Slots = list[tuple[str, Word]]
 SHAPES = {
     "class": ("type", "flags"), "super": ("type",), "implements": ("type",), "source": ("text",),
     "instance": ("name", "type", "flags"), "direct": ("name", "proto", "flags"), "virtual": ("name", "proto", "flags"),
-    "code": ("size", "size", "size"), "try": ("target", "target"), "catch": ("type", "target"),
-    "catchall": ("target",),
+    "code": ("size", "size", "size"), "try": ("target", "target"), "catch": ("type", "target"), "catchall": ("target",)
 }
 PAYLOADS = ("packed-switch-payload", "sparse-switch-payload", "array-payload")
 WITHOUT_OPERAND = ("null", "true", "false")
@@ -313,12 +312,9 @@ MEMBERS = ("static", "instance", "direct", "virtual")
 IN_CLASS = ("head", "members", "method")  # before the members, among them, after a method
 IN_CODE = ("instructions", "try", "catchall")  # before the tries, after a try and its catches, after a catchall
 # Where a line may stand. What isn't here is an instruction.
-PLACES = {
-    "dex": ("start",), "class": ("outside",), "super": ("head",), "implements": ("head",), "source": ("head",),
-    **{member: IN_CLASS for member in MEMBERS},
-    "code": ("method",), "try": IN_CODE, "catch": ("try",), "catchall": ("try",), "end code": IN_CODE,
-    "end class": IN_CLASS,
-}
+PLACES = {"dex": ("start",), "class": ("outside",), "super": ("head",), "implements": ("head",), "source": ("head",),
+          **{member: IN_CLASS for member in MEMBERS}, "code": ("method",), "try": IN_CODE, "catch": ("try",),
+          "catchall": ("try",), "end code": IN_CODE, "end class": IN_CLASS}
 
 
 class Twice(Exception):

@@ -38,9 +38,8 @@ def closed(data: bytes | bytearray) -> bytes:
 
 
 # What a layout chooses, each by its name: the odd choice of "order" has tables and sections in any order, and so on.
-CHOICES = (
-    "order", "section order", "string order", "item order", "unknown sections", "gaps", "sharing", "empty items",
-    "numbers", "values", "padding", "handler order", "tries", "debug_info_off", "junk")
+CHOICES = ("order", "section order", "string order", "item order", "unknown sections", "gaps", "sharing", "empty items",
+           "numbers", "values", "padding", "handler order", "tries", "debug_info_off", "junk")
 
 
 class Layout:

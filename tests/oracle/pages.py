@@ -7,12 +7,8 @@ from .. import TOP
 
 DOCS = os.path.join(TOP, "docs")
 # The tables of faults: what each is called here, its page, and the heading above it.
-TABLES_OF_FAULTS = {
-    "file": ("FORMAT.md", "Faults of a file"),
-    "written": ("FORMAT.md", "The written file"),
-    "rules": ("FORMAT.md", "The rules of a program"),
-    "listing": ("LISTING.md", "Faults"),
-}
+TABLES_OF_FAULTS = {"file": ("FORMAT.md", "Faults of a file"), "written": ("FORMAT.md", "The written file"),
+                    "rules": ("FORMAT.md", "The rules of a program"), "listing": ("LISTING.md", "Faults")}
 
 
 def numbers_of_faults(table: str) -> dict[str, int]:

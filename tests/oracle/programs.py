@@ -12,11 +12,9 @@ REFERENCES = tuple(text for text in OF_TYPES if text[0] in "L[")
 OF_CLASSES = tuple(text for text in OF_TYPES if text[0] == "L")
 WORDS = ("a", "b", "m", "n", "<init>", "<clinit>", "x-y", "v0", "\u4e2d", "\ud800\udc00z", "$", "_")
 TEXTS = ("", "a b", "\0", "\ud800", "\x7f\x80\u07ff\u0800", "L;", "\uffff", "V V", "no/name", "~~{}")
-NUMBERS = {
-    "byte": (-128, -1, 0, 127), "short": (-32768, -1, 0, 127, 128, 32767), "char": (0, 255, 256, 65535),
-    "int": (-1 << 31, -1, 0, 128, 1 << 16, (1 << 31) - 1), "long": (-1 << 63, -1, 0, 1 << 40, (1 << 63) - 1),
-    "float": (0, 0x3F800000, 1, 0x80000000), "double": (0, 1, 0x3FF0000000000000), "boolean": (False, True),
-}
+NUMBERS = {"byte": (-128, -1, 0, 127), "short": (-32768, -1, 0, 127, 128, 32767), "char": (0, 255, 256, 65535),
+           "int": (-1 << 31, -1, 0, 128, 1 << 16, (1 << 31) - 1), "long": (-1 << 63, -1, 0, 1 << 40, (1 << 63) - 1),
+           "float": (0, 0x3F800000, 1, 0x80000000), "double": (0, 1, 0x3FF0000000000000), "boolean": (False, True)}
 
 
 def random_field(rng: random.Random) -> tuple[str, str, str]:
@@ -125,21 +123,20 @@ class Operands:
         """The high byte and the units after it."""
         makers: dict[str, Callable[[], Parts]] = {
             "10x": lambda: (0,), "12x": lambda: (self.pair(),), "11x": lambda: (self.byte(),),
-            "11n": lambda: (self.rng.randrange(16) << 4 | self.low(),),
-            "10t": lambda: (("to", target),), "20t": lambda: (0, ("to", target, 1)),
-            "30t": lambda: (0, ("to", target, 2)),
+            "11n": lambda: (self.rng.randrange(16) << 4 | self.low(),), "10t": lambda: (("to", target),),
+            "20t": lambda: (0, ("to", target, 1)), "30t": lambda: (0, ("to", target, 2)),
             "21t": lambda: (self.byte(), ("to", target, 1)), "22t": lambda: (self.pair(), ("to", target, 1)),
             "31t": lambda: (self.byte(), ("to", target, 2)),
             "22x": lambda: (self.byte(), self.rng.randrange(self.registers)),
             "32x": lambda: (0, self.rng.randrange(self.registers), self.rng.randrange(self.registers)),
             "21s": lambda: (self.byte(), self.number()), "21h": lambda: (self.byte(), self.number()),
             "21c": lambda: (self.byte(), index), "31c": lambda: (self.byte(), index),
-            "22c": lambda: (self.pair(), index),
-            "22s": lambda: (self.pair(), self.number()), "23x": lambda: (self.byte(), self.byte() << 8 | self.byte()),
+            "22c": lambda: (self.pair(), index), "22s": lambda: (self.pair(), self.number()),
+            "23x": lambda: (self.byte(), self.byte() << 8 | self.byte()),
             "22b": lambda: (self.byte(), self.rng.randrange(256) << 8 | self.byte()),
             "31i": lambda: (self.byte(), self.number(), self.number()),
-            "51l": lambda: (self.byte(), *(self.number() for _ in range(4))),
-            "35c": lambda: self.listed(index), "3rc": lambda: self.ranged(index),
+            "51l": lambda: (self.byte(), *(self.number() for _ in range(4))), "35c": lambda: self.listed(index),
+            "3rc": lambda: self.ranged(index)
         }
         return makers[form]()
 

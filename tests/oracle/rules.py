@@ -64,10 +64,8 @@ def breaks_name(made: Class) -> bool:
     fields = [(made.type, each.name, each.type) for each in made.statics + made.instances]
     methods = [(made.type, each.name, each.proto) for each in made.directs + made.virtuals]
     return (
-        not all(map(is_class, [made.type, *above]))
-        or not all(map(is_right_field, fields))
-        or not all(map(is_right_method, methods))
-        or has_wrong_value_name(made.values)
+        not all(map(is_class, [made.type, *above])) or not all(map(is_right_field, fields))
+        or not all(map(is_right_method, methods)) or has_wrong_value_name(made.values)
         or any(map(has_wrong_code_name, made.codes()))
     )
 
@@ -100,8 +98,7 @@ def breaks_class_order(made: Class, i: int, places: Places) -> bool:
     first, last = places
     above = made.interfaces + ([] if made.superclass is None else [made.superclass])
     return (
-        first[made.type] < i
-        or any(last.get(text, -1) >= i for text in above)
+        first[made.type] < i or any(last.get(text, -1) >= i for text in above)
         or len(set(made.interfaces)) < len(made.interfaces)
     )
 

@@ -1,5 +1,6 @@
 """Listings at random: of invented programs, spelled in all the ways that LISTING allows, and changed so that most have
 a fault, near the edges of the rules."""
+import os
 import random
 import re
 from collections.abc import Iterable, Iterator
@@ -183,124 +184,8 @@ KEYWORDS = """
     """.split()
 GROUPS = [NUMBERS, REGISTERS, TARGETS, TEXTS, NAMES, TYPES, PROTOS, FIELDS, METHODS, KEYWORDS,
           sorted(MNEMONICS.values())]
-LINES = [line.strip() for line in r"""
-    dex 035
-    dex 035 listing 2
-    class LA; 0x1
-    class LB; 1
-    class I 0
-    super LA;
-    super Ljava/lang/Object;
-    super V
-    implements LA;
-    implements LB;
-    implements I
-    source "a"
-    source ""
-    source \u0041
-    static a I 0
-    static a I 0 = int 1
-    static a \u0049 0 = null
-    static a Z 0
-    static z J 0 = array { }
-    static z J 0 = array { array { int 1 } string "}" true }
-    static z J 0 = array { int 1
-    static z J 0 = array int 1 }
-    static z J 0 = }
-    static z J 0 =
-    static z J 0 = { }
-    static z J 0 = null null
-    static z J 0 = array { } }
-    static zz F 0 = float 3f800000
-    static zz D 0 = double 3FF0000000000000
-    static zz D 0 = float 3ff0000000000000
-    static b V 0
-    instance a I 0
-    instance \u0061 I 0
-    instance a V 0
-    direct m ()V 0x9
-    direct m (V)V 0x9
-    virtual m ()V 0x9
-    virtual m ()V 4294967296
-    code 1 0 0
-    code 1 2 0
-    code 65535 0 65535
-    code 65536 0 0
-    code 0 0
-    code -0 0 0
-    nop
-    0: nop
-    1: nop
-    return-void
-    goto :L0
-    0: goto @0
-    goto/32 :L0
-    if-eq v0 v0 :L0
-    packed-switch v0 :L1
-    sparse-switch v0 :L1
-    fill-array-data v0 :L1
-    packed-switch-payload 0
-    packed-switch-payload 0 :L0
-    packed-switch-payload -2147483648 :L0 :L0
-    packed-switch-payload
-    packed-switch-payload :L0
-    sparse-switch-payload
-    sparse-switch-payload 1 :L0 0 :L0
-    sparse-switch-payload 0 :L0 0 :L0
-    sparse-switch-payload 0 :L0 1
-    array-payload 1
-    array-payload 1 00
-    array-payload 2 00
-    array-payload 3 000000
-    array-payload 0
-    array-payload 65536 00
-    array-payload 1 0
-    array-payload 1 00 00
-    const-string v0 "a"
-    const-string v0 a
-    const-string/jumbo v0 "\""
-    const-class v0 V
-    const-class v0 "V"
-    new-instance v0 I
-    invoke-static { } LA;->a()V
-    invoke-static LA;->a()V
-    invoke-static { v0 LA;->a()V
-    invoke-static { v0 v0 v0 v0 v0 v0 } LA;->a()V
-    invoke-static { { } } LA;->a()V
-    invoke-static {} LA;->a()V
-    invoke-static { } "LA;->a()V"
-    invoke-static/range v0 0 LA;->a()V
-    invoke-static/range v0 256 LA;->a()V
-    invoke-static/range { v0 } LA;->a()V
-    filled-new-array { v0 v0 } [I
-    sget v0 LA;->a:I
-    sget v0 LA;->a()V
-    const/4 v0 8
-    const/4 v16 0
-    const/high16 v0 32768
-    const-wide v0 -9223372036854775808
-    :L0
-    :L1
-    :L2
-    :L2 nop
-    :
-    :a-b
-    try :L0 :L1
-    try @0 @1
-    try :L0 :L0
-    catch LA; :L0
-    catch V @0
-    catchall :L0
-    catchall @0
-    end code
-    end class
-    end
-    end try
-    end code end
-    "end" code
-    # a comment
-    #
-    """.strip().splitlines()]
+with open(os.path.join(os.path.dirname(__file__), "lines.txt"), encoding="ascii") as _file:
+    LINES = _file.read().splitlines()
 
 # -------------------------------------------------------------------------------------------------------------- changes
 

@@ -389,13 +389,9 @@ def put_data(classes: list[Class], needs: Needs, data: Data) -> tuple[list[int],
     return list_offs[: len(protos)], string_offs, list(zip(list_offs[len(protos) :], data_offs, array_offs))
 
 
-def tables_of(
-    classes: list[Class],
-    needs: Needs,
-    list_offs: list[int],
-    string_offs: list[int],
-    class_offs: list[tuple[int, int, int]],
-) -> Iterator[bytes]:
+def tables_of(classes: list[Class], needs: Needs, list_offs: list[int], string_offs: list[int], class_offs: list[
+    tuple[int, int, int]
+]) -> Iterator[bytes]:
     """The bytes of the six tables."""
     rank, names = needs.rank, {kind: sorted(names) for kind, names in needs.names.items()}
     yield b"".join(struct.pack("<I", off) for off in string_offs)

@@ -16,13 +16,13 @@ from parts.packing.packing import GLIBC, HELPERS
 from parts.packing.wheel import backend
 from .. import TOP, sought, config
 from ..base import LIMIT, TestCase, ended, get
+from ..matchers import EMPTY, SOME, Above, Has
 
 LISTING = b"dex 035 listing 2\nclass LHello; 0x1\nsuper Ljava/lang/Object;\nend class\n"
 
 # Pages that speak of how dexasm is made, and so of its toolchain; no other page of a package does.
 OF_MAKING = {f"docs/{name}.md" for name in ("COOKBOOK", "DECISIONS", "FILES", "MAP", "MEASURED", "PROVED")} | {
-    "bench/LOG.md",
-    "CHANGELOG.md",
+    "bench/LOG.md", "CHANGELOG.md"
 }
 TOOLCHAIN = re.compile(r"(?<![\w.-])rt(?![\w.-])|tools/(?:build|quick)|(?<![./])\./dexasm(?![\w-])|<!--")
 # What the lines of docs/PACKAGE.md are for.
@@ -36,17 +36,13 @@ NO_PAGES = "pages need jinja2 (Debian: python3-jinja2; pip: dexasm[pages])"
 # A helper over the module that they share, over a page, and over both modules.
 HELPED = (
     ("dexasm assemble hello.txt | dexasm-query calls", '{\n "LHello;->get(Z)I": []\n}\n'),
-    (
-        "dexasm check hello.dex 2>&1 | dexasm-explain hello.dex | sed -n 2p",
-        "  8: the Adler-32 differs: the file was damaged or changed.\n",
-    ),
-    (
-        "dexasm assemble hello.txt --output good.dex && dexasm-size good.dex --html size.html && head -c 15 size.html",
-        "<!DOCTYPE html>",
-    ),
+    ("dexasm check hello.dex 2>&1 | dexasm-explain hello.dex | sed -n 2p",
+     "  8: the Adler-32 differs: the file was damaged or changed.\n"),
+    ("dexasm assemble hello.txt --output good.dex && dexasm-size good.dex --html size.html && head -c 15 size.html",
+     "<!DOCTYPE html>"),
     (
         "dexasm-info --hex 0..4 good.dex | tail -n 1",
-        "00000000  64 65 78 0a              magic 64 65 78 0a 30 33 35 00\n",
+        "00000000  64 65 78 0a              magic 64 65 78 0a 30 33 35 00\n"
     ),
     ("dexasm-merge --same good.dex good.dex --output both.dex && cmp good.dex both.dex", ""),
     ("dexasm-size good.dex both.dex | tail -n 1 | grep -o all$", "all\n"),
@@ -57,10 +53,8 @@ HELPED = (
 INSTALLED = (
     ("dexasm list hello.dex | dexasm-query classes | head -n 2", '{\n "LHello;": {\n'),
     ("dexasm-check --json hello.dex | grep -o '\"ok\"'", '"ok"\n'),
-    (
-        "echo 'dexasm: refused 8 Checksum at 8' | dexasm-explain | sed -n 2p",
-        "  8: the Adler-32 differs: the file was damaged or changed.\n",
-    ),
+    ("echo 'dexasm: refused 8 Checksum at 8' | dexasm-explain | sed -n 2p",
+     "  8: the Adler-32 differs: the file was damaged or changed.\n"),
     ("dexasm-lint --code hello.dex", "hello.dex: ok\n"),
     ("dexasm-corpus add a.db hello.dex | cut -d, -f1,2 && rm a.db", "1 paths, 0 not read; 1 new files\n"),
 )
@@ -131,22 +125,17 @@ class PackageTest(TestCase):
         """Whether these words end well, and print what is wanted."""
         status, said, why = ended(words, 3 * LIMIT, stdout=subprocess.PIPE, stderr=subprocess.STDOUT, **options)
         told = said.decode("utf8", "replace")
-        self.check(what, status == 0 if want is None else told == want, repr(told[-600:]) if status != "late" else why)
+        seen = why if status == "late" else told[-600:]
+        self.check_equal(what, (status, seen) if want is None else told, (0, seen) if want is None else want)
 
     def check_session(self, what: str, folder: str, home: str) -> None:
         """README's session with the program below that folder, and the library by Python."""
         drop = as_nobody(home)
         places = {"PATH": f"{folder}/bin:/usr/local/bin:/usr/bin:/bin", "HOME": home, "LANG": "C.UTF-8"}
-        env = {
-            **places,
-            "DEXASM_LIBRARY": f"{folder}/lib/libdexasm.so.0",
-            "PYTHONPATH": f"{folder}/lib/python3/dist-packages",
-        }
-        steps = [
-            *session(),
-            ("/usr/bin/env python3 -B -m dexasm check hello.dex", "dexasm: refused 8 Checksum at 8\n"),
-            *HELPED,
-        ]
+        env = {**places, "DEXASM_LIBRARY": f"{folder}/lib/libdexasm.so.0",
+               "PYTHONPATH": f"{folder}/lib/python3/dist-packages"}
+        steps = [*session(), ("/usr/bin/env python3 -B -m dexasm check hello.dex", "dexasm: refused 8 Checksum at 8\n"),
+                 *HELPED]
         no_pages = ended(["python3", "-c", "import jinja2"], env=env, stderr=subprocess.DEVNULL)[0] != 0
         if no_pages:
             print(f"tests/package: {what}: no jinja2 here, so no page is looked at", file=sys.stderr)
@@ -167,11 +156,8 @@ class PackageTest(TestCase):
         """A caller in C, as pkg-config says that it is compiled."""
         if not shutil.which("pkg-config") or not shutil.which("cc"):
             return
-        env = {
-            **os.environ,
-            "PKG_CONFIG_PATH": f"{folder}/lib/pkgconfig:{folder}/share/pkgconfig",
-            "LD_LIBRARY_PATH": f"{folder}/lib",
-        }
+        env = {**os.environ, "PKG_CONFIG_PATH": f"{folder}/lib/pkgconfig:{folder}/share/pkgconfig",
+               "LD_LIBRARY_PATH": f"{folder}/lib"}
         source, made = f"{folder}/share/doc/dexasm/examples/example.c", f"{room}/example"
         compile = f"cc -Wall -Werror {source} $(pkg-config --cflags --libs dexasm) -o {made}"
         self.runs(f"{what}: by pkg-config and cc", "bash", "-c", compile, env=env, cwd=room)
@@ -202,7 +188,7 @@ class PackageTest(TestCase):
                 file.write(self.sample)
             env = {name: value for name, value in os.environ.items() if name not in ("CLASSPATH", "DEXASM_LIBRARY")}
             if path.endswith("-sources.jar"):
-                self.check(f"{what}: the sources", "dexasm/Dexasm.java" in zipfile.ZipFile(path).namelist())
+                self.check_equal(f"{what}: the sources", zipfile.ZipFile(path).namelist(), Has("dexasm/Dexasm.java"))
             else:
                 self.runs(
                     f"{what}: by java", "java", "-jar", path, "check", "hello.dex", want="ok\n", env=env, cwd=room
@@ -215,7 +201,7 @@ class PackageTest(TestCase):
                 tuple(map(int, found.split(b".")))
                 for found in re.findall(rb"\0GLIBC_(\d+\.\d+)", get(f"{folder}/{place}"))
             ]
-            self.check(f"{what}: {place} asks for glibc {most}", asked and max(asked) <= most, max(asked, default=None))
+            self.check_equal(f"{what}: {place} asks for glibc {most}", (asked, max(asked) <= most), (SOME, True))
 
     def check_links(self, what: str, folder: str) -> None:
         """That each link of a page leads to what is packed, and to a heading that is there; and that there are some."""
@@ -229,7 +215,7 @@ class PackageTest(TestCase):
                 there, count = os.path.join(os.path.dirname(page), to) if to else page, count + 1
                 if not os.path.exists(there) or anchor and anchor not in headings(get(there).decode()):
                     lost.append(f"{os.path.relpath(page, folder)}: {target}")
-        self.check(f"{what}: links", count > 50 and not lost, (count, lost))
+        self.check_equal(f"{what}: links", (count, lost), (Above(50), EMPTY))
         names = {os.path.relpath(page, f"{folder}/share/doc/dexasm") for page in pages}
         self.check(f"{what}: pages", {"README.md", "SECURITY.md", "CHANGELOG.md", "docs/PROVED.md"} <= names, names)
 
@@ -244,15 +230,9 @@ class PackageTest(TestCase):
             name: get(f"{folder}/{name}").decode() for name in ("README.md",) if os.path.exists(f"{folder}/{name}")
         }
         told = {name: TOOLCHAIN.findall(page) for name, page in pages.items() if name not in OF_MAKING}
-        self.check(
-            f"{what}: no page wants a toolchain",
-            len(told) > 10 and not any(told.values()),
-            {name: it for name, it in told.items() if it},
-        )
-        self.check(
-            f"{what}: README says where what lies",
-            "\n## Install\n" in pages["README.md"] and "PKG_CONFIG_PATH" in pages["README.md"],
-        )
+        self.check_equal(f"{what}: no page wants a toolchain", (len(told), any(told.values())), (Above(10), False))
+        self.check_equal(f"{what}: README says where what lies", pages["README.md"],
+                         Has("\n## Install\n", "PKG_CONFIG_PATH"))
 
     def check_paths(self, what: str, path: str, top: str, room: str) -> None:
         """The lines of docs/PACKAGE.md for the archive, as they stand there, in a folder that has it."""
@@ -304,8 +284,8 @@ class PackageTest(TestCase):
                 told = held.read(by_end["METADATA"]).decode()
                 proved_by = held.read(by_end["PROVED-BY"]).decode()
             links = re.findall(r"\]\((?!https?:|#)[^)]*\)", told)
-            is_so = "## Programs as objects" in told and not links and not TOOLCHAIN.search(told)
-            self.check("what the wheel says of itself", is_so, (links, TOOLCHAIN.findall(told)))
+            self.check_equal("what the wheel says of itself", (told, links, TOOLCHAIN.search(told)),
+                             (Has("## Programs as objects"), EMPTY, EMPTY))
             by_backend = ["-m", "venv", "--system-site-packages"]
             from_folder = ["--no-build-isolation", "--no-deps", "--ignore-installed", f"{TOP}/python"]
             build = "proved" if proved_by.startswith("Proved and built of ") else "unknown"
@@ -330,21 +310,14 @@ class PackageTest(TestCase):
         python = f"{place}/bin/python"
         self.runs(f"{what}: check", python, "-m", "dexasm", "check", "hello.dex", want="ok\n", env=env, cwd=room)
         self.runs(f"{what}: its command", f"{place}/bin/dexasm", "check", "hello.dex", want="ok\n", env=env, cwd=room)
-        is_same = get(f"{place}/bin/dexasm") == get(config.program()) and os.access(f"{place}/bin/dexasm", os.X_OK)
-        self.check(f"{what}: its command is the program", is_same)
+        self.check_equal(f"{what}: its command is the program",
+                         (get(f"{place}/bin/dexasm"), os.access(f"{place}/bin/dexasm", os.X_OK)),
+                         (get(config.program()), SOME))
         typed = "import dexasm, pathlib; print(pathlib.Path(dexasm.__file__).with_name('py.typed').exists())"
         self.runs(f"{what}: its types", python, "-c", typed, want="True\n", env=env, cwd=room)
         self.runs(f"{what}: programs", python, "-c", PROGRAM, want="LHello; True\n", env=env, cwd=room)
-        self.runs(
-            f"{what}: a helper as a module",
-            python,
-            "-m",
-            "dexasm.tools.check",
-            "hello.dex",
-            want="hello.dex: ok\n",
-            env=env,
-            cwd=room,
-        )
+        self.runs(f"{what}: a helper as a module", python, "-m", "dexasm.tools.check", "hello.dex",
+                  want="hello.dex: ok\n", env=env, cwd=room)
         pages = {os.path.basename(path) for path in glob.glob(f"{glob.escape(place)}/share/man/man1/*.1")}
         self.check_equal(f"{what}: manual pages", pages, {f"{name}.1" for name in ("dexasm", *HELPERS)})
         number = sought(r'^version = "(.*)"$', get(f"{TOP}/python/pyproject.toml").decode(), re.M)[1].replace(

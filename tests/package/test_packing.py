@@ -11,11 +11,8 @@ from parts.packing import packages
 from parts.packing.packing import Held, pack_deb
 from tests.base import TestCase, get
 
-HELD: Held = {
-    "bin/dexasm": (b"a program", 0o755),
-    "share/doc/dexasm/copyright": (b"a licence", 0o644),
-    "lib/libdexasm.so": ("libdexasm.so.0", 0o777),
-}
+HELD: Held = {"bin/dexasm": (b"a program", 0o755), "share/doc/dexasm/copyright": (b"a licence", 0o644),
+              "lib/libdexasm.so": ("libdexasm.so.0", 0o777)}
 
 
 class Packing(TestCase):

@@ -86,7 +86,9 @@ class Home:
     def looks(self, *names: str) -> str:
         """What stands at these names, and each part in their folders."""
         folders = {os.path.dirname(name) for name in names}
-        found = [os.path.join(folder, name) for folder in sorted(folders) for name in sorted(os.listdir(self.at(folder)))]
+        found = [
+            os.path.join(folder, name) for folder in sorted(folders) for name in sorted(os.listdir(self.at(folder)))
+        ]
         parts = [name for name in found if name.endswith(".part") and name not in names]
         return "; ".join(f"{name[:12]} {self.show(name)}" for name in [*names, *parts])
 
@@ -148,17 +150,13 @@ LONG = "o" * 255
 CASES: tuple[Case | tuple[str, Make, int, str, tuple[str, ...], str | None, str], ...] = (
     ("OUT absent", lambda home: None, 0, "", ("out",), "out answer"),
     (
-        "OUT with a mode and an owner of its own",
-        lambda home: home.put("out", mode=0o640),
-        0, "", ("out",), "out answer",
+        "OUT with a mode and an owner of its own", lambda home: home.put("out", mode=0o640), 0, "", ("out",),
+        "out answer"
     ),
     ("OUT with two names", linked, 0, "", ("out", "other"), "out answer; other answer"),
     ("OUT a link to a file", lambda home: leads(home, "real"), 0, "", ("out", "real"), "out link; real answer"),
-    (
-        "OUT a link to a file with two names",
-        lambda home: leads(home, "real", second="r2"),
-        0, "", ("out", "real", "r2"), "out link; real answer; r2 answer",
-    ),
+    ("OUT a link to a file with two names", lambda home: leads(home, "real", second="r2"), 0, "", ("out", "real", "r2"),
+     "out link; real answer; r2 answer"),
     ("OUT a link to nothing", lambda home: leads(home, "real", False), 0, "", ("out", "real"), "out link; real answer"),
     ("OUT a link to a link to nothing", chain, 0, "", ("out", "d/b", "d/c"), "out link; d/b link; d/c answer"),
     ("OUT a loop of links", loop, 3, WRITE, ("out", "b"), "out link; b link"),
@@ -169,32 +167,18 @@ CASES: tuple[Case | tuple[str, Make, int, str, tuple[str, ...], str | None, str]
     ("OUT a folder's name, absent", lambda home: None, 3, WRITE, ("out",), "out absent", "out/"),
     ("OUT a file's number that isn't open", lambda home: None, 3, WRITE, ("in.dex",), "in.dex input", "/dev/fd/99"),
     ("OUT a full device", lambda home: None, 3, WRITE, ("in.dex",), "in.dex input", "/dev/full"),
-    (
-        "FILE refused, OUT there",
-        lambda home: (home.put("out"), home.put("in.dex", b"dex")),
-        1, "dexasm: refused 1 TooShort at 3\n", ("out",), "out old",
-    ),
-    (
-        "FILE refused, OUT absent",
-        lambda home: home.put("in.dex", b"dex"),
-        1, "dexasm: refused 1 TooShort at 3\n", ("out",), "out absent",
-    ),
-    (
-        "FILE missing, OUT there",
-        lambda home: (home.put("out"), os.remove(home.at("in.dex"))),
-        3, READ, ("out",), "out old",
-    ),
-    (
-        "FILE a folder, OUT there",
-        lambda home: (home.put("out"), os.remove(home.at("in.dex")), home.folder("in.dex")),
-        3, READ, ("out",), "out old",
-    ),
+    ("FILE refused, OUT there", lambda home: (home.put("out"), home.put("in.dex", b"dex")), 1,
+     "dexasm: refused 1 TooShort at 3\n", ("out",), "out old"),
+    ("FILE refused, OUT absent", lambda home: home.put("in.dex", b"dex"), 1, "dexasm: refused 1 TooShort at 3\n",
+     ("out",), "out absent"),
+    ("FILE missing, OUT there", lambda home: (home.put("out"), os.remove(home.at("in.dex"))), 3, READ, ("out",),
+     "out old"),
+    ("FILE a folder, OUT there", lambda home: (home.put("out"), os.remove(home.at("in.dex")), home.folder("in.dex")), 3,
+     READ, ("out",), "out old"),
     ("a part's name taken", lambda home: taken(home, 1), 0, "", ("out",), "out answer; out.0.part old"),
-    (
-        "a part's name taken by a link to nothing",
-        lambda home: (home.put("out"), os.symlink("zz", home.at("out.0.part"))),
-        0, "", ("out", "zz"), "out answer; zz absent; out.0.part link",
-    ),
+    ("a part's name taken by a link to nothing",
+     lambda home: (home.put("out"), os.symlink("zz", home.at("out.0.part"))), 0, "", ("out", "zz"),
+     "out answer; zz absent; out.0.part link"),
     ("a hundred and fifty parts' names taken", lambda home: taken(home, 150), 0, "", ("out", "out.150.part"), None),
     ("OUT with the longest name, there", lambda home: home.put(LONG), 0, "", (LONG,), "oooooooooooo answer", LONG),
     ("OUT with the longest name, absent", lambda home: None, 0, "", (LONG,), "oooooooooooo answer", LONG),
@@ -204,60 +188,29 @@ CASES: tuple[Case | tuple[str, Make, int, str, tuple[str, ...], str | None, str]
 DISKS: tuple[Case, ...] = (
     ("a full disk, OUT there", lambda home: home.disk("size=64k", out=b"old"), 3, WRITE, ("c/out",), "c/out old"),
     ("a full disk, OUT absent", lambda home: home.disk("size=64k"), 3, WRITE, ("c/out",), "c/out absent"),
-    (
-        "a full disk, OUT with two names",
-        lambda home: (home.disk("size=64k"), linked(home, "c/out", "c/other")),
-        3, WRITE, ("c/out", "c/other"), "c/out old; c/other old",
-    ),
-    (
-        "a disk with room for one answer, OUT with two names",
-        room_for_one,
-        3, WRITE, ("c/out", "c/other"), "c/out front; c/other front; c/out.0.part answer",
-    ),
-    (
-        "a folder that takes no file more, OUT there",
-        lambda home: home.disk("nr_inodes=2", out=b"old"),
-        3, WRITE, ("c/out",), "c/out old",
-    ),
-    (
-        "a disk that is read only, OUT there",
-        read_only,
-        3, WRITE, ("c/out",), "c/out old",
-    ),
-    (
-        "OUT a mount point",
-        lambda home: (home.folder("c"), bind(home, "real", "c/out")),
-        0, "", ("c/out", "real"), "c/out answer; real answer",
-    ),
+    ("a full disk, OUT with two names", lambda home: (home.disk("size=64k"), linked(home, "c/out", "c/other")), 3,
+     WRITE, ("c/out", "c/other"), "c/out old; c/other old"),
+    ("a disk with room for one answer, OUT with two names", room_for_one, 3, WRITE, ("c/out", "c/other"),
+     "c/out front; c/other front; c/out.0.part answer"),
+    ("a folder that takes no file more, OUT there", lambda home: home.disk("nr_inodes=2", out=b"old"), 3, WRITE,
+     ("c/out",), "c/out old"),
+    ("a disk that is read only, OUT there", read_only, 3, WRITE, ("c/out",), "c/out old"),
+    ("OUT a mount point", lambda home: (home.folder("c"), bind(home, "real", "c/out")), 0, "", ("c/out", "real"),
+     "c/out answer; real answer"),
 )
 # As another user.
 OTHERS: tuple[tuple[str, Make, int, str, str], ...] = (
-    (
-        "its own file in another's folder",
-        lambda home: (home.folder("c"), home.put("c/out", owner=USER)),
-        0, "", "c/out answer",
-    ),
-    (
-        "a file of root in its own folder",
-        lambda home: (home.folder("c", owner=USER), home.put("c/out")),
-        3, WRITE, "c/out old",
-    ),
-    (
-        "a file of root that all may write, in its own folder",
-        lambda home: (home.folder("c", owner=USER), home.put("c/out", mode=0o666)),
-        0, "", "c/out answer",
-    ),
+    ("its own file in another's folder", lambda home: (home.folder("c"), home.put("c/out", owner=USER)), 0, "",
+     "c/out answer"),
+    ("a file of root in its own folder", lambda home: (home.folder("c", owner=USER), home.put("c/out")), 3, WRITE,
+     "c/out old"),
+    ("a file of root that all may write, in its own folder",
+     lambda home: (home.folder("c", owner=USER), home.put("c/out", mode=0o666)), 0, "", "c/out answer"),
     ("OUT absent in root's folder", lambda home: home.folder("c"), 3, WRITE, "c/out absent"),
-    (
-        "its own file that may not be written",
-        lambda home: (home.folder("c"), home.put("c/out", mode=0o444, owner=USER)),
-        3, WRITE, "c/out old",
-    ),
-    (
-        "OUT in a folder that it can't search",
-        lambda home: (home.folder("c", 0o700), home.put("c/out", mode=0o666)),
-        3, WRITE, "c/out old",
-    ),
+    ("its own file that may not be written", lambda home: (home.folder("c"), home.put("c/out", mode=0o444, owner=USER)),
+     3, WRITE, "c/out old"),
+    ("OUT in a folder that it can't search", lambda home: (home.folder("c", 0o700), home.put("c/out", mode=0o666)), 3,
+     WRITE, "c/out old"),
 )
 
 

@@ -75,7 +75,8 @@ def cases_of(program: str, folder: str, empty: bytes, refused: bytes) -> Iterato
         ("assemble to a terminal", ("assemble",), listing, ("stdout",), (2, b"", SENTENCE)),
         ("strip --output - to a terminal", ("strip", "-", "-o", "-"), empty, ("stdout", "stderr"), (2, b"", SENTENCE)),
         ("strip of no file to a terminal", ("strip", "none.dex"), b"", ("stdout",), (2, b"", SENTENCE)),
-        ("strip to OUT, from a terminal's session", ("strip", "a.dex", "-o", "b.dex"), b"", ("stdout", "stderr"), (0, b"", "")),
+        ("strip to OUT, from a terminal's session", ("strip", "a.dex", "-o", "b.dex"), b"", ("stdout", "stderr"),
+         (0, b"", "")),
         ("strip to a pipe", ("strip", "a.dex"), b"", ("stderr",), (0, empty, "")),
         ("check on a terminal", ("check", "a.dex"), b"", ("stdout", "stderr"), (0, b"ok\n", "")),
         ("list on a terminal", ("list", "a.dex"), b"", ("stdout", "stderr"), (0, listing, "")),
@@ -114,8 +115,10 @@ def cases_of(program: str, folder: str, empty: bytes, refused: bytes) -> Iterato
 def closed_stream(program: str, path: str) -> Iterator[Case]:
     """Standard input that is closed, and standard output that is full, with the system's words on a terminal."""
     for what, words, shell, want in (
-        ("a closed standard input", ("check",), '"$@" <&-', (3, "dexasm: cannot read\n  Bad file descriptor (os error 9)\n")),
-        ("a full standard output", ("list", "a.dex"), '"$@" >/dev/full', (3, "dexasm: cannot write\n  No space left on device (os error 28)\n")),
+        ("a closed standard input", ("check",), '"$@" <&-',
+         (3, "dexasm: cannot read\n  Bad file descriptor (os error 9)\n")),
+        ("a full standard output", ("list", "a.dex"), '"$@" >/dev/full',
+         (3, "dexasm: cannot write\n  No space left on device (os error 28)\n"))
     ):
         status, _, said = seen(["sh", "-c", shell, "sh", program, *words], b"", ("stderr",), path)
         yield f"{what}, on a terminal", (status, said) == want, (status, said)

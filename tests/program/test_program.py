@@ -15,6 +15,7 @@ from typing import Any
 from shapes import File, code, file_of_body, shared_code, sleb, uleb
 from .. import TOP, sought, config
 from ..base import LIMIT, MEGABYTE, Ended, TestCase, ended, get, limited
+from ..matchers import Begins, Either, Ends, Has, Lacks, Other
 from ..samples import NUMBERED, ODD, closed, without_classes
 from ..samples import ONE_CLASS as LISTING
 from . import out_cases, terminal_cases
@@ -79,11 +80,8 @@ def of_handlers(order: Sequence[int]) -> File:
     def body(file: File) -> bytes:
         caught = uleb(file.type_at["LE;"]) + uleb(0)
         handlers = uleb(3) + b"".join(sleb(n) + caught * n for n in (1, 30000, 5000))
-        return code(
-            [0] * 4 + [0x0E],
-            tries=b"".join(struct.pack("<IHH", i, 1, at) for i, at in enumerate(order)) + handlers,
-            count=3,
-        )
+        return code([0] * 4 + [0x0E],
+                    tries=b"".join(struct.pack("<IHH", i, 1, at) for i, at in enumerate(order)) + handlers, count=3)
 
     file = File()
     file.type("LE;")
@@ -144,14 +142,8 @@ class ProgramTest(TestCase):
     def misuses(self, what: str, *words: str) -> None:
         """Wrong words: status 2, clap's text, which shows where the usage is."""
         status, out, said = self.dexasm(*words)
-        is_so = (
-            status == 2
-            and out == b""
-            and said.startswith("error: ")
-            and said.endswith("For more information, try '--help'.\n")
-        )
-        is_so = is_so and all(char.isprintable() or char == "\n" for char in said)
-        self.check(what, is_so, f"{status} {out[:60]!r} {said[:200]!r}")
+        self.check_equal(what, (status, out, said, [char for char in said if not (char.isprintable() or char == "\n")]),
+                         (2, b"", Begins("error: ") & Ends("For more information, try '--help'.\n"), []))
 
     def in_folder(self, *names: str) -> str:
         return os.path.join(self.folder, *names)
@@ -184,35 +176,26 @@ class Words(ProgramTest):
         self.misuses("a wrong word that a terminal would obey", "\x1b[31mred")
         self.misuses("an option that it would", "check", "--\x1b]0;title\x07\u009b")
         status, out, said = self.dexasm(b"check", b"\xff.dex")
-        self.check(
-            "words that aren't UTF-8", (status, out) == (2, b"") and said.startswith("dexasm: "), f"{status} {said!r}"
-        )
+        self.check_equal("words that aren't UTF-8", (status, out, said), (2, b"", Begins("dexasm: ")))
         for words in (["--help"], ["-h"]) + tuple([job, flag] for job in JOBS for flag in ("--help", "-h")):
             status, out, said = self.dexasm(*words)
             text = out.decode()
-            is_so = (
-                status == 0
-                and said == ""
-                and "Usage: dexasm" in text
-                and "Example: dexasm" in text
-                and "version 035" in text
-            )
-            self.check(" ".join(words), is_so, f"{status} {text[:200]!r} {said!r}")
+            self.check_equal(" ".join(words), (status, said, text),
+                             (0, "", Has("Usage: dexasm", "Example: dexasm", "version 035")))
         for flag in ("--version", "-V"):
             self.answers(flag, f"dexasm {VERSION}\n".encode(), flag)
         self.misuses("--version of a command", "check", "--version")
         text = self.dexasm("--help")[1].decode()
-        self.check("--help begins with the version", text.startswith(f"dexasm {VERSION}\n"), text[:80])
-        self.check("--help names each command", all(f"\n  {job} " in text for job in JOBS), text)
+        self.check_equal("--help begins with the version", text, Begins(f"dexasm {VERSION}\n"))
+        self.check_equal("--help names each command", [job for job in JOBS if f"\n  {job} " not in text], [])
         with open("/dev/full", "wb") as full:
             self.tells("--help to a full device", 3, CANNOT_WRITE, "--help", stdout=full)
             self.tells("--version to a full device", 3, CANNOT_WRITE, "--version", stdout=full)
         for what, end in (("closed", ">&-"), ("full", "> /dev/full")):
             for words, status in (("disassemble", 2), ("check --all", 2), ("check no-such-file", 3)):
                 done = subprocess.run(["sh", "-c", f'"$0" {words} 2{end}', self.program], stdout=subprocess.PIPE)
-                self.check_equal(
-                    f"{words}, where standard error is {what}", (done.returncode, done.stdout), (status, b"")
-                )
+                self.check_equal(f"{words}, where standard error is {what}", (done.returncode, done.stdout),
+                                 (status, b""))
 
     def test_terminals(self) -> None:
         """What a terminal is told: the table of terminal_cases.py."""
@@ -223,19 +206,10 @@ class Words(ProgramTest):
 
     def shell(self, command: str, home: str, given: bytes | None = None) -> tuple[int | str, str]:
         """What bash prints of this command in that folder, where `dexasm` is the program."""
-        env = {
-            **os.environ,
-            "PATH": os.pathsep.join([self.in_folder("bin"), os.path.join(TOP, "python/bin"), os.environ["PATH"]]),
-        }
-        status, out, _ = ended(
-            ["bash", "-c", command],
-            LIMIT,
-            cwd=home,
-            env=env,
-            input=given,
-            stdout=subprocess.PIPE,
-            stderr=subprocess.STDOUT,
-        )
+        env = {**os.environ,
+               "PATH": os.pathsep.join([self.in_folder("bin"), os.path.join(TOP, "python/bin"), os.environ["PATH"]])}
+        status, out, _ = ended(["bash", "-c", command], LIMIT, cwd=home, env=env, input=given, stdout=subprocess.PIPE,
+                               stderr=subprocess.STDOUT)
         return status, out.decode()
 
     def test_readme(self) -> None:
@@ -254,25 +228,14 @@ class Words(ProgramTest):
             self.check_equal(f"README: {command}", said, "" if is_typed else rest)
         made, recipes = sought(r"```bash\n(.*?)```", text, re.S).group(1).split("\n\n")
         self.check_equal("README: the files of the recipes", self.shell(f"set -e\n{made}", home), (0, ""))
-        wants = (
-            "  SHA-256  ",
-            "end class\n",
-            "-const/16 v0 41\n+const/16 v0 43\n",
-            "all\n",
-            "",
-            "classes.dex: ok\n",
-            "a.dex: ok\n",
-            "a.txt:7:10: error: 118 Register: v9 of 2 registers",
-            "  8: the Adler-32 differs: the file was damaged or changed.\n",
-            "a.dex: ok\n",
-            "differ",
-            "",
-        )
+        wants = ("  SHA-256  ", "end class\n", "-const/16 v0 41\n+const/16 v0 43\n", "all\n", "", "classes.dex: ok\n",
+                 "a.dex: ok\n", "a.txt:7:10: error: 118 Register: v9 of 2 registers",
+                 "  8: the Adler-32 differs: the file was damaged or changed.\n", "a.dex: ok\n", "differ", "")
         commands = [line for line in recipes.splitlines() if not line.startswith("#")]
-        self.check("README: as many recipes as are tried", len(commands) == len(wants), commands)
+        self.check_equal("README: as many recipes as are tried", len(commands), len(wants))
         for recipe, want in zip(commands, wants):
             _, said = self.shell(recipe, home)
-            self.check(f"README: {recipe}", want in said and "No such file" not in said, repr(said[:200]))
+            self.check_equal(f"README: {recipe}", said, Has(want) & Lacks("No such file"))
 
 
 class Answers(ProgramTest):
@@ -297,16 +260,11 @@ class Answers(ProgramTest):
         aligned = self.dexasm("assemble", "--align", given=ODD.encode())[1]
         self.answers("assemble --align moves", b"ok\n", "check", given=aligned)
         text = self.dexasm("list", given=aligned)[1].decode()
-        self.check(
-            "a nop stands before the payload",
-            "\n:L0\npacked-switch v0 :L2\nnop\n:L2\npacked-switch-payload 0 :L0\n" in text,
-            text,
-        )
+        self.check_equal("a nop stands before the payload", text,
+                         Has("\n:L0\npacked-switch v0 :L2\nnop\n:L2\npacked-switch-payload 0 :L0\n"))
         for job, given, want in (
-            ("check", path, b"ok\n"),
-            ("list", path, LISTING.encode()),
-            ("assemble", listing, file),
-            ("strip", path, file),
+            ("check", path, b"ok\n"), ("list", path, LISTING.encode()), ("assemble", listing, file),
+            ("strip", path, file)
         ):
             made = self.put("out", b"x" * 100000)
             self.answers(f"{job} --output", b"", job, given, "--output", made)
@@ -335,16 +293,12 @@ class Answers(ProgramTest):
             ("list of a listing", "2 Magic at 0", "list", b"dex 035\n".ljust(112, b"#")),
             ("assemble of a file", "100 Word at 1", "assemble", file),
             (
-                "a listing that isn't ended",
-                "106 NotEnded at 7",
-                "assemble",
-                LISTING.replace("end class\n", "").encode(),
+                "a listing that isn't ended", "106 NotEnded at 7", "assemble",
+                LISTING.replace("end class\n", "").encode()
             ),
             (
-                "a rule of programs",
-                "115 Target at 0",
-                "assemble",
-                LISTING.replace("return-void", ":a\ngoto :a").encode(),
+                "a rule of programs", "115 Target at 0", "assemble",
+                LISTING.replace("return-void", ":a\ngoto :a").encode()
             ),
             ("a payload at an odd address", "86 Misaligned at 0", "assemble", ODD.encode()),
         ):
@@ -352,9 +306,8 @@ class Answers(ProgramTest):
             same = self.put("same", given)
             self.tells(f"{what}, with OUT that is FILE", 1, f"dexasm: refused {line}\n", job, same, "--output", same)
             self.check_equal(f"{what}: OUT that is FILE is as it was", get(same), given)
-            self.tells(
-                f"{what}, with OUT", 1, f"dexasm: refused {line}\n", job, same, "--output", self.in_folder("none")
-            )
+            self.tells(f"{what}, with OUT", 1, f"dexasm: refused {line}\n", job, same, "--output",
+                       self.in_folder("none"))
             self.check(f"{what}: OUT isn't made", not os.path.exists(self.in_folder("none")))
 
     def test_texts(self) -> None:
@@ -374,10 +327,8 @@ class Answers(ProgramTest):
         for what, given in (
             ("no line feed at the end", LISTING.rstrip("\n").encode()),
             ("comments of any bytes", b"# \xc3\xa4 \0 \r\n" + LISTING.replace("\n", "\n# \u00e4\n").encode()),
-            (
-                "spaces before, between and after",
-                "".join(f"  {line.replace(' ', '   ')} \n\n" for line in at_line).encode(),
-            ),
+            ("spaces before, between and after",
+             "".join(f"  {line.replace(' ', '   ')} \n\n" for line in at_line).encode()),
         ):
             self.answers(f"assemble of {what}", made, "assemble", given=given)
         link = self.in_folder("dangling")
@@ -397,21 +348,13 @@ class Answers(ProgramTest):
             self.tells(f"{job} of a folder", 3, CANNOT_READ, job, self.folder)
             with open(self.folder + "/w", "wb") as file:
                 self.tells(f"{job} of an input that can't be read", 3, CANNOT_READ, job, stdin=file)
-            self.tells(
-                f"{job} of a folder, with OUT", 3, CANNOT_READ, job, self.folder, "--output", self.in_folder("none")
-            )
+            self.tells(f"{job} of a folder, with OUT", 3, CANNOT_READ, job, self.folder, "--output",
+                       self.in_folder("none"))
             self.check(f"{job} of a folder: OUT isn't made", not os.path.exists(self.in_folder("none")))
         for job, given in (("check", empty), ("list", empty), ("assemble", b"dex 035\n"), ("strip", empty)):
             self.tells(f"{job} to a folder", 3, CANNOT_WRITE, job, "--output", self.folder, given=given)
-            self.tells(
-                f"{job} below no such folder",
-                3,
-                CANNOT_WRITE,
-                job,
-                "--output",
-                self.in_folder("no", "such"),
-                given=given,
-            )
+            self.tells(f"{job} below no such folder", 3, CANNOT_WRITE, job, "--output", self.in_folder("no", "such"),
+                       given=given)
             self.tells(f"{job} to no name", 3, CANNOT_WRITE, job, "--output", "", given=given)
             self.tells(f"{job} to OUT that is full", 3, CANNOT_WRITE, job, "--output", "/dev/full", given=given)
             with open("/dev/full", "wb") as full:
@@ -432,7 +375,7 @@ class Answers(ProgramTest):
             slow.stdin.write(empty[at : at + 35])
             slow.stdin.flush()
             time.sleep(0.05)
-        self.check("an input that comes in pieces", slow.communicate()[0] == b"ok\n" and slow.returncode == 0)
+        self.check_equal("an input that comes in pieces", (slow.communicate()[0], slow.returncode), (b"ok\n", 0))
 
 
 class Out(ProgramTest):
@@ -444,20 +387,20 @@ class Out(ProgramTest):
         out, link = os.path.join(home, "out.dex"), os.path.join(home, "link")
 
         def is_alone(*names: str) -> None:
-            self.check(f"nothing is left beside {names}", sorted(os.listdir(home)) == sorted(names), os.listdir(home))
+            self.check_equal(f"nothing is left beside {names}", sorted(os.listdir(home)), sorted(names))
 
         self.put("home/out.dex", b"kept")
         os.chmod(out, 0o640)
         inode = os.stat(out).st_ino
         self.answers("strip over a file", b"", "strip", "--output", out, given=empty)
         self.check_equal("OUT has its mode", (get(out), stat.S_IMODE(os.stat(out).st_mode)), (empty, 0o640))
-        self.check("OUT is another file", os.stat(out).st_ino != inode)
+        self.check_equal("OUT is another file", os.stat(out).st_ino, Other(inode))
         os.symlink("out.dex", link)
         self.answers("list through a link", b"", "list", "--output", link, given=empty)
-        self.check("the link stays", os.path.islink(link) and get(out) == b"dex 035 listing 2\n")
+        self.check_equal("the link stays", (os.path.islink(link), get(out)), (True, b"dex 035 listing 2\n"))
         os.remove(out)
         self.answers("strip through a link that leads nowhere", b"", "strip", "--output", link, given=empty)
-        self.check("the file is made where it leads", os.path.islink(link) and get(out) == empty)
+        self.check_equal("the file is made where it leads", (os.path.islink(link), get(out)), (True, empty))
         os.remove(link)
         self.put("home/out.dex.0.part", b"of somebody else")
         self.answers("strip where the first name is taken", b"", "strip", "--output", out, given=empty)
@@ -465,17 +408,12 @@ class Out(ProgramTest):
         for number in range(100):
             self.put(f"home/out.dex.{number}.part", b"of a run that was killed")
         self.put("home/out.dex", b"kept")
-        self.tells(
-            "a refusal where a hundred names are taken",
-            1,
-            "dexasm: refused 1 TooShort at 0\n",
-            "strip",
-            "--output",
-            out,
-        )
+        self.tells("a refusal where a hundred names are taken", 1, "dexasm: refused 1 TooShort at 0\n", "strip",
+                   "--output", out)
         self.check_equal("OUT is as it was where a hundred names are taken", get(out), b"kept")
         self.answers("strip where a hundred names are taken", b"", "strip", "--output", out, given=empty)
-        self.check("OUT is written where a hundred names are taken", get(out) == empty and len(os.listdir(home)) == 101)
+        self.check_equal("OUT is written where a hundred names are taken", (get(out), len(os.listdir(home))),
+                         (empty, 101))
         for number in range(100):
             os.remove(f"{out}.{number}.part")
         is_alone("out.dex")
@@ -483,14 +421,12 @@ class Out(ProgramTest):
         second = os.path.join(home, "second")
         self.put("home/out.dex", b"kept")
         os.link(out, second)
-        self.tells(
-            "a refusal over a file with two names", 1, "dexasm: refused 1 TooShort at 0\n", "strip", "--output", out
-        )
+        self.tells("a refusal over a file with two names", 1, "dexasm: refused 1 TooShort at 0\n", "strip", "--output",
+                   out)
         self.check_equal("a file with two names is as it was", get(out), b"kept")
         self.answers("strip over a file with two names", b"", "strip", "--output", out, given=empty)
-        self.check_equal(
-            "both names have the answer", (get(second), os.stat(out).st_ino), (empty, os.stat(second).st_ino)
-        )
+        self.check_equal("both names have the answer", (get(second), os.stat(out).st_ino),
+                         (empty, os.stat(second).st_ino))
         os.remove(second)
         is_alone("out.dex")
         # No room: a file may not grow beyond 64 bytes.
@@ -500,9 +436,8 @@ class Out(ProgramTest):
             signal.signal(signal.SIGXFSZ, signal.SIG_IGN)
             resource.setrlimit(resource.RLIMIT_FSIZE, (64, 64))
 
-        self.tells(
-            "strip where there is no room", 3, CANNOT_WRITE, "strip", "--output", out, given=empty, preexec_fn=limit
-        )
+        self.tells("strip where there is no room", 3, CANNOT_WRITE, "strip", "--output", out, given=empty,
+                   preexec_fn=limit)
         self.check_equal("OUT is as it was where there is no room", get(out), b"kept")
         is_alone("out.dex")
         if os.geteuid() == 0:
@@ -536,22 +471,21 @@ class Out(ProgramTest):
             return status, said
 
         for mode, folder_mode, want, is_written in (
-            (0o444, 0o755, (3, CANNOT_WRITE), False),
-            (0o666, 0o755, (0, ""), True),
-            (0o444, 0o777, (3, CANNOT_WRITE), False),
+            (0o444, 0o755, (3, CANNOT_WRITE), False), (0o666, 0o755, (0, ""), True),
+            (0o444, 0o777, (3, CANNOT_WRITE), False)
         ):
             self.put("home/out.dex", b"kept")
             os.chmod(out, mode)
             os.chmod(home, folder_mode)
             said = strips()
-            is_so = said == want and get(out) == (empty if is_written else b"kept")
-            self.check(f"OUT of mode {mode:o} in a folder of mode {folder_mode:o}", is_so, said)
+            self.check_equal(f"OUT of mode {mode:o} in a folder of mode {folder_mode:o}", (said, get(out)),
+                             (want, (empty if is_written else b"kept")))
         self.check_out_in_place(empty, home, out, strips)
         os.chown(out, 65534, 65534)
         os.chmod(out, 0o644)
         self.answers("strip over a file of another user", b"", "strip", "--output", out, given=empty)
         owner = os.stat(out)
-        self.check("OUT has its owner", (owner.st_uid, owner.st_gid, get(out)) == (65534, 65534, empty), owner)
+        self.check_equal("OUT has its owner", (owner.st_uid, owner.st_gid, get(out)), (65534, 65534, empty))
         os.chmod(home, 0o755)
 
     def check_out_in_place(
@@ -563,21 +497,15 @@ class Out(ProgramTest):
         os.chmod(home, 0o1777)
         said = strips()
         # (where the system protects such files, nobody may write them)
-        is_so = (said, get(out)) == ((0, ""), empty) or (said, get(out)) == ((3, CANNOT_WRITE), b"kept")
-        self.check(
-            "OUT is another user's, in a sticky folder",
-            is_so and os.listdir(home) == ["out.dex"],
-            (said, os.listdir(home)),
-        )
+        ends = Either(((0, ""), empty), ((3, CANNOT_WRITE), b"kept"))
+        self.check_equal("OUT is another user's, in a sticky folder", ((said, get(out)), os.listdir(home)),
+                         (ends, ["out.dex"]))
         source = self.put("mounted", b"kept")
         if subprocess.run(["mount", "--bind", source, out], stderr=subprocess.DEVNULL).returncode == 0:
             self.answers("OUT is a mount point", b"", "strip", "--output", out, given=empty)
             subprocess.run(["umount", "-l", out], check=True)
-            self.check(
-                "OUT is a mount point: it was written",
-                get(source) == empty and os.listdir(home) == ["out.dex"],
-                os.listdir(home),
-            )
+            self.check_equal("OUT is a mount point: it was written", (get(source), os.listdir(home)),
+                             (empty, ["out.dex"]))
             self.check_out_in_full(home, out)
 
     def check_out_in_full(self, home: str, out: str) -> None:
@@ -587,8 +515,7 @@ class Out(ProgramTest):
         if (
             subprocess.run(
                 ["mount", "-t", "tmpfs", "-o", "size=4k", "tmpfs", disk], stderr=subprocess.DEVNULL
-            ).returncode
-            != 0
+            ).returncode != 0
         ):
             return
         self.put("home/disk/file", b"kept")
@@ -621,7 +548,7 @@ class Out(ProgramTest):
         os.chmod(home, 0o777)
         os.chmod(file, 0o600)
         said = self.run_as_nobody("strip", file, "--output", out)
-        self.check("a FILE that can't be read: OUT isn't made", said == refused and not os.path.exists(out), said)
+        self.check_equal("a FILE that can't be read: OUT isn't made", (said, os.path.exists(out)), (refused, False))
 
 
 class Faults(ProgramTest):
@@ -630,77 +557,38 @@ class Faults(ProgramTest):
         ends = (112, 128, 140, 152, 160, 192, 376)
         for first, end, place in zip(ends, ends[1:], (56, 64, 72, 88, 96, 104)):
             for size in range(first, end):
-                self.tells(
-                    f"cut to {size} bytes",
-                    1,
-                    f"dexasm: refused 10 SectionRange at {place}\n",
-                    "check",
-                    given=changed(0, b"", size),
-                )
+                self.tells(f"cut to {size} bytes", 1, f"dexasm: refused 10 SectionRange at {place}\n", "check",
+                           given=changed(0, b"", size))
         sizes = {56: 268, 64: 280, 72: 292, 88: 304, 96: 316}
         for at, place in sizes.items():
-            self.tells(
-                f"no rows by {at}", 1, f"dexasm: refused 13 MapEntry at {place}\n", "check", given=changed(at, bytes(4))
-            )
+            self.tells(f"no rows by {at}", 1, f"dexasm: refused 13 MapEntry at {place}\n", "check",
+                       given=changed(at, bytes(4)))
         self.tells("no data section", 1, "dexasm: refused 12 MapPlace at 52\n", "check", given=changed(104, bytes(4)))
         for at in (56, 64, 72, 80, 88, 96, 104):
-            self.tells(
-                f"the most rows by {at}",
-                1,
-                f"dexasm: refused 10 SectionRange at {at}\n",
-                "check",
-                given=changed(at, b"\xff" * 4),
-            )
+            self.tells(f"the most rows by {at}", 1, f"dexasm: refused 10 SectionRange at {at}\n", "check",
+                       given=changed(at, b"\xff" * 4))
         self.tells("a link section", 1, "dexasm: refused 7 Linked at 44\n", "check", given=changed(44, b"\xff" * 4))
         for at in (48, 84, 0xB4, 0xC8):
-            self.answers(
-                f"strip of an offset that isn't looked at, {at}",
-                changed(0, b""),
-                "strip",
-                given=changed(at, b"\xff" * 4),
-            )
+            self.answers(f"strip of an offset that isn't looked at, {at}", changed(0, b""), "strip",
+                         given=changed(at, b"\xff" * 4))
         for count, line in (
-            (0, "14 MapMissing"),
-            (9, "14 MapMissing"),
-            (11, "12 MapPlace"),
-            (0xFFFFFFFF, "12 MapPlace"),
+            (0, "14 MapMissing"), (9, "14 MapMissing"), (11, "12 MapPlace"), (0xFFFFFFFF, "12 MapPlace")
         ):
-            self.tells(
-                f"a map of {count} entries",
-                1,
-                f"dexasm: refused {line} at 52\n",
-                "check",
-                given=changed(0xFC, struct.pack("<I", count)),
-            )
+            self.tells(f"a map of {count} entries", 1, f"dexasm: refused {line} at 52\n", "check",
+                       given=changed(0xFC, struct.pack("<I", count)))
         for at, byte, line in (
-            (0x70, 0xC0, "20 StringPlace at 112"),
-            (0x94, 0xC0, "28 ParameterList at 140"),
-            (0xAC, 0xC0, "43 InterfaceList at 160"),
-            (0xB8, 0xD2, "44 ClassData at 160"),
-            (0xBC, 0xF1, "48 Values at 160"),
-            (0xF7, 0xD4, "60 CodePlace at 212"),
+            (0x70, 0xC0, "20 StringPlace at 112"), (0x94, 0xC0, "28 ParameterList at 140"),
+            (0xAC, 0xC0, "43 InterfaceList at 160"), (0xB8, 0xD2, "44 ClassData at 160"),
+            (0xBC, 0xF1, "48 Values at 160"), (0xF7, 0xD4, "60 CodePlace at 212")
         ):
-            self.tells(
-                f"an item elsewhere, by {at:#x}",
-                1,
-                f"dexasm: refused {line}\n",
-                "check",
-                given=changed(at, bytes([byte])),
-            )
+            self.tells(f"an item elsewhere, by {at:#x}", 1, f"dexasm: refused {line}\n", "check",
+                       given=changed(at, bytes([byte])))
         most = changed(0xF1, b"\xff\xff\xff\xff\x0f")
-        self.tells(
-            "4294967295 static fields",
-            1,
-            "dexasm: refused 44 ClassData at 160\n",
-            "check",
-            given=most,
-            preexec_fn=limited(48 * MEGABYTE),
-        )
+        self.tells("4294967295 static fields", 1, "dexasm: refused 44 ClassData at 160\n", "check", given=most,
+                   preexec_fn=limited(48 * MEGABYTE))
         for rows, line in ((65536, "11 TooManyRows at 64"), (65535, "12 MapPlace at 52")):
             header = (
-                struct.pack("<6I", 262256, 0x70, 0x12345678, 0, 0, 0)
-                + bytes(8)
-                + struct.pack("<2I", rows, 0x70)
+                struct.pack("<6I", 262256, 0x70, 0x12345678, 0, 0, 0) + bytes(8) + struct.pack("<2I", rows, 0x70)
                 + bytes(40)
             )
             self.tells(f"{rows} types", 1, f"dexasm: refused {line}\n", "check", given=closed(header + bytes(262144)))
@@ -732,9 +620,8 @@ class Faults(ProgramTest):
             for at, byte in (each.split("=") for each in bytes_there.split()):
                 file[int(at, 16)] = int(byte, 16)
             for job in ("check", "list", "strip"):
-                self.tells(
-                    f"{job} of {bytes_there}", 1, f"dexasm: refused {line}\n", job, given=closed(bytes(file[32:]))
-                )
+                self.tells(f"{job} of {bytes_there}", 1, f"dexasm: refused {line}\n", job,
+                           given=closed(bytes(file[32:])))
 
     def test_each_byte(self) -> None:
         """Each byte of the file from 0x20 on, made 0, 7f, 80 and ff: a program, or a fault at a place of the file or
@@ -749,9 +636,8 @@ class Faults(ProgramTest):
                     number, place = map(int, fault.groups())
                     is_so = place == code_off_of(file) if number == 60 else place <= 376
                 self.check(f"byte {at:#x} made {byte:#x}", is_so, f"{status} {said!r}")
-        self.tells(
-            "byte 0xf8 made 7f", 1, "dexasm: refused 60 CodePlace at 16320\n", "check", given=changed(0xF8, b"\x7f")
-        )
+        self.tells("byte 0xf8 made 7f", 1, "dexasm: refused 60 CodePlace at 16320\n", "check",
+                   given=changed(0xF8, b"\x7f"))
 
 
 class Big(ProgramTest):
@@ -761,16 +647,8 @@ class Big(ProgramTest):
         for job in JOBS:
             line = "dexasm: out of memory\n"
             self.tells(f"{job} of more than there is memory", 4, line, job, path, preexec_fn=limited(48 * MEGABYTE))
-            self.tells(
-                f"{job} of more, with OUT",
-                4,
-                line,
-                job,
-                path,
-                "--output",
-                self.in_folder("none"),
-                preexec_fn=limited(48 * MEGABYTE),
-            )
+            self.tells(f"{job} of more, with OUT", 4, line, job, path, "--output", self.in_folder("none"),
+                       preexec_fn=limited(48 * MEGABYTE))
             self.check(f"{job} of more: OUT isn't made", not os.path.exists(self.in_folder("none")))
         os.remove(path)
 
@@ -795,29 +673,16 @@ class Big(ProgramTest):
         reader.stdout.close()
         said = reader.stderr.read().decode()
         status = reader.wait()
-        self.check(
-            "a pipe that closes", (status, said) == (3, CANNOT_WRITE) and begin == listing[:1000], f"{status} {said!r}"
-        )
+        self.check_equal("a pipe that closes", (status, said, begin), (3, CANNOT_WRITE, listing[:1000]))
         with open("/dev/full", "wb") as full:
             self.tells("list of 10 MB to a full device", 3, CANNOT_WRITE, "list", path, stdout=full)
         for job, given, megabytes in (
-            ("check", path, 26),
-            ("list", path, 150),
-            ("strip", path, 30),
-            ("assemble", text, 200),
+            ("check", path, 26), ("list", path, 150), ("strip", path, 30), ("assemble", text, 200)
         ):
             line, limit = "dexasm: out of memory\n", limited(megabytes * MEGABYTE)
             self.tells(f"{job} of 10 MB with {megabytes} MB", 4, line, job, given, preexec_fn=limit)
-            self.tells(
-                f"{job} of 10 MB with {megabytes} MB, with OUT",
-                4,
-                line,
-                job,
-                given,
-                "--output",
-                self.in_folder("none"),
-                preexec_fn=limit,
-            )
+            self.tells(f"{job} of 10 MB with {megabytes} MB, with OUT", 4, line, job, given, "--output",
+                       self.in_folder("none"), preexec_fn=limit)
             self.check(
                 f"{job} of 10 MB with {megabytes} MB: OUT isn't made", not os.path.exists(self.in_folder("none"))
             )

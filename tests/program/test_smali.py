@@ -9,10 +9,9 @@ from ..base import TestCase, get
 
 PAGE = get(os.path.join(TOP, "docs", "FROM-SMALI.md")).decode()
 # A listing around each of these lines of the page, which are in a method with ten registers.
-LINES = (
-    "const/4 v0 5", "const-wide v0 5", "const v0 1069547520", "const/high16 v0 1", "invoke-static { v0 v1 } LA;->f(II)V",
-    "invoke-static/range v4 6 LA;->f(IIIIII)V", "iget v0 v2 LA;->n:I", r'const-string v0 "a\u000a"',
-)  # fmt: skip
+LINES = ("const/4 v0 5", "const-wide v0 5", "const v0 1069547520", "const/high16 v0 1",
+         "invoke-static { v0 v1 } LA;->f(II)V", "invoke-static/range v4 6 LA;->f(IIIIII)V", "iget v0 v2 LA;->n:I",
+         r'const-string v0 "a\u000a"')
 
 
 class FromSmali(TestCase):

@@ -1,17 +1,22 @@
-"""Tables of cases as text: a part begins with [NAME], a case is a line, ` | ` stands between its fields."""
+"""The tables of cases of this folder: tests/cases.py describes their form."""
 import os
+import re
 
-Case = tuple[str, ...]
+from tests.cases import Case as Case, cases as cases_of
 
 
 def cases(name: str) -> dict[str, list[Case]]:
     """The cases of a file of this folder, by part."""
-    found: dict[str, list[Case]] = {}
+    return cases_of(os.path.join(os.path.dirname(__file__), f"{name}.txt"))
+
+
+def texts(name: str) -> dict[str, str]:
+    """The texts of a file of this folder, each below a line with its name in square brackets."""
     with open(os.path.join(os.path.dirname(__file__), f"{name}.txt"), encoding="utf8") as file:
-        lines = [line.rstrip("\n") for line in file]
-    for line in lines:
-        if line[:1] == "[" and line[-1:] == "]" and " | " not in line:
-            part = found.setdefault(line[1:-1], [])
-        elif line and line[0] != "#":
-            part.append(tuple(line.split(" | ")))
-    return found
+        parts = re.split(r"^\[(.*)\]\n", file.read(), flags=re.M)
+    return {
+        key: text.removesuffix("\n") if text.endswith("\n\n") else text for key, text in zip(parts[1::2], parts[2::2])
+    }
+
+
+TEXTS = texts("listings")

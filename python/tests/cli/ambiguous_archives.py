@@ -10,11 +10,9 @@ from .archive_files import archive, streamed
 NAMES = "classes.dex", "classes2.dex"
 HEADERS = b"PK\3\4", b"PK\1\2", b"PK\5\6"
 # Fields of a header, of a row and of the end record that say where something is, how long it is or how it is stored.
-FIELDS = (
-    [(6, 2), (8, 2), (14, 4), (18, 4), (22, 4), (26, 2), (28, 2)],
-    [(8, 2), (10, 2), (16, 4), (20, 4), (24, 4), (28, 2), (30, 2), (32, 2), (34, 2), (42, 4)],
-    [(4, 2), (6, 2), (8, 2), (10, 2), (12, 4), (16, 4), (20, 2)],
-)
+FIELDS = ([(6, 2), (8, 2), (14, 4), (18, 4), (22, 4), (26, 2), (28, 2)],
+          [(8, 2), (10, 2), (16, 4), (20, 4), (24, 4), (28, 2), (30, 2), (32, 2), (34, 2), (42, 4)],
+          [(4, 2), (6, 2), (8, 2), (10, 2), (12, 4), (16, 4), (20, 2)])
 
 
 class Parts:
@@ -145,15 +143,7 @@ def honest(random_: random.Random) -> bytes:
 MAKERS: dict[str, Callable[[random.Random], bytes]] = {
     maker.__name__: maker
     for maker in (
-        two_directories,
-        with_zip64,
-        honest_zip64,
-        behind_another,
-        with_front,
-        with_tail,
-        with_fields,
-        damaged,
-        honest,
+        two_directories, with_zip64, honest_zip64, behind_another, with_front, with_tail, with_fields, damaged, honest
     )
 }
 

@@ -5,6 +5,8 @@ import os
 import re
 from typing import Any
 
+from tests.matchers import EMPTY
+from ..cases import TEXTS
 from .support import HEAD, Ended, HelperTest, assembled, dexasm, put, seen_in, tool
 
 
@@ -160,49 +162,8 @@ def numbers_of(name: str) -> list[int]:
 
 
 # Two files of an archive that lead into each other, each with a class p.Twin. Both call a method that it has in both.
-ONE = rb"""dex 035 listing 2
-class Lp/A; 0x1
-super Ljava/lang/Object;
-direct m ()V 0x9
-code 1 0 0
-const-string v0 "both"
-invoke-static { } Lp/q/B;->n()V
-invoke-static { } Lp/Twin;->t()V
-return-void
-end code
-end class
-class Lp/Twin; 0x1
-direct t ()V 0x9
-code 0 0 0
-return-void
-end code
-end class
-"""
-TWO = rb"""dex 035 listing 2
-class Lp/Twin; 0x1
-direct t ()V 0x9
-code 0 0 0
-return-void
-end code
-direct u ()V 0x9
-code 0 0 0
-return-void
-end code
-end class
-class Lp/q/B; 0x1
-super Lp/A;
-direct n ()V 0x9
-code 1 0 0
-const-string v0 "both"
-const-string v0 "second"
-invoke-static { } Lp/A;->m()V
-invoke-static { } Lp/q/B;->m()V
-invoke-static { } Lp/Twin;->t()V
-invoke-static { } Lp/Twin;->u()V
-return-void
-end code
-end class
-"""
+ONE = TEXTS["browse_pages ONE"].encode()
+TWO = TEXTS["browse_pages TWO"].encode()
 
 
 def browse(at: str, file: bytes, *words: str, name: str = "a.dex", **options: Any) -> Ended:
@@ -210,52 +171,7 @@ def browse(at: str, file: bytes, *words: str, name: str = "a.dex", **options: An
     return tool("dexasm-browse", *words, "--output", "out", "--", name, at=at, **options)
 
 
-CODE = rb"""dex 035 listing 2
-class Lp/Base; 0x401
-super Ljava/lang/Object;
-virtual run (I)V 0x401
-virtual stay ()V 0x1
-code 1 1 0
-return-void
-end code
-end class
-class Lp/q/Hello; 0x1
-super Lp/Base;
-static name Ljava/lang/String; 0x19 = string "the answer"
-static many [Ljava/lang/Object; 0x19 = array { string "one" type Lp/Base; null true int -3 }
-direct get (Z)I 0x9
-code 4 1 1
-const-string v0 "a\\b&amp;\"<script>"
-if-eqz v3 :out
-packed-switch v3 :table
-:three
-add-int/lit8 v0 v0 -1
-invoke-static { v0 } Lp/q/Hello;->ask(I)V
-goto/16 :out
-:out
-return v0
-:wrong
-move-exception v0
-throw v0
-nop
-:table
-packed-switch-payload 5 :three :out :three
-try :three :out
-catch Ljava/lang/Exception; :wrong
-catchall :out
-end code
-direct ask (I)V 0x9
-code 2 1 1
-new-instance v0 Lp/q/Hello;
-invoke-virtual { v0 } Lp/q/Hello;->stay()V
-invoke-virtual { v0 } Lp/q/Hello;->hashCode()I
-invoke-static { v1 } Lp/q/Hello;->get(Z)I
-invoke-static { v1 } Lp/q/Hello;->get(Z)I
-sget-object v0 Lp/q/Hello;->name:Ljava/lang/String;
-return-void
-end code
-end class
-"""
+CODE = TEXTS["browse_pages CODE"].encode()
 
 
 class BrowseTest(HelperTest):
@@ -285,7 +201,7 @@ class BrowseTest(HelperTest):
                     wrong += [(name, link)] * (file not in files)
                 elif not LINK.fullmatch(link) or file not in found or anchor and anchor not in ids[file]:
                     wrong.append((name, link))
-        self.check(f"dexasm-browse, all of {at} is only what it may be", not wrong, wrong[:5])
+        self.check_equal(f"dexasm-browse, all of {at} is only what it may be", wrong, EMPTY)
         return found
 
     def says_listing(self, what: str, found: dict[str, Page], file: bytes) -> None:
@@ -293,5 +209,5 @@ class BrowseTest(HelperTest):
         names = sorted((name for name in found if name.startswith("class/")), key=numbers_of)
         lines = [line for name in names for line in found[name].lines]
         want = code_lines(dexasm("list", given=file))
-        wrong = next(((a[:99], b[:99]) for a, b in zip(lines, want) if a != b), (len(lines), len(want)))
-        self.check(f"dexasm-browse, {what}: the code is the listing's", lines == want and len(lines) > 0, wrong)
+        wrong = next(((a[:99], b[:99]) for a, b in zip(lines, want) if a != b), None)
+        self.check_equal(f"{what}: the code is the listing's", (wrong, len(lines)), (None, len(want) or 1))

@@ -45,15 +45,8 @@ class Browser:
         words += [f"--user-data-dir={path('browser')}", "--disable-background-networking", "about:blank"]
         program = found()
         assert program is not None  # (where there is none, none is begun)
-        self.process = subprocess.Popen(
-            [program, *words],
-            stdin=subprocess.DEVNULL,
-            stdout=subprocess.DEVNULL,
-            stderr=subprocess.DEVNULL,
-            close_fds=False,
-            preexec_fn=place,
-            env=environment(),
-        )
+        self.process = subprocess.Popen([program, *words], stdin=subprocess.DEVNULL, stdout=subprocess.DEVNULL,
+                                        stderr=subprocess.DEVNULL, close_fds=False, preexec_fn=place, env=environment())
         os.close(to_read)
         os.close(to_write)
         self.asked: list[str]
@@ -129,11 +122,8 @@ class Browser:
         return None
 
     def key(self, key: str, code: str | None = None, text: str | None = None) -> None:
-        given = {
-            "key": key,
-            "code": code or key,
-            "windowsVirtualKeyCode": {"Tab": 9, "Enter": 13, "Escape": 27}.get(key, 0),
-        }
+        given = {"key": key, "code": code or key,
+                 "windowsVirtualKeyCode": {"Tab": 9, "Enter": 13, "Escape": 27}.get(key, 0)}
         self.call("Input.dispatchKeyEvent", type="keyDown", **given, **({"text": text} if text else {}))
         self.call("Input.dispatchKeyEvent", type="keyUp", **given)
 

@@ -5,28 +5,12 @@ import os
 import sqlite3
 from typing import Any
 
+from tests.matchers import ANY
+from ..cases import TEXTS
 from .archive_files import archive
-from .support import HEAD, LISTING, NAMES, HelperTest, assembled, dexasm, get, is_one_line, put, room, scratch, tool
+from .support import HEAD, LISTING, NAMES, HelperTest, Line, assembled, dexasm, get, put, puts, room, scratch, tool
 
-LIBRARY = b"""class Ll/A; 0x1
-super Ljava/lang/Object;
-direct m ()V 0x9
-code 2 0 1
-const-string v0 "key"
-const/16 v1 %d
-invoke-static { v0 } Ll/B;->take(Ljava/lang/String;)V
-invoke-static { v0 } Ll/B;->take(Ljava/lang/String;)V
-return-void
-end code
-end class
-class Ll/B; 0x1
-super Ljava/lang/Object;
-direct take (Ljava/lang/String;)V 0x9
-code 1 1 0
-return-void
-end code
-end class
-"""
+LIBRARY = TEXTS["corpus_cases LIBRARY"].encode()
 APP = b"""class Lapp/Main; 0x1
 super Ll/A;
 static k Ljava/lang/String; 0x9 = string "key"
@@ -69,17 +53,13 @@ def strange(at: str) -> None:
         put(at, f"d/{name}.dex", file)
     for name in NAMES[:3]:
         put(at, f"d/{name}.apk", archive(("classes.dex", file), ("classes2.dex", file[:-1])))
-    put(at, os.fsdecode(b"d/n\xff.dex"), file)
-    put(at, "d/empty.dex", b"")
-    put(at, "d/other", b"no file")
-    put(at, "d/begins", file[:100])
-    put(at, "d/bad.apk", archive(("classes.dex", file))[:-30])
-    put(at, "d/bomb.apk", bomb())
-    put(
-        at,
-        "d/encrypted.apk",
-        archive(("classes.dex", file)).replace(b"PK\1\2\x14\x03\x14\0\0\0", b"PK\1\2\x14\x03\x14\0\1\0"),
-    )
+    puts(at, {
+        os.fsdecode(b"d/n\xff.dex"): file, "d/empty.dex": b"", "d/other": b"no file", "d/begins": file[:100],
+        "d/bad.apk": archive(("classes.dex", file))[:-30], "d/bomb.apk": bomb(),
+        "d/encrypted.apk": archive(("classes.dex", file)).replace(
+            b"PK\1\2\x14\x03\x14\0\0\0", b"PK\1\2\x14\x03\x14\0\1\0"
+        )
+    })
     os.mkfifo(os.path.join(at, "d", "fifo.dex"))
     os.symlink("/dev/zero", os.path.join(at, "d", "zero.dex"))
     os.symlink("..", os.path.join(at, "d", "loop"))
@@ -98,12 +78,12 @@ def slow(classes: int = 16000) -> bytes:
 def programs(at: str) -> tuple[bytes, bytes]:
     """Three programs in five files, one of them refused besides, and an archive."""
     first, second = assembled(HEAD + LIBRARY % 1), assembled(HEAD + LIBRARY % 2)
-    put(at, "f/a.dex", first)
-    put(at, "f/b.dex", dexasm("strip", given=first) if dexasm("strip", given=first) != first else first + b"")
-    put(at, "f/c.dex", second)
-    put(at, "f/d.dex", assembled(HEAD + LIBRARY % 1 + APP))
-    put(at, "f/e.dex", first[:-1])
-    put(at, "f/x.apk", archive(("classes.dex", first), ("classes2.dex", second[:40])))
+    puts(at, {
+        "f/a.dex": first,
+        "f/b.dex": dexasm("strip", given=first) if dexasm("strip", given=first) != first else first + b"",
+        "f/c.dex": second, "f/d.dex": assembled(HEAD + LIBRARY % 1 + APP), "f/e.dex": first[:-1],
+        "f/x.apk": archive(("classes.dex", first), ("classes2.dex", second[:40]))
+    })
     return first, second
 
 
@@ -123,6 +103,5 @@ class CorpusTest(HelperTest):
 
     def added(self, what: str, at: str, *words: str, want: int = 0, says: str | None = None, **options: Any) -> str:
         seen = tool("dexasm-corpus", "add", *words, at=at, **options)
-        is_so = seen[0] == want and (seen[2] == "" if says is None else is_one_line(seen[2], says))
-        self.check(f"dexasm-corpus, add {what}", is_so and "Traceback" not in seen[2], seen)
+        self.check_equal(f"add {what}", seen, (want, ANY, "" if says is None else Line(says)))
         return seen[1]

@@ -3,40 +3,11 @@ import hashlib
 import struct
 from collections.abc import Callable, Iterator
 
+from ..cases import TEXTS
 from .support import HEAD, HelperTest, assembled
 from .signatures import resigned
 
-TEXT = (
-    HEAD
-    + b"""class LA; 0x601
-implements LZ;
-end class
-class LB; 0x601
-super LA;
-implements LA;
-static f I 0x9
-direct a_b ()V 0x9
-code 2 0 0
-packed-switch v0 :p
-packed-switch v0 :q
-return-void
-nop
-:p
-packed-switch-payload 0 :l
-:q
-packed-switch-payload 0 :l
-:l
-return-void
-end code
-direct c (I)V 0x10000001
-end class
-class LC; 0x601
-super LB;
-implements LB;
-virtual d (II)V 0x401
-end class
-"""
-)
+TEXT = (HEAD + TEXTS["patched_files TEXT"].encode())
 # Places of offsets in the header.
 MAP_OFF, STRINGS, TYPES, PROTOS, FIELDS, METHODS, CLASSES = 52, 60, 68, 76, 84, 92, 100
 

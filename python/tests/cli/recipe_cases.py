@@ -3,30 +3,10 @@ import os
 import re
 from typing import Any
 
+from ..cases import TEXTS
 from .support import ESC, HEAD, NAMES, TOP, assembled, get, put
 
-TEXT = (
-    HEAD
-    + b"""class LHello; 0x1
-super Ljava/lang/Object;
-static name Ljava/lang/String; 0x19 = string "the answer"
-direct get (Z)I 0x9
-code 2 1 0
-const/16 v0 41
-if-eqz v1 :done
-add-int/lit8 v0 v0 -1
-:done
-return v0
-end code
-direct ask ()V 0x9
-code 2 0 1
-const/16 v0 1
-invoke-static { v0 } LHello;->get(Z)I
-return-void
-end code
-end class
-"""
-)
+TEXT = (HEAD + TEXTS["recipe_cases TEXT"].encode())
 # All of these at once, for where a recipe has one file.
 EVIL = f"sp ace'q\"$(touch PWNED)`touch PWNED`&a|;e touch PWNED #\nnew{ESC}[31m*"
 TURNED = "a\u202exed."  # what follows such a mark is shown from right to left

@@ -2,9 +2,11 @@
 import atexit
 import collections
 import concurrent.futures
+import contextlib
 import functools
 import importlib.util
 import os
+import pty
 import re
 import resource
 import shutil
@@ -18,6 +20,8 @@ from typing import Any, TypeVar
 
 from tests import TOP as TOP, config
 from tests.base import LIMIT as LIMIT, TestCase, can_trace as is_strace_there
+from tests.matchers import Like
+from ..cases import TEXTS
 
 TOOLS = os.path.join(TOP, "python", "bin")
 Ended = tuple[int | str, str, str]  # status, or "late"; standard output; standard error
@@ -28,48 +32,11 @@ NO_PAGES = "pages need jinja2"  # what is said where it isn't
 
 # As somebody wrote it: comments, classes whose names differ only in case, one in a package and one of the package's
 # name.
-LISTING = rb"""# a comment before
-dex 035 listing 2
-# about LA;
-class LA; 0x1
-super Ljava/lang/Object;
-static s Ljava/lang/String; 0x9 = string "a\u00e9"
-instance i I 0x2
-direct m ()V 0x9
-code 1 0 0
-const-string v0 "x \"y\" z"
-invoke-static { } LA;->m()V
-return-void
-end code
-end class
-class La; 0x1
-implements LI;
-virtual n (I)V 0x1
-end class
-
-# between
-class Lp/q/B; 0x1
-end class
-class Lp; 0x1
-end class
-# the end
-"""
+LISTING = TEXTS["support LISTING"].encode()
 HEAD = b"dex 035 listing 2\n"
 # Names of files that a shell, a program or a terminal could take for something else.
-NAMES = (
-    "sp ace",
-    "qu'o\"te",
-    "$(touch PWNED)",
-    "`touch PWNED`",
-    "a|;e touch PWNED #",
-    "a&b",
-    "new\nline",
-    "-x",
-    "--help",
-    "*",
-    f"{ESC}[31mred",
-    "\\n%s{}",
-)
+NAMES = ("sp ace", "qu'o\"te", "$(touch PWNED)", "`touch PWNED`", "a|;e touch PWNED #", "a&b", "new\nline", "-x",
+         "--help", "*", f"{ESC}[31mred", "\\n%s{}")
 
 
 class HelperTest(TestCase):
@@ -82,6 +49,11 @@ class HelperTest(TestCase):
         signal.signal(signal.SIGINT, signal.default_int_handler)
         if signal.getsignal(signal.SIGHUP) == signal.SIG_IGN:
             signal.signal(signal.SIGHUP, lambda *_: None)
+
+    def need_trace(self) -> None:
+        """Ends the test, as one that isn't tried, where nothing can be traced."""
+        if not can_trace():
+            self.skipTest("no strace here, or it may not trace: no calls are failed")
 
     def use_program(self) -> None:
         """Has the module in this process run the program that is tried, until the test ends."""
@@ -106,6 +78,7 @@ def environment() -> dict[str, str]:
     ways = [path("bin"), TOOLS, os.path.dirname(sys.executable), os.environ["PATH"]]
     kept = {name: value for name, value in os.environ.items() if not name.startswith(("DEXASM", "GIT_", "PYTHON"))}
     named = {"DEXASM_COMMAND": path("bin", "dexasm")}  # (no library that is built here)
+    named |= {name: os.environ[name] for name in ("PYTHONPYCACHEPREFIX",) if name in os.environ}  # (of tools/try)
     return kept | named | {"PATH": os.pathsep.join(ways), "LANG": "C.UTF-8", "HOME": scratch(), "NO_PWNED": "1"}
 
 
@@ -113,10 +86,16 @@ def path(*parts: str) -> str:
     return os.path.join(scratch(), *parts)
 
 
-def room(name: str) -> str:
-    """A new folder for one test."""
+def room(name: str, files: dict[str, bytes] | None = None) -> str:
+    """A new folder for one test, with these files."""
     os.makedirs(path(name))
+    puts(path(name), files or {})
     return path(name)
+
+
+def puts(into: str, files: dict[str, bytes]) -> None:
+    for name, given in files.items():
+        put(into, name, given)
 
 
 def put(into: str, name: str, given: bytes) -> str:
@@ -139,33 +118,19 @@ def seen_in(folder: str) -> dict[str, str | bytes]:
         for name in (*folders, *names):
             one = os.path.join(at, name)
             kind: str | bytes = (
-                os.readlink(one)
-                if os.path.islink(one)
-                else get(one)
-                if os.path.isfile(one)
-                else "folder"
-                if os.path.isdir(one)
-                else "other"
+                os.readlink(one) if os.path.islink(one) else get(one) if os.path.isfile(one) else "folder"
+                if os.path.isdir(one) else "other"
             )
             found[os.path.relpath(one, folder)] = kind
     return found
 
 
-def run(
-    words: Sequence[str], given: bytes = b"", at: str | None = None, most: int | None = None, **env: str
-) -> Ended:
+def run(words: Sequence[str], given: bytes = b"", at: str | None = None, most: int | None = None, **env: str) -> Ended:
     """Status, standard output, standard error of words; `most` bytes can be written to a file."""
     limit: Any = most and (lambda: resource.setrlimit(resource.RLIMIT_FSIZE, (most, most)))
     try:
-        done = subprocess.run(
-            words,
-            input=given,
-            capture_output=True,
-            timeout=LIMIT,
-            cwd=at or scratch(),
-            env={**environment(), **env},
-            preexec_fn=limit,
-        )
+        done = subprocess.run(words, input=given, capture_output=True, timeout=LIMIT, cwd=at or scratch(),
+                              env={**environment(), **env}, preexec_fn=limit)
     except subprocess.TimeoutExpired:
         return "late", "", ""
     said = done.stderr.decode("latin1")
@@ -233,6 +198,26 @@ def can_trace() -> bool:
     return is_strace_there()
 
 
+def library() -> dict[str, Any]:
+    """The environment of a helper that has the library that is tried, where there is one."""
+    return {"DEXASM_LIBRARY": config.shared_library()} if config.shared_library() else {}
+
+
+def on_terminal(at: str, name: str, *words: str, **env: str) -> tuple[int, str]:
+    """Status of a helper whose three streams are a terminal, and what that is sent."""
+    ours, theirs = pty.openpty()
+    streams: dict[str, Any] = dict.fromkeys(("stdin", "stdout", "stderr"), theirs)
+    everything = {**environment(), **library(), "TERM": "xterm", **env}
+    shown = b""
+    with subprocess.Popen([os.path.join(TOOLS, name), *words], cwd=at, env=everything, **streams) as running:
+        os.close(theirs)
+        with contextlib.suppress(OSError), open(ours, "rb", buffering=0) as file:  # (EIO where its end is closed)
+            while more := file.read(4096):
+                shown += more
+        status = running.wait(LIMIT)
+    return status, shown.decode("utf8")
+
+
 def shell(text: str, at: str, **options: Any) -> Ended:
     """What bash makes of a text, as of one that is typed."""
     return run(["bash", "-c", text], at=at, **options)
@@ -252,12 +237,9 @@ def classes(*names: str) -> bytes:
     return HEAD + b"".join(b"class %s 0x1\nend class\n" % name.encode("ascii") for name in names)
 
 
-def is_one_line(said: str, begin: str) -> bool:
-    """Whether a single line was told, which begins so, has nothing that a terminal obeys, and was thought of."""
-    return (
-        said.startswith(begin)
-        and said.count("\n") == 1
-        and said.endswith("\n")
-        and not re.search("Traceback|: unexpected [A-Z]", said)
-        and said[:-1].isprintable()
-    )
+class Line(Like):
+    """A single line that begins so, has nothing that a terminal obeys, and isn't of an unexpected error."""
+
+    def fits(self, value: Any) -> object:
+        is_plain = value.endswith("\n") and value[:-1].isprintable()
+        return is_plain and value.startswith(self.parts[0]) and not re.search("Traceback|: unexpected [A-Z]", value)

@@ -9,7 +9,7 @@ from tests import config
 from .ambiguous_archives import NAMES, Parts, made
 from .android_zip import LONG, ROW, Entries, readers
 from .archive_files import archive
-from .support import LISTING, HelperTest, assembled, is_one_line, put, room, tool
+from .support import LISTING, HelperTest, Line, assembled, put, puts, room, tool
 
 COUNT = 5000
 HONEST = "honest", "honest_zip64"
@@ -67,8 +67,7 @@ class Archives(HelperTest):
         front = Parts([("classes.dex", file)], 0, 4)
         cases["data before the first entry"] = b"PK\7\10" + front.local + front.rows + front.end(4 + len(front.local))
         for words, data in cases.items():
-            put(at, "a.apk", data)
-            put(at, "nest.zip", archive(("a.apk", data)))
+            puts(at, {"a.apk": data, "nest.zip": archive(("a.apk", data))})
             for command in ("apk check a.apk", "check a.apk", "check nest.zip", "query classes a.apk"):
                 helper, *rest = command.split()
                 status, out, said = tool(f"dexasm-{helper}", *rest, at=at)
@@ -89,4 +88,4 @@ class Archives(HelperTest):
         put(at, "a.apk", parts.whole())
         status, out, said = tool("dexasm-apk", "check", "a.apk", at=at)
         self.assertEqual((status, out), (3, "classes2.dex: ok\n"))
-        self.assertTrue(is_one_line(said, "classes.dex: dexasm-apk: its compressed size"), said)
+        self.assertEqual(said, Line("classes.dex: dexasm-apk: its compressed size"))

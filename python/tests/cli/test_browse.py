@@ -11,33 +11,13 @@ import sys
 import time
 from typing import Any
 
+from tests.matchers import ANY, EMPTY, SOME, Above, Begins, Below, Either, Has, Lacks, Other
 from ..output_files import ACL, acl_of, listed, mode_of
 from .archive_files import FLAGS, SIZE, archive, changed
 from .browse_pages import CODE, ONE, PARTS, SHOWN, STRINGS, TWO, BrowseTest, Page, browse, hostile
 from .support import (
-    ESC,
-    HEAD,
-    LIMIT,
-    LISTING,
-    NAMES,
-    TOOLS,
-    TOP,
-    Ended,
-    assembled,
-    calls_of,
-    can_trace,
-    dexasm,
-    environment,
-    get,
-    in_turn,
-    is_one_line,
-    path,
-    put,
-    room,
-    run,
-    seen_in,
-    tool,
-    traced,
+    ESC, HEAD, LIMIT, LISTING, NAMES, TOOLS, TOP, Ended, Line, assembled, calls_of, dexasm, environment, get, in_turn,
+    on_terminal, path, put, room, run, seen_in, tool, traced
 )
 
 
@@ -80,21 +60,12 @@ def inherited(classes: dict[str, Any], method: str) -> str:
 
 # What ends in one line, and its status.
 ENDS = (
-    (("bad", "--output", "new"), 1),
-    (("none", "--output", "new"), 3),
-    ((".", "--output", "new"), 3),
-    (("a.apk", "--output", "new"), 3),
-    (("a.dex", "--output", "file"), 3),
-    (("a.dex", "--output", "mine"), 3),
-    (("a.dex", "--output", "alike"), 3),
-    (("a.dex", "--output", "holed"), 3),
-    (("a.dex", "--output", "link"), 3),
-    (("a.dex", "--output", "."), 3),
-    (("a.dex", "--output", "no/such"), 3),
-    (("a.dex", "--output", f"{ESC}[31m/x"), 3),
-    (("a.dex", "--output", "x" * 256), 3),
-    (("a.dex", "--output", ""), 3),
-    (("a.dex", "--output", "new", "--graphs", "LA;->none"), 2),
+    (("bad", "--output", "new"), 1), (("none", "--output", "new"), 3), ((".", "--output", "new"), 3),
+    (("a.apk", "--output", "new"), 3), (("a.dex", "--output", "file"), 3), (("a.dex", "--output", "mine"), 3),
+    (("a.dex", "--output", "alike"), 3), (("a.dex", "--output", "holed"), 3), (("a.dex", "--output", "link"), 3),
+    (("a.dex", "--output", "."), 3), (("a.dex", "--output", "no/such"), 3), (("a.dex", "--output", f"{ESC}[31m/x"), 3),
+    (("a.dex", "--output", "x" * 256), 3), (("a.dex", "--output", ""), 3),
+    (("a.dex", "--output", "new", "--graphs", "LA;->none"), 2)
 )
 
 
@@ -115,11 +86,8 @@ def ended(at: str, number: int) -> tuple[list[str], int, bytes]:
 
 
 # Where a system can't exchange two names in one step: the call that fails then, and others with which of each.
-WITHOUT_STEP = (
-    ("rename", 8, "renameat2:error=EINVAL"),
-    ("rename", 9, "renameat2:error=EINVAL"),
-    ("renameat2", 2, "renameat2:error=ENOSYS:when=1"),
-)
+WITHOUT_STEP = (("rename", 8, "renameat2:error=EINVAL"), ("rename", 9, "renameat2:error=EINVAL"),
+                ("renameat2", 2, "renameat2:error=ENOSYS:when=1"))
 ENDED_BY = ("signal=SIGKILL", "signal=SIGTERM", "error=EIO")
 
 
@@ -139,45 +107,37 @@ class Browse(BrowseTest):
     def test_hostile(self) -> None:
         at, file = room("browse hostile"), hostile()
         seen = browse(at, file)
-        self.check_equal("dexasm-browse, hostile names", seen, (0, "", ""))
+        self.check_equal("hostile names", seen, (0, "", ""))
         found = self.pages(os.path.join(at, "out"))
         self.says_listing("hostile names", found, file)
         strings = "".join(found["strings/0.html"].texts)
         for string, shown in STRINGS.items():
-            self.check(f"dexasm-browse, the string {ascii(string)}", f'"{shown}"' in strings, strings[:300])
-        self.check("dexasm-browse, a long string is cut", f'"{"<" * 1000}" ... (65,535 characters)' in strings)
+            self.check_equal(f"the string {ascii(string)}", strings, Has(f'"{shown}"'))
+        self.check_equal("a long string is cut", strings, Has(f'"{"<" * 1000}" ... (65,535 characters)'))
         text = "".join(text for page in found.values() for text in page.texts)
         for part in PARTS[:-1]:
             shown = SHOWN.get(part) or "".join(char if char.isprintable() else ascii(char)[1:-1] for char in part)
-            self.check(f"dexasm-browse, the name {ascii(part)[:60]}", f"{shown[:100]}" in text)
+            self.check_equal(f"the name {ascii(part)[:60]}", text, Has(f"{shown[:100]}"))
         longest = max(len(one) for name, page in found.items() for one in page.texts if not name.startswith("class/"))
-        self.check("dexasm-browse, no other page has a long name whole", longest < 1200, longest)
+        self.check_equal("no other page has a long name whole", longest, Below(1200))
         index = [
             get(at, "out", "search", name).decode("ascii") for name in os.listdir(os.path.join(at, "out", "search"))
         ]
-        self.check("dexasm-browse, the index is data", all(is_index(one) for one in index), index[0][:200])
+        self.check_equal("the index is data", [one for one in index if not is_index(one)], [])
 
     def test_names(self) -> None:
         """Files and folders whose names are meant to do harm."""
-        at = room("browse names")
-        put(at, "a.dex", assembled(LISTING))
+        at = room("browse names", {"a.dex": assembled(LISTING)})
         for name in (NAMES[2], NAMES[6], NAMES[10], "<script>alert(1)<!--", "\u202eabc", "x" * 255):
             file = browse(at, assembled(LISTING), name=name)
             text = "".join(self.pages(os.path.join(at, "out"))["index.html"].texts)
             shown = "".join(char if char.isprintable() else f"\\x{ord(char):02x}" for char in name)[:90]
-            self.check(
-                f"dexasm-browse, a file of the name {name[:60]!r}",
-                file == (0, "", "") and (shown in text or name == "\u202eabc" and "\\u202eabc" in text),
-                (file, text[:200]),
-            )
+            shown = "\\u202eabc" if name == "\u202eabc" else shown
+            self.check_equal(f"a file of the name {name[:60]!r}", (file, text), ((0, "", ""), Has(shown)))
             os.remove(os.path.join(at, name))
             seen = tool("dexasm-browse", f"--output={name}", "a.dex", at=at)
-            self.check_equal(f"dexasm-browse, a folder of the name {name[:60]!r}", seen, (0, "", ""))
-        self.check(
-            "dexasm-browse, nothing is left beside",
-            not [one for one in os.listdir(at) if one.endswith(".part")],
-            os.listdir(at),
-        )
+            self.check_equal(f"a folder of the name {name[:60]!r}", seen, (0, "", ""))
+        self.check_equal("nothing is left beside", [one for one in os.listdir(at) if one.endswith(".part")], EMPTY)
 
     def beside_dexdump(self, what: str, found: dict[str, bytes], numbers: dict[str, int], file: bytes, at: str) -> None:
         """(Its lines of instructions have an address behind a bar; those of members their class.)"""
@@ -190,18 +150,12 @@ class Browse(BrowseTest):
             begins = re.match(r"  ((?:Static|Instance|Direct|Virtual) (?:fields|methods)) +-$", line)
             head = begins[1].split()[1] if begins else head
             members[head] = members.get(head, 0) + bool(re.match(r"    #\d+ +: \(in L", line))
-        want = {
-            "classes": len(re.findall(r"^Class #\d+ ", out, re.M)),
-            "fields": members.get("fields", 0),
-            "methods": members.get("methods", 0),
-            "instructions": len(re.findall(r"\|[0-9a-f]{4}: ", out)),
-        }
-        self.check(f"dexasm-browse, {what}: numbers as dexdump's", want.items() <= numbers.items(), (want, numbers))
+        want = {"classes": len(re.findall(r"^Class #\d+ ", out, re.M)), "fields": members.get("fields", 0),
+                "methods": members.get("methods", 0), "instructions": len(re.findall(r"\|[0-9a-f]{4}: ", out))}
+        self.check(f"{what}: numbers as dexdump's", want.items() <= numbers.items(), (want, numbers))
         theirs = re.findall(r"^([0-9a-f]{6,}): [0-9a-f. ]+\|([0-9a-f]{4}): ", out, re.M)
         ours = [tuple(place.split(" ")) for given in found.values() for place in Page(given.decode("utf8")).places]
-        self.check(
-            f"dexasm-browse, {what}: addresses as dexdump's", sorted(ours) == sorted(theirs), (ours[:9], theirs[:9])
-        )
+        self.check_equal(f"{what}: addresses as dexdump's", sorted(ours), sorted(theirs))
 
     def beside_query(self, what: str, found: dict[str, bytes], file: bytes, at: str) -> None:
         """Classes, strings and calls as dexasm-query has them; a call of a method that is inherited leads to that."""
@@ -221,7 +175,7 @@ class Browse(BrowseTest):
             wrong += [(name, seen)] * (seen != [len(callers.get(method, ())) for method in methods])
         numbers = facts_of(found["index.html"])
         wrong += [numbers] * (numbers["strings in use"] != len(asked["strings"]))
-        self.check(f"dexasm-browse, {what}: calls and strings as dexasm-query's", not wrong, wrong[:3])
+        self.check_equal(f"{what}: calls and strings as dexasm-query's", wrong, EMPTY)
 
     def test_numbers(self) -> None:
         at = room("browse numbers")
@@ -233,17 +187,14 @@ class Browse(BrowseTest):
         methods = (f"direct m{n} ()V 0x9\ncode 0 0 0\n{some}return-void\nend code\n" for n, some in enumerate(calls))
         files["many users"] = assembled(HEAD + f"class LA; 0x1\n{''.join(methods)}end class\n".encode("ascii"))
         for what, file in files.items():
-            self.check_equal(f"dexasm-browse, {what}", browse(at, file), (0, "", ""))
+            self.check_equal(what, browse(at, file), (0, "", ""))
             found: dict[str, Any] = {
                 name: given for name, given in seen_in(os.path.join(at, "out")).items() if name.endswith(".html")
             }
             numbers = facts_of(found["index.html"])
             stripped = len(file) - len(dexasm("strip", given=file))
-            self.check_equal(
-                f"dexasm-browse, {what}: bytes",
-                (numbers["bytes"], numbers["bytes that strip takes away"]),
-                (len(file), stripped),
-            )
+            self.check_equal(f"{what}: bytes", (numbers["bytes"], numbers["bytes that strip takes away"]),
+                             (len(file), stripped))
             self.beside_query(what, found, file, at)
             if shutil.which("dexdump"):
                 self.beside_dexdump(what, found, numbers, file, at)
@@ -252,7 +203,7 @@ class Browse(BrowseTest):
     def test_by_hand(self) -> None:
         """What is said of a small program, by hand."""
         at, file = room("browse by hand"), assembled(CODE)
-        self.check_equal("dexasm-browse, a small program", browse(at, file), (0, "", ""))
+        self.check_equal("a small program", browse(at, file), (0, "", ""))
         found = self.pages(os.path.join(at, "out"))
         self.says_listing("a small program", found, file)
         base, hello = (get(at, "out", "class", f"{row}.html").decode() for row in (0, 1))
@@ -279,13 +230,13 @@ class Browse(BrowseTest):
                 "public abstract void run(int)" in base and "<h1>public abstract class p.Base</h1>" in base,
             ),
         ):
-            self.check(f"dexasm-browse, {what}", is_so, hello[-4000:])
+            self.check(f"{what}", is_so, hello[-4000:])
 
     def test_files(self) -> None:
         """Several files of an archive, by hand: names lead from file to file, and classes stand by file."""
         at, files = room("browse files"), [assembled(one) for one in (ONE, TWO, HEAD)]
         zipped = archive(*zip(("classes.dex", "classes2.dex", "classes3.dex"), files))
-        self.check_equal("dexasm-browse, an archive", browse(at, zipped, name="a.apk"), (0, "", ""))
+        self.check_equal("an archive", browse(at, zipped, name="a.apk"), (0, "", ""))
         found = self.pages(os.path.join(at, "out"))
         a, twin, other, b = (get(at, "out", "class", f"{row}.html").decode() for row in range(4))
         for what, want, page in (
@@ -307,10 +258,10 @@ class Browse(BrowseTest):
             ("is one", '<a class="s" href="../strings/0.html#0">&quot;both&quot;</a>', b),
             ("a package has its file", '<dd><a href="../package/5.html">p.q of classes2.dex</a></dd>', b),
         ):
-            self.check(f"dexasm-browse, several files: {what}", want in page, page)
+            self.check_equal(f"several files: {what}", page, Has(want))
         self.check_index(at, files)
         classes = [one for one in found if one.startswith("class/")]
-        self.check_equal("dexasm-browse, several files: pages", len(classes), 4)
+        self.check_equal("several files: pages", len(classes), 4)
 
     def check_index(self, at: str, files: list[bytes]) -> None:
         """What the pages beside those of classes say of these files."""
@@ -327,10 +278,10 @@ class Browse(BrowseTest):
             ("which of two is taken", "the one of the first is what a device takes", helped),
             ("the index", '["p.Twin","2.html",0,["t()","u()"],"classes2.dex"]', script),
         ):
-            self.check(f"dexasm-browse, several files: {what}", want in page, page)
+            self.check_equal(f"several files: {what}", page, Has(want))
         numbers = facts_of(index.encode())
         told = {"files": 3, "bytes": sum(map(len, files)), "classes": 4, "methods": 5, "strings in use": 2}
-        self.check("dexasm-browse, several files: numbers", told.items() <= numbers.items(), (told, numbers))
+        self.check("several files: numbers", told.items() <= numbers.items(), (told, numbers))
 
     def test_files_alike(self) -> None:
         """The pages of several files have the lines and the places that those of each have; a page that is too large is
@@ -343,20 +294,20 @@ class Browse(BrowseTest):
         files = [hostile(), assembled(HEAD + f"{large}end code\nend class\n".encode()), assembled(CODE), hostile()]
         alone: dict[str, list[str]] = {"lines": [], "places": []}
         for number, file in enumerate(files):
-            self.check_equal(f"dexasm-browse, file {number}", browse(at, file), (0, "", ""))
+            self.check_equal(f"file {number}", browse(at, file), (0, "", ""))
             self.add_lines(alone, at)
         names = ["classes.dex", "classes2.dex", "classes03.dex", f"classes{'9' * 200}.dex"]
         seen = browse(at, archive(*zip(names, files)), name="a.apk")
-        self.check_equal("dexasm-browse, four files", seen, (0, "", ""))
+        self.check_equal("four files", seen, (0, "", ""))
         self.pages(os.path.join(at, "out"))
         together: dict[str, list[str]] = {"lines": [], "places": []}
         self.add_lines(together, at)
         for what, said in alone.items():
-            self.check(f"dexasm-browse, four files: {what}", together[what] == said and said, len(said))
+            self.check_equal(f"four files: {what}", (together[what], said), (said, SOME))
         sizes = {name: len(given) for name, given in seen_in(os.path.join(at, "out")).items()}
         large_pages = [name for name in sizes if re.fullmatch(rf"class/{len(PARTS)}-\d+\.html", name)]
-        is_so = len(large_pages) > 0 and max(sizes.values()) < 2_000_000
-        self.check("dexasm-browse, four files: a page is cut", is_so, sizes)
+        self.check_equal("four files: a page is cut", (len(large_pages), max(sizes.values())),
+                         (Above(0), Below(2_000_000)))
 
     def add_lines(self, found: dict[str, list[str]], at: str) -> None:
         """The lines of the code that pages have, but for where labels lead, and the places of the file."""
@@ -370,15 +321,15 @@ class Browse(BrowseTest):
         """A class that many files define: each of its pages has links to a few of the others, so all stay small."""
         at, file = room("browse files many"), assembled(HEAD + b"class LA; 0x1\nend class\n")
         zipped = archive(*((f"classes{number}.dex", file) for number in range(100, 160)))
-        self.check_equal("dexasm-browse, 60 files", browse(at, zipped, name="a.apk"), (0, "", ""))
+        self.check_equal("60 files", browse(at, zipped, name="a.apk"), (0, "", ""))
         found = self.pages(os.path.join(at, "out"))
         for row in (0, 5, 59):
             text = get(at, "out", "class", f"{row}.html").decode()
             links = re.findall(r'<a href="(\d+)\.html">A \(classes\d+\.dex\)</a>', text)
-            is_so = len(set(links) - {str(row)}) == len(links) == 10 and "and 49 more" in text
-            self.check(f"dexasm-browse, 60 files: the class of file {row}", is_so, text[-2000:])
+            self.check_equal(f"60 files: the class of file {row}",
+                             (len(set(links) - {str(row)}) == len(links) == 10, text), (True, Has("and 49 more")))
         sizes = [len(given) for given in seen_in(os.path.join(at, "out", "class")).values()]
-        self.check("dexasm-browse, 60 files: sizes", len(sizes) == 60 and max(sizes) < 4000 and len(found) > 120, sizes)
+        self.check_equal("60 files: sizes", (len(sizes), max(sizes), len(found)), (60, Below(4000), Above(120)))
 
     def test_files_wrong(self) -> None:
         """One of the files can't be shown: a line that names it, and no pages."""
@@ -398,75 +349,53 @@ class Browse(BrowseTest):
         ):
             put(at, "a.apk", given)
             seen = tool("dexasm-browse", "a.apk", "--output", "old", at=at)
-            is_so = seen[:2] == (status, "") and is_one_line(seen[2], "dexasm-browse: a.apk") and says in seen[2]
-            self.check(f"dexasm-browse, several files: {what}", is_so, seen)
-        self.check_equal("dexasm-browse, what fails changes nothing", seen_in(os.path.join(at, "old")), before)
+            self.check_equal(f"several files: {what}", seen, (status, "", Line("dexasm-browse: a.apk") & Has(says)))
+        self.check_equal("what fails changes nothing", seen_in(os.path.join(at, "old")), before)
         beside = set(os.listdir(at)) - {"a.apk", "old"}
-        self.check("dexasm-browse, several files: nothing is left", not beside, beside)
+        self.check_equal("several files: nothing is left", beside, EMPTY)
 
     def test_folder(self) -> None:
-        at, file = room("browse folder"), assembled(LISTING)
-        put(at, "a.dex", file)
-        put(at, "bad", file[:-1])
-        put(at, "a.apk", b"PK\3\4" + bytes(300))
-        put(at, "file", b"mine")
-        put(at, "mine/index.html", b"mine")
-        put(at, "alike/index.html", b'<meta name="generator" content="dexasm-browse">')
-        put(at, "alike/class/0.html/mine", b"mine")
+        file = assembled(LISTING)
+        at = room("browse folder", {
+            "a.dex": file, "bad": file[:-1], "a.apk": b"PK\3\4" + bytes(300), "file": b"mine",
+            "mine/index.html": b"mine", "alike/index.html": b'<meta name="generator" content="dexasm-browse">',
+            "alike/class/0.html/mine": b"mine"
+        })
         os.symlink("mine", os.path.join(at, "link"))
         os.mkdir(os.path.join(at, "holed"))
         os.mkdir(os.path.join(at, "holed", "class"))
         before = seen_in(at)
         for words, status in ENDS:
             seen = tool("dexasm-browse", *words, at=at)
-            self.check(
-                f"dexasm-browse {words!r}"[:99],
-                seen[:2] == (status, "") and is_one_line(seen[2], "dexasm-browse: "),
-                seen,
-            )
+            self.check_equal(f"{words!r}"[:99], seen, (status, "", Line("dexasm-browse: ")))
         seen = tool("dexasm-browse", "a.dex", "--output", "new", at=at, most=2000)
-        self.check("dexasm-browse, no room", seen[0] == 3 and is_one_line(seen[2], "dexasm-browse: "), seen)
-        self.check("dexasm-browse, what fails changes nothing", seen_in(at) == before, set(seen_in(at)) ^ set(before))
+        self.check_equal("no room", seen, (3, ANY, Line("dexasm-browse: ")))
+        self.check_equal("what fails changes nothing", seen_in(at), before)
         refused = tool("dexasm-browse", "bad", "--output", "new", at=at)[2]
-        self.check_equal(
-            "dexasm-browse, a refusal is dexasm's",
-            refused,
-            "dexasm-browse: bad: dexasm: refused 4 FileSize at 32\n",
-        )
+        self.check_equal("a refusal is dexasm's", refused, "dexasm-browse: bad: dexasm: refused 4 FileSize at 32\n")
         for words in ((), ("a.dex",), ("a.dex", "--output"), ("a", "b", "--output", "c"), ("a.dex", "--out", "new")):
             seen = tool("dexasm-browse", *words, at=at)
-            self.check(
-                f"dexasm-browse {words!r}", seen[:2] == (2, "") and seen[2].startswith("usage: dexasm-browse "), seen
-            )
+            self.check_equal(f"{words!r}", seen, (2, "", Begins("usage: dexasm-browse ")))
 
     def test_again(self) -> None:
         """A folder of an earlier run, and an empty one, are replaced; one that somebody put something into isn't."""
         at = room("browse again")
         os.mkdir(os.path.join(at, "out"))
-        self.check_equal("dexasm-browse, an empty folder", browse(at, hostile()), (0, "", ""))
-        self.check_equal("dexasm-browse, once more", browse(at, assembled(LISTING)), (0, "", ""))
+        self.check_equal("an empty folder", browse(at, hostile()), (0, "", ""))
+        self.check_equal("once more", browse(at, assembled(LISTING)), (0, "", ""))
         first = seen_in(os.path.join(at, "out"))
-        self.check(
-            "dexasm-browse, nothing of the earlier run stays",
-            len([one for one in first if one.startswith("class/")]) == 4,
-            [*first],
-        )
-        self.check_equal("dexasm-browse, and again", browse(at, assembled(LISTING)), (0, "", ""))
-        self.check_equal("dexasm-browse, the same pages of the same file", seen_in(os.path.join(at, "out")), first)
+        self.check_equal("nothing of the earlier run stays", len([one for one in first if one.startswith("class/")]), 4)
+        self.check_equal("and again", browse(at, assembled(LISTING)), (0, "", ""))
+        self.check_equal("the same pages of the same file", seen_in(os.path.join(at, "out")), first)
         mode = os.stat(os.path.join(at, "out")).st_mode & 0o777
-        self.check("dexasm-browse, others may read the pages", mode == 0o755, oct(mode))
+        self.check_equal("others may read the pages", mode, 0o755)
         put(at, "out/class/mine.txt", b"mine")
         seen = browse(at, assembled(LISTING))
-        self.check(
-            "dexasm-browse, a folder with something else",
-            seen[0] == 3 and get(at, "out/class/mine.txt") == b"mine",
-            seen,
-        )
+        self.check_equal("a folder with something else", (seen[0], get(at, "out/class/mine.txt")), (3, b"mine"))
 
     def test_cut(self) -> None:
         """A run that is ended in the midst of it."""
-        at = room("browse cut")
-        put(at, "a.dex", assembled(LISTING))
+        at = room("browse cut", {"a.dex": assembled(LISTING)})
         tool("dexasm-browse", "a.dex", "--output", "out", at=at)
         before = seen_in(os.path.join(at, "out"))
         methods = "".join(f"direct m{n} ()V 0x9\ncode 0 0 0\nreturn-void\nend code\n" for n in range(10))
@@ -479,11 +408,11 @@ class Browse(BrowseTest):
                     break
                 # (it was quicker than this one: once more)
                 tool("dexasm-browse", "a.dex", "--output", "out", at=at)
-            is_so = len(parts) == 1 and status not in (0, 1) and said == b""
-            self.check(f"dexasm-browse, ended by signal {number}", is_so, (parts, status, said))
-            self.check_equal("dexasm-browse, the pages that were there stay", seen_in(os.path.join(at, "out")), before)
+            self.check_equal(f"ended by signal {number}", (len(parts), status, said), (1, Other(0) & Other(1), b""))
+            self.check_equal("the pages that were there stay", seen_in(os.path.join(at, "out")), before)
             left = [name for name in os.listdir(at) if name.endswith(".part")]
-            self.check("dexasm-browse, nothing is left beside", left == [] or number == signal.SIGKILL, left)
+            if number != signal.SIGKILL:
+                self.check_equal("nothing is left beside", left, [])
 
     def test_looks(self) -> None:
         """The folder that replaces another one looks as that did, and what is in it is its owner's."""
@@ -495,10 +424,9 @@ class Browse(BrowseTest):
             os.chmod(out, mode)
             for what in ("an empty folder", "pages"):
                 seen = browse(at, file)
-                is_so = mode_of(out) == mode and os.path.exists(os.path.join(out, "index.html"))
-                self.check(
-                    f"dexasm-browse, {what} of mode {mode:o}", seen == (0, "", "") and is_so, (seen, oct(mode_of(out)))
-                )
+                self.check_equal(f"{what} of mode {mode:o}",
+                                 (seen, mode_of(out), os.path.exists(os.path.join(out, "index.html"))),
+                                 ((0, "", ""), mode, True))
             shutil.rmtree(out)
         os.mkdir(out)
         try:
@@ -508,8 +436,8 @@ class Browse(BrowseTest):
             pass
         else:
             seen = browse(at, file), browse(at, file)
-            is_so = acl_of(out) == listed(7, 7, 0, 7, 0) and os.getxattr(out, "user.x") == b"x"
-            self.check("dexasm-browse, an ACL", seen == ((0, "", ""),) * 2 and is_so, (seen, acl_of(out)))
+            self.check_equal("an ACL", (seen, acl_of(out), os.getxattr(out, "user.x")),
+                             (((0, "", ""),) * 2, listed(7, 7, 0, 7, 0), b"x"))
         shutil.rmtree(out)
         if os.geteuid() == 0:
             os.mkdir(out)
@@ -518,47 +446,34 @@ class Browse(BrowseTest):
             owners = {
                 (os.stat(one).st_uid, os.stat(one).st_gid) for one in (out, f"{out}/class", f"{out}/class/0.html")
             }
-            self.check(
-                "dexasm-browse, an owner", seen == ((0, "", ""),) * 2 and owners == {(65534, 12345)}, (seen, owners)
-            )
+            self.check_equal("an owner", (seen, owners), (((0, "", ""),) * 2, {(65534, 12345)}))
         left = [name for name in os.listdir(at) if "part" in name]
-        self.check("dexasm-browse, nothing is beside", not left, left)
+        self.check_equal("nothing is beside", left, EMPTY)
 
     def test_ended(self) -> None:
         """Ended at each call, or with each one failed, also where a system can't exchange two names: FOLDER is old or
         new."""
-        if not can_trace():
-            return
-        at = room("browse ended")
-        put(at, "a.dex", assembled(LISTING))
-        put(at, "b.dex", assembled(HEAD))
+        self.need_trace()
+        at = room("browse ended", {"a.dex": assembled(LISTING), "b.dex": assembled(HEAD)})
         tool("dexasm-browse", "a.dex", "--output", "old", at=at)
         tool("dexasm-browse", "b.dex", "--output", "new", at=at)
         wanted = [seen_in(os.path.join(at, name)) for name in ("old", "new")]
         shutil.copytree(os.path.join(at, "old"), os.path.join(at, "out"))
         calls = calls_of("dexasm-browse", "b.dex", "--output", "out", begins=f'{at}/out"', at=at)
-        self.check("dexasm-browse, calls are failed", len(calls) > 40, calls)
+        self.check_equal("calls are failed", len(calls), Above(40))
         cases = [(call, number, "", how) for call, number in calls for how in ENDED_BY]
         cases += [("renameat2", 1, "", f"signal={name}") for name in ("SIGINT", "SIGHUP")]
         cases += [(*one, how) for one in WITHOUT_STEP for how in ENDED_BY]
         for (call, number, before, how), (seen, out, beside) in in_turn(ended_at, cases):
             what, is_killed = f"{before} {how} at {call} {number}", "KILL" in how
             # (where there is no step for it, a run that is killed between the two leaves the old pages beside)
-            is_so = out in wanted or is_killed and before and any(name.endswith(".old") for name in beside)
-            self.check(f"dexasm-browse, {what}", is_so and "Traceback" not in seen[2], (seen, beside))
+            is_beside = is_killed and before and any(name.endswith(".old") for name in beside)
+            self.check_equal(what, (seen[2], is_beside or out), (Lacks("Traceback"), Either(True, *wanted)))
             is_left = beside and not is_killed and not call.startswith(("unlink", "rmdir"))
-            self.check(f"dexasm-browse, {what}: beside", not is_left, beside)
+            self.check_equal(f"{what}: beside", is_left, EMPTY)
 
     def test_progress(self) -> None:
         """On a terminal a line says how far it is; elsewhere there is nothing."""
-        at = room("browse progress")
-        put(at, "a.dex", assembled(LISTING))
-        text = (
-            "import os, pty, sys\npid, fd = pty.fork()\nif pid == 0:\n    os.execv(sys.argv[1], sys.argv[1:])\n"
-            "said = b''\ntry:\n    while got := os.read(fd, 4096):\n        said += got\nexcept OSError:\n    pass\n"
-            "print(ascii(said), os.waitpid(pid, 0)[1])\n"
-        )
-        words = [os.path.join(TOOLS, "dexasm-browse"), "a.dex", "--output", "out"]
-        seen = run([sys.executable, "-c", text, *words], at=at, TERM="xterm")
-        is_so = seen[0] == 0 and seen[1].endswith(" 0\n") and "writing: 1 of " in seen[1]
-        self.check("dexasm-browse, a terminal", is_so, seen)
+        at = room("browse progress", {"a.dex": assembled(LISTING)})
+        seen = on_terminal(at, "dexasm-browse", "a.dex", "--output", "out")
+        self.check_equal("a terminal", seen, (0, Has("writing: 1 of ")))

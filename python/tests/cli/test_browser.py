@@ -7,10 +7,11 @@ import threading
 from collections.abc import Iterator
 
 from dexasm.pages.size_page import KINDS
+from tests.matchers import EMPTY, SOME, Above
 from . import browser
 from .archive_files import archive
 from .browse_pages import CODE, ONE, PARTS, TWO, hostile
-from .support import TOP, HelperTest, assembled, get, put, room, tool
+from .support import TOP, HelperTest, assembled, get, room, tool
 
 HTTP = "http://localhost:"
 
@@ -35,17 +36,15 @@ class Walk(HelperTest):
     def test_contrast(self) -> None:
         """The colours of the style by WCAG 2: 4.5 to 1 of what is read, 3 to 1 of lines."""
         style = "".join(
-            get(TOP, "python/src/dexasm", name).decode("ascii")
-            for name in ("pages/pages.css", "pages/browse.css")
+            get(TOP, "python/src/dexasm", name).decode("ascii") for name in ("pages/pages.css", "pages/browse.css")
         )
         blocks = re.findall(r":root \{(.*?)\}", style, re.S)
         colors = [dict(re.findall(r"--(\w+): (#[0-9a-f]{6});", block)) for block in blocks]
         others = (
-            set(re.findall(r"#[0-9a-f]{3,8}\b", style))
-            - {color for one in colors for color in one.values()}
+            set(re.findall(r"#[0-9a-f]{3,8}\b", style)) - {color for one in colors for color in one.values()}
             - {"#111111"}
         )
-        self.check("the pages, colours stand in one place", len(colors) == 2 and not others, others)
+        self.check_equal("the pages, colours stand in one place", (len(colors), others), (2, EMPTY))
         color: dict[str, str] | str
         for which, color in zip(("light", "dark"), colors):
             for ground in ("page", "box", "mark"):
@@ -61,10 +60,10 @@ class Walk(HelperTest):
     def test_browser(self) -> None:
         """A walk from the largest method to what it calls and back, a search, and the keyboard."""
         browser.needed()
-        at = room("browse browser")
-        put(at, "a.dex", assembled(CODE))
-        put(at, "evil.dex", hostile())
-        put(at, "two.apk", archive(("classes.dex", assembled(ONE)), ("classes2.dex", assembled(TWO))))
+        at = room("browse browser", {
+            "a.dex": assembled(CODE), "evil.dex": hostile(),
+            "two.apk": archive(("classes.dex", assembled(ONE)), ("classes2.dex", assembled(TWO)))
+        })
         for name, file in (("a", "a.dex"), ("evil", "evil.dex"), ("two", "two.apk")):
             tool("dexasm-browse", file, "--output", name, at=at)
         top = f"file://{at.replace(' ', '%20')}"
@@ -75,9 +74,8 @@ class Walk(HelperTest):
                 page.open(f"{top}/evil/{name}.html")
             page.run("document.getElementById('search').focus()")
             page.type("script")
-            self.check(
-                "in a browser, names of evil are found", page.until("document.querySelectorAll('#hits a').length > 1")
-            )
+            self.check("in a browser, names of evil are found",
+                       page.until("document.querySelectorAll('#hits a').length > 1"))
             page.open(f"{top}/two/index.html")
             page.run("document.getElementById('search').focus()")
             page.type("twin")
@@ -87,7 +85,8 @@ class Walk(HelperTest):
             self.over_http(page, at)
             own = tuple(f"{top}/{name}/" for name in ("a", "evil", "two"))
             outside = [url for url in page.asked if not url.startswith((*own, "about:", HTTP))]
-            self.check("in a browser, nothing beyond the folder is asked for", page.asked and not outside, outside[:5])
+            self.check_equal("in a browser, nothing beyond the folder is asked for", (page.asked, outside),
+                             (SOME, EMPTY))
             self.check_equal("in a browser, its console is empty", page.told, [])
 
     def walk(self, page: browser.Browser, top: str) -> None:
@@ -96,17 +95,11 @@ class Walk(HelperTest):
             "[...document.querySelectorAll('caption')].find((one) => one.textContent.includes('code')).parentElement"
         )
         page.run(f"{first}.querySelector('tbody a').click()")
-        self.check(
-            "in a browser, the largest method",
-            page.until("location.href.endsWith('/class/1.html#3')"),
-            page.run("location.href"),
-        )
+        self.check("in a browser, the largest method", page.until("location.href.endsWith('/class/1.html#3')"),
+                   page.run("location.href"))
         page.run("document.querySelector('[id=\"3.4\"] a:last-of-type').click()")
-        self.check(
-            "in a browser, from a call to its definition",
-            page.until("location.hash === '#2'"),
-            page.run("location.href"),
-        )
+        self.check("in a browser, from a call to its definition", page.until("location.hash === '#2'"),
+                   page.run("location.href"))
         page.run('[...document.querySelectorAll(\'h3[id="2"] ~ details a[href$="#3.4"]\')][0].click()')
         self.check("in a browser, and back by used by", page.until("document.querySelector(':target')?.id === '3.4'"))
         page.run("document.querySelector('[id=\"3.1\"] a').click()")
@@ -116,11 +109,8 @@ class Walk(HelperTest):
         page.run(
             "document.querySelector('.map a[href^=\"package\"]').dispatchEvent(new MouseEvent('click', {bubbles: true}))"
         )
-        self.check(
-            "in a browser, a click into a package",
-            page.until("location.pathname.includes('/package/')"),
-            page.run("location.href"),
-        )
+        self.check("in a browser, a click into a package", page.until("location.pathname.includes('/package/')"),
+                   page.run("location.href"))
 
     def over_http(self, page: browser.Browser, at: str) -> None:
         """The same pages from a web server."""
@@ -157,11 +147,7 @@ class Walk(HelperTest):
         for _ in range(count + 5):
             page.key("Tab")
             page.run("due.delete(document.activeElement)")
-        self.check(
-            "in a browser, Tab reaches everything",
-            count > 10 and page.run("due.size") == 0,
-            page.run("[...due].map(String).join()"),
-        )
+        self.check_equal("in a browser, Tab reaches everything", (count, page.run("due.size")), (Above(10), 0))
 
     def widths(self, page: browser.Browser, top: str) -> None:
         """No page is wider than its window."""

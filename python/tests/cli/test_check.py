@@ -5,7 +5,6 @@ import hashlib
 import io
 import json
 import os
-import pty
 import re
 import shlex
 import signal
@@ -22,43 +21,20 @@ from urllib.parse import unquote_to_bytes
 from xml.etree import ElementTree
 
 from tests import sought, config
+from tests.matchers import ANY, EMPTY, ONE_LINE, Above, Begins, Below, Either, Ends, Has, Lacks, Like, Other, That
+from ..cases import TEXTS
 from .archive_files import CRC, FLAGS, archive, changed
 from .ci_lines import alone, properties
 from .support import (
-    ESC,
-    HEAD,
-    LIMIT,
-    LISTING,
-    NAMES,
-    TOOLS,
-    TOP,
-    Ended,
-    HelperTest,
-    assembled,
-    classes,
-    dexasm,
-    environment,
-    get,
-    put,
-    room,
-    run,
+    ESC, HEAD, LIMIT, LISTING, NAMES, TOOLS, TOP, Ended, HelperTest, assembled, classes, dexasm, environment, get,
+    library, on_terminal, put, puts, room, run
 )
 from .shell_runs import fake
 
 EVIL = (
-    *(os.fsencode(name) for name in NAMES),
-    b"::error::x",
-    b" ::error file=b::x",
-    b"##[error]x",
-    b"a%0Ab%25%3A,c:d",
-    b'<a b="c">&amp;]]>\'',
-    b'{"a": "b\\u0000"}\\',
-    b"no utf8 \xff\xfe",
-    b"surrogate \xed\xa0\x80\xed\xb0\x80",
-    "turned \u202exed \u200b".encode(),
-    "caf\u00e9 \U0001f600".encode(),
-    b"\r return",
-    b"\x9b31m \x7f \x01 \xc2\x9b",
+    *(os.fsencode(name) for name in NAMES), b"::error::x", b" ::error file=b::x", b"##[error]x", b"a%0Ab%25%3A,c:d",
+    b'<a b="c">&amp;]]>\'', b'{"a": "b\\u0000"}\\', b"no utf8 \xff\xfe", b"surrogate \xed\xa0\x80\xed\xb0\x80",
+    "turned \u202exed \u200b".encode(), "caf\u00e9 \U0001f600".encode(), b"\r return", b"\x9b31m \x7f \x01 \xc2\x9b"
 )
 FORMS = ("", "--json", "--sarif", "--github", "--junit")
 # Of the schema of SARIF 2.1.0, which takes no other properties: what an object has to have, and what else it may.
@@ -87,9 +63,7 @@ URI = re.compile(r"(?:[A-Za-z0-9._~!$&'()*+,;=@/:-]|%[0-9A-F]{2})+")
 
 def checked(*words: str, at: str, given: bytes = b"", **env: Any) -> Ended:
     """Status, output and errors; by the library, where there is one."""
-    if config.shared_library():
-        env = {"DEXASM_LIBRARY": config.shared_library(), **env}
-    return run([os.path.join(TOOLS, "dexasm-check"), *words], given, at, **env)
+    return run([os.path.join(TOOLS, "dexasm-check"), *words], given, at, **{**library(), **env})
 
 
 def by_command(*words: str, at: str, given: bytes = b"", **env: Any) -> Ended:
@@ -110,29 +84,14 @@ def is_safe(out: str) -> bool:
 
 # ---- what a device would refuse
 
-LINTED = (
-    HEAD
-    + b"""class LA; 0x1
-super Ljava/lang/Object;
-static n I 0x9 = long 5
-direct m (I)V 0x9
-code 3 1 0
-  new-instance v0 Ljava/lang/Object;
-  add-int v1 v0 v0
-  return-void
-end code
-end class
-"""
-)
+LINTED = (HEAD + TEXTS["test_check LINTED"].encode())
 VALUE = "a static field's value is of another type: long in I"
 USED = (
     "v0 holds a new object (java.lang.Object, from {}), and add-int takes an int: first call invoke-direct {{ v0 .. }} "
 )
 USED += "Ljava/lang/Object;-><init>"
-IN_FILE = (
-    f"LA;->n:I: error: {VALUE} (value-type, dex-format, class_def_item)",
-    f"LA;->m(I)V: 1 (0x02): error: {USED.format('instruction 0')} (uninitialized-use, B6, B8)",
-)
+IN_FILE = (f"LA;->n:I: error: {VALUE} (value-type, dex-format, class_def_item)",
+           f"LA;->m(I)V: 1 (0x02): error: {USED.format('instruction 0')} (uninitialized-use, B6, B8)")
 IN_TEXT = (f": {IN_FILE[0]}", f":8:17: error: {USED.format('line 7')} (uninitialized-use, B6, B8)")
 
 
@@ -140,12 +99,11 @@ def linted(at: str) -> tuple[tuple[str, ...], list[str]]:
     """Files of which some break rules of dexasm-lint, and what is told of them."""
     good = LINTED.replace(b"long", b"int").replace(b"v0 v0", b"v2 v2")
     bad = assembled(LINTED)
-    put(at, "a.txt", LINTED)
-    put(at, "b.txt", good)
-    put(at, "c.txt", LINTED.replace(b"v0 v0", b"v9 v0"))
-    put(at, "d.dex", bad)
-    put(at, "e.dex", damaged(bad))
-    put(at, "f.apk", archive(("classes.dex", bad), ("classes2.dex", assembled(good)), ("classes3.dex", bad)))
+    puts(at, {
+        "a.txt": LINTED, "b.txt": good, "c.txt": LINTED.replace(b"v0 v0", b"v9 v0"), "d.dex": bad,
+        "e.dex": damaged(bad),
+        "f.apk": archive(("classes.dex", bad), ("classes2.dex", assembled(good)), ("classes3.dex", bad))
+    })
     told = [f"a.txt{line}" for line in IN_TEXT] + ["b.txt: ok"]
     told += ["c.txt:8:14: error: 118 Register: v9 of 3 registers (in m(I)V, instruction 1)"]
     told += [f"d.dex: {line}" for line in IN_FILE] + ["e.dex:0x08: error: 8 Checksum: the Adler-32 differs"]
@@ -177,15 +135,13 @@ print(*[one.status for one in client.check([b"a", b"b", b"c", b"d"])])
 
 def put_inputs(at: str, file: bytes) -> None:
     """A file of each kind, accepted or not."""
-    put(at, "a.dex", file)
-    put(at, "f/B.DeX", damaged(file))
-    put(at, "f/other", b"no file")
-    put(at, "x.txt", LISTING)
-    put(at, "y.txt", b"\n" + HEAD + b"class LA; 0x1\n   super 7\nend class\n")
-    put(at, "z.txt", HEAD + b"class LB; 0x1\nend class\n" + b"class LA; 0x1\nsuper LA;\nend class\n")
-    put(at, "app.apk", archive(("classes2.dex", b"no file"), ("classes.dex", file), ("lib/classes3.dex", b"x")))
-    put(at, "n.jar", archive(("a.class", b"x")))
-    put(at, "n.APK", archive(("a.class", b"x")))
+    puts(at, {
+        "a.dex": file, "f/B.DeX": damaged(file), "f/other": b"no file", "x.txt": LISTING,
+        "y.txt": b"\n" + HEAD + b"class LA; 0x1\n   super 7\nend class\n",
+        "z.txt": HEAD + b"class LB; 0x1\nend class\n" + b"class LA; 0x1\nsuper LA;\nend class\n",
+        "app.apk": archive(("classes2.dex", b"no file"), ("classes.dex", file), ("lib/classes3.dex", b"x")),
+        "n.jar": archive(("a.class", b"x")), "n.APK": archive(("a.class", b"x"))
+    })
 
 
 def evil(name: str) -> str:
@@ -284,9 +240,10 @@ def put_all(at: str, number: int, evil: str) -> list[str]:
     """Files with this text in every place: names of files, words of listings, entries of archives, headers."""
     file, text = assembled(LISTING), evil.encode()
     paths = [f"{evil}.dex", f"{number}/x{evil}.txt", f"{evil}.apk", f"{evil}none"]
-    put(at, paths[0], b"no file")
-    put(at, paths[1], b"no listing")
-    put(at, paths[2], archive((f"{evil}.dex", b"no file"), (f"a/{evil}.jar", b"x"), (f"{evil}/b.dex", file)))
+    puts(at, {
+        paths[0]: b"no file", paths[1]: b"no listing",
+        paths[2]: archive((f"{evil}.dex", b"no file"), (f"a/{evil}.jar", b"x"), (f"{evil}/b.dex", file))
+    })
     for place, form in enumerate(IN_TEXTS):
         paths.append(f"{number}/{place}.txt")
         put(at, paths[-1], HEAD + form.replace(b"%s", text))
@@ -354,32 +311,6 @@ print(count_workers([(b"a", 500)] * 1000, asked))
 """
 
 
-def on_terminal(at: str, *words: str, **env: str) -> str:
-    """What a terminal is sent."""
-    ours, theirs = pty.openpty()
-    words = (os.path.join(TOOLS, "dexasm-check"), *words)
-    env = {
-        **environment(),
-        "TERM": "xterm",
-        **({"DEXASM_LIBRARY": config.shared_library()} if config.shared_library() else {}),
-        **env,
-    }
-    with subprocess.Popen(words, stdin=theirs, stdout=theirs, stderr=theirs, cwd=at, env=env) as running:
-        os.close(theirs)
-        shown = b""
-        while True:
-            try:
-                more = os.read(ours, 4096)
-            except OSError:  # (of a terminal whose other end is closed)
-                break
-            if not more:
-                break
-            shown += more
-        running.wait(LIMIT)
-    os.close(ours)
-    return shown.decode("utf8")
-
-
 class Check(HelperTest):
     def test_verdicts(self) -> None:
         """Each kind of input, its line and the status, by the library and by the command alike."""
@@ -403,18 +334,16 @@ class Check(HelperTest):
             "none: error: No such file or directory\n"
         )
         seen = checked(*words, at=at)
-        self.check(
-            "dexasm-check, verdicts", seen[::2] == (3, "") and seen[1].startswith(want) and seen[1].endswith(rest), seen
-        )
-        self.check_equal("dexasm-check, verdicts by the command", by_command(*words, at=at), seen)
+        self.check_equal("verdicts", seen, (3, Begins(want) & Ends(rest), ""))
+        self.check_equal("verdicts by the command", by_command(*words, at=at), seen)
         quiet = "".join(line for line in seen[1].splitlines(True) if ": error: " in line)
-        self.check_equal("dexasm-check --quiet", checked("--quiet", *words, at=at), (3, quiet, ""))
+        self.check_equal("--quiet", checked("--quiet", *words, at=at), (3, quiet, ""))
         for words, want in (("a.dex", 0), ("n.jar", 0), ("f", 1), ("app.apk", 1), ("f none", 3), ("n.APK", 3)):
             seen = checked(*words.split(), at=at)
-            self.check(f"dexasm-check {words}, its status", seen[0] == want, seen)
+            self.check_equal(f"{words}, its status", seen[0], want)
         seen = checked("z.txt", at=at)
         want = "z.txt:5:7: error: 112 ClassOrder: LA; is its own superclass (in LA;)\n"
-        self.check_equal("dexasm-check, a class", seen, (1, want, ""))
+        self.check_equal("a class", seen, (1, want, ""))
 
     def test_places(self) -> None:
         """Where in a listing a rule is broken: in words, and each part of it for machines."""
@@ -422,18 +351,17 @@ class Check(HelperTest):
         code = (
             b"class LA; 0x1\ndirect m\\u0041 (I)V 0x8\ncode 2 1 0\n  const/4 v0 1\n  move v0 v9\nend code\nend class\n"
         )
-        put(at, "x.txt", HEAD + code)
-        put(at, "w.txt", HEAD + code.replace(b"v9", b"v16"))
+        puts(at, {"x.txt": HEAD + code, "w.txt": HEAD + code.replace(b"v9", b"v16")})
         where = " (in mA(I)V, instruction 1)\n"
         want: str | dict[str, Any]
         want = f"x.txt:6:11: error: 118 Register: v9 of 2 registers{where}"
         want += f"w.txt:6:11: error: 102 Number: v16: v0 to v15 here; move/from16 or move/16 takes more{where}"
         for how, runs in (("the library", checked), ("the command", by_command)):
             seen = runs("x.txt", "w.txt", at=at)
-            self.check_equal(f"dexasm-check, places by {how}", seen, (1, want, ""))
+            self.check_equal(f"places by {how}", seen, (1, want, ""))
         told = json.loads(checked("--json", "x.txt", at=at)[1])
         want = {"line": 6, "column": 11, "class": "LA;", "member": "mA(I)V", "instruction": 1, "place": 0}
-        self.check("dexasm-check --json, a place", {name: told[name] for name in want} == want, told)
+        self.check_equal("--json, a place", {name: told[name] for name in want}, want)
 
     def test_names_decide(self) -> None:
         """A listing, an archive or no archive under the name of something else isn't accepted."""
@@ -446,7 +374,8 @@ class Check(HelperTest):
             ("list.JAR", LISTING, ": error: no zip archive can be read: "),
             ("inner.apk", archive(("classes.dex", LISTING)), "!classes.dex:0x00: error: 2 Magic: "),
             ("nested.apk", archive(("classes.dex", zipped)), "!classes.dex:0x"),
-            ("no first line", classes("LA;").partition(b"\n")[2], ":1:1: error: 103 Order: class: the first line has to "),
+            ("no first line", classes("LA;").partition(b"\n")[2],
+             ":1:1: error: 103 Order: class: the first line has to "),
             ("a mark", b"\xef\xbb\xbf" + LISTING, ":1:1: error: 100 Word: \\ufeff#: a byte order mark (ef bb bf) "),
             ("classy", b"classy LA;", ":0x0a: error: 1 TooShort: "),
             ("empty", b"", ":0x00: error: 1 TooShort: "),
@@ -454,10 +383,9 @@ class Check(HelperTest):
         ):
             put(at, name, given)
             seen = checked(name, at=at)
-            is_so = seen[0] in (1, 3) and seen[1].startswith(name + want) and seen[1].count("\n") == 1
-            self.check(f"dexasm-check {name}", is_so and seen[2] == "", seen)
+            self.check_equal(name, seen, (Either(1, 3), Begins(name + want) & ONE_LINE, ""))
         put(at, "zip", zipped)
-        self.check_equal("dexasm-check zip", checked("zip", at=at), (0, "zip!classes.dex: ok\n", ""))
+        self.check_equal("zip", checked("zip", at=at), (0, "zip!classes.dex: ok\n", ""))
 
     def test_programs(self) -> None:
         """The program's sum, of a file, of one that isn't packed, and of a listing."""
@@ -467,14 +395,12 @@ class Check(HelperTest):
             longer = longer[:place] + struct.pack(form, number) + longer[place + 4 :]
         put(at, "longer", longer)
         run([os.path.join(TOOLS, "dexasm-close"), "longer", "--output", "longer.dex"], at=at)
-        put(at, "a.dex", file)
-        put(at, "a.txt", LISTING)
-        put(at, "b.dex", damaged(file))
+        puts(at, {"a.dex": file, "a.txt": LISTING, "b.dex": damaged(file)})
         want = hashlib.sha256(dexasm("strip", given=file)).hexdigest()
         for how, runs in (("the library", checked), ("the command", by_command)):
             seen = runs("--json", "--program", "a.dex", "a.txt", "longer.dex", "b.dex", at=at)
             found = [json.loads(line)["program"] for line in seen[1].splitlines()]
-            self.check(f"dexasm-check --program by {how}", found == [want] * 3 + [None] and seen[0] == 1, seen)
+            self.check_equal(f"--program by {how}", (found, seen[0]), ([want] * 3 + [None], 1))
 
     def test_lint(self) -> None:
         """What dexasm accepts and a device would refuse, with each thing that is refused in its place."""
@@ -485,15 +411,14 @@ class Check(HelperTest):
             for jobs in ("1", "4"):
                 seen = runs("--lint", "--jobs", jobs, *names, at=at)
                 want = (3, "".join(f"{line}\n" for line in told), "")
-                self.check_equal(f"dexasm-check --lint by {how}, --jobs {jobs}", seen, want)
+                self.check_equal(f"--lint by {how}, --jobs {jobs}", seen, want)
         for words, want in (("--lint d.dex", 1), ("--lint b.txt", 0), ("--lint --quiet b.txt", 0), ("d.dex", 0)):
-            self.check_equal(f"dexasm-check {words}, its status", checked(*words.split(), at=at)[0], want)
+            self.check_equal(f"{words}, its status", checked(*words.split(), at=at)[0], want)
         both = run([os.path.join(TOOLS, "dexasm-lint"), "--code", "a.txt", "d.dex"], at=at)[1].splitlines()
-        self.check(
-            "dexasm-lint --code tells the same of code", [line for line in told if line in both] == both[1::2], both
-        )
-        shown = on_terminal(at, "--lint", "a.txt", "b.txt", "d.dex")
-        self.check("dexasm-check --lint on a terminal", f"LA;->n:I: {ESC}[1;31merror:{ESC}[0m a static" in shown, shown)
+        self.check_equal("dexasm-lint --code tells the same of code", [line for line in told if line in both],
+                         both[1::2])
+        shown = on_terminal(at, "dexasm-check", "--lint", "a.txt", "b.txt", "d.dex")[1]
+        self.check_equal("--lint on a terminal", shown, Has(f"LA;->n:I: {ESC}[1;31merror:{ESC}[0m a static"))
 
     def test_lint_forms(self) -> None:
         """The same for machines."""
@@ -502,28 +427,22 @@ class Check(HelperTest):
         found = [*map(json.loads, checked("--lint", "--json", "--program", "a.txt", "d.dex", at=at)[1].splitlines())]
         place = ("status", "line", "column", "class", "member", "instruction", "address", "register", "rule", "number")
         want: list[Any]
-        want = [
-            ("broken", None, None, "LA;", "n:I", None, None, None, "value-type", None),
-            ("broken", 8, 17, "LA;", "m(I)V", 1, None, 0, "uninitialized-use", None),
-            ("broken", None, None, "LA;", "n:I", None, None, None, "value-type", None),
-            ("broken", None, None, "LA;", "m(I)V", 1, 2, 0, "uninitialized-use", None),
-        ]
+        want = [("broken", None, None, "LA;", "n:I", None, None, None, "value-type", None),
+                ("broken", 8, 17, "LA;", "m(I)V", 1, None, 0, "uninitialized-use", None),
+                ("broken", None, None, "LA;", "n:I", None, None, None, "value-type", None),
+                ("broken", None, None, "LA;", "m(I)V", 1, 2, 0, "uninitialized-use", None)]
         seen = [tuple(one[name] for name in place) for one in found]
-        self.check("dexasm-check --lint --json", seen == want, found)
+        self.check_equal("--lint --json", seen, want)
         sentence = "an object is used before its constructor is called"
-        self.check(
-            "dexasm-check --lint --json, sentences", [found[n]["sentence"] for n in (1, 3)] == [sentence] * 2, found
-        )
+        self.check_equal("--lint --json, sentences", [found[n]["sentence"] for n in (1, 3)], [sentence] * 2)
         sum_ = hashlib.sha256(dexasm("strip", given=get(at, "d.dex"))).hexdigest()
-        self.check("dexasm-check --lint --program", [one["program"] for one in found] == [sum_] * 4, found)
+        self.check_equal("--lint --program", [one["program"] for one in found], [sum_] * 4)
         without = json.loads(checked("--json", "--program", "d.dex", at=at)[1])
-        self.check_equal(
-            "dexasm-check --json without --lint", {*found[0]} - {*without}, {"address", "register", "rule", "page"}
-        )
+        self.check_equal("--json without --lint", {*found[0]} - {*without}, {"address", "register", "rule", "page"})
         document = json.loads(checked("--lint", "--sarif", "a.txt", "d.dex", "f.apk", at=at)[1])
         results = document["runs"][0]["results"]
-        self.check("dexasm-check --lint --sarif, the schema", [*faults(document)] == [] and len(results) == 8, document)
-        self.check("dexasm-check --lint --sarif", results[1]["message"]["text"] == USED.format("line 7"), results[1])
+        self.check_equal("--lint --sarif, the schema", ([*faults(document)], len(results)), ([], 8))
+        self.check_equal("--lint --sarif", results[1]["message"]["text"], USED.format("line 7"))
         lines = checked("--lint", "--github", "a.txt", "b.txt", "d.dex", at=at)[1].splitlines()
         said = USED.format("instruction 0")
         want = [
@@ -532,11 +451,11 @@ class Check(HelperTest):
             f"::error file=d.dex,title=value-type::d.dex: {VALUE} (in LA;->n:I)",
             f"::error file=d.dex,title=uninitialized-use::d.dex: instruction 1 (0x02): {said} (in LA;->m(I)V)",
         ]
-        self.check_equal("dexasm-check --lint --github", lines, want)
+        self.check_equal("--lint --github", lines, want)
         out = checked("--lint", "--junit", "a.txt", "b.txt", "d.dex", at=at)[1]
         cases = [(case.get("name"), len(case)) for case in ElementTree.fromstring(out).findall("testsuite/testcase")]
         want = [("a.txt", 1), ("a.txt:8:17", 1), ("b.txt", 0), ("d.dex", 1), ("d.dex", 1)]
-        self.check("dexasm-check --lint --junit", cases == want, out)
+        self.check_equal("--lint --junit", cases, want)
 
     def test_lint_limits(self) -> None:
         """A program that takes too long to be linted, and one at which the worker is killed: what was told stays,
@@ -549,59 +468,54 @@ class Check(HelperTest):
         slow = fake(at, "slow/dexasm", does.format(program, "sleep 611"))
         seen = by_command("--lint", "--seconds", "0.3", "d.dex", "none", at=at, DEXASM_COMMAND=slow)
         want = "d.dex: error: it takes longer than --seconds\nnone: error: No such file or directory\n"
-        self.check_equal("dexasm-check --lint, too slow", seen, (3, want, ""))
+        self.check_equal("--lint, too slow", seen, (3, want, ""))
         killed = fake(at, "killed/dexasm", does.format(program, "kill -9 $PPID"))
         seen = by_command("--lint", "d.dex", "b.txt", at=at, DEXASM_COMMAND=killed)
         want = "d.dex: error: its worker was killed\nb.txt: error: its worker was killed\n"
-        self.check_equal("dexasm-check --lint, killed", seen, (3, want, ""))
+        self.check_equal("--lint, killed", seen, (3, want, ""))
         seen = run([sys.executable, "-B", "-c", TOLD_ONCE, os.path.join(TOP, "python", "src")], at=at)
-        self.check_equal("dexasm-check --lint, told once", seen, (0, "broken broken broken killed ok\n", ""))
+        self.check_equal("--lint, told once", seen, (0, "broken broken broken killed ok\n", ""))
         head = LINTED.replace(b"add-int v1 v0 v0", b"nop").replace(b"long 5", b"int 5")
         many = head.replace(
             b"end class",
-            b"end class\n"
-            + b"".join(
+            b"end class\n" + b"".join(
                 b"class LB%d; 0x1\nsuper Ljava/lang/Object;\nstatic n I 0x9 = long 5\nend class\n" % number
                 for number in range(3000)
             ),
-            1,
+            1
         ).replace(b"\n\n", b"\n")
         put(at, "many.txt", many)
         status, out, said = checked("--lint", "many.txt", at=at)
-        self.check(
-            "dexasm-check --lint, many", (status, said, out.count("\n")) == (1, "", 3000), (status, out[:300], said)
-        )
+        self.check_equal("--lint, many", (status, said, out.count("\n")), (1, "", 3000))
 
     def test_names(self) -> None:
         """Names that a terminal, GitHub's runner, or a reader of JSON, XML or SARIF could take for something else."""
         at = evil("check names")
         names = listed()
         status, out, said = of_names("", at)
-        self.check(
-            "dexasm-check, names", (status, said) == (1, "") and is_safe(out) and out.count("\n") == len(names), out
-        )
+        self.check_equal("names", (status, said, out, out.count("\n")), (1, "", That(is_safe), len(names)))
         status, out, said = of_names("--json", at)
         found = [json.loads(line) for line in out.splitlines()]
         uris = [unquote_to_bytes(one["uri"]) for one in found]
-        self.check("dexasm-check --json, names", (status, said, uris) == (1, "", names) and out.isascii(), out)
-        is_text = all(not re.search("[\ud800-\udfff]", one["file"]) for one in found)
-        self.check("dexasm-check --json, names are texts", is_text and found[0].keys() == found[-1].keys(), out)
+        self.check_equal("--json, names", (status, said, uris, out.isascii()), (1, "", names, True))
+        self.check_equal("--json, names are texts",
+                         ([one for one in found if re.search("[\ud800-\udfff]", one["file"])], found[0].keys()),
+                         ([], found[-1].keys()))
         status, out, said = of_names("--github", at)
         lines = out.encode("latin1").decode("utf8").splitlines()
-        self.check(
-            "dexasm-check --github, names", (status, said, len(lines)) == (1, "", len(names)), (status, out, said)
-        )
+        self.check_equal("--github, names", (status, said, len(lines)), (1, "", len(names)))
         for line, name in zip(lines, names):
-            file = properties(line).get("file")
-            is_same = file == name.decode("utf8", "replace") or "\\" in (file or "")
-            is_exact = file == name.decode("utf8", "replace") or not name.decode("utf8", "replace").isprintable()
+            shown = name.decode("utf8", "replace")
             # (a command has no escape for #)
-            is_exact = is_exact or b"##[" in name or b"\xff" in name or b"\xed" in name or b"\x9b" in name
-            self.check(f"dexasm-check --github, {name!r}", is_same and is_exact and line.isprintable(), line)
+            is_escaped = not shown.isprintable() or any(part in name for part in (b"##[", b"\xff", b"\xed", b"\x9b"))
+            want = shown if not is_escaped else Either(shown, Has("\\"))
+            self.check_equal(f"--github, {name!r}", (properties(line).get("file"), line.isprintable()), (want, True))
         status, out, said = of_names("--junit", at)
         cases = ElementTree.fromstring(out).findall("testsuite/testcase")
-        is_so = len(cases) == len(names) and all(case.attrib["name"].isprintable() for case in cases)
-        self.check("dexasm-check --junit, names", (status, said) == (1, "") and is_so and out.isascii(), out)
+        self.check_equal("--junit, names",
+                         (status, said, len(cases), [case for case in cases if not case.attrib["name"].isprintable()],
+                          out.isascii()),
+                         (1, "", len(names), [], True))
 
     def test_commands_of_runners(self) -> None:
         """Whatever a stranger gives (names of files and entries, words of listings, what libraries say of an archive)
@@ -614,25 +528,25 @@ class Check(HelperTest):
             seen = checked(*[form] * bool(form), "--lint", "--", *paths, at=at)
             lines = [line for part in seen[1:] for line in str(part).splitlines()]
             bad = [line for line in lines if is_command(line, form)]
-            self.check(f"dexasm-check {form}, runners", bad == [] and len(lines) > 20, bad)
+            self.check_equal(f"{form}, runners", (bad, len(lines)), ([], Above(20)))
             if form in ("--json", "--junit"):
                 files = [json.loads(line)["file"] for line in lines] if form == "--json" else named_by_junit(seen[1])
                 # (of a rule of a member JUnit has the line in the name)
                 given = {path for path in paths if path.endswith((".dex", ".txt", "none")) and "/11." not in path}
                 lost = given - {*files}
-                self.check(f"dexasm-check {form} says the very names", lost == set(), lost)
+                self.check_equal(f"{form} says the very names", lost, set())
         self.check_skipped_runners(at)
         out = by_command("--", *paths, at=at)[1]
-        self.check("dexasm-check, runners, by the command", not any(is_command(line, "") for line in out.splitlines()))
+        self.check_equal("runners, by the command", [line for line in out.splitlines() if is_command(line, "")], [])
         for words in (("--json", "--##[x]"), ("--color", "##vso[x]", "a"), ("--jobs", "::x", "a"), ("--##[a]",)):
             seen = checked(*words, at=at)
             bad = [line for line in seen[2].splitlines() if is_command(line, "")]
-            self.check(f"dexasm-check {words}, its usage", seen[0] == 2 and bad == [], seen)
+            self.check_equal(f"{words}, its usage", (seen[0], bad), (2, []))
         for name in ("dexasm-lint", "dexasm-info", "dexasm-apk"):
             for path in (path for those in names for path in those[:3]):
                 seen = run([os.path.join(TOOLS, name), *["check"] * (name == "dexasm-apk"), "--", path], at=at)
                 bad = [line for line in seen[2].splitlines() if is_command(line, "")]
-                self.check(f"{name} {path!r}, standard error", bad == [], bad)
+                self.check_equal(f"{name} {path!r}, standard error", bad, [])
 
     def check_skipped_runners(self, at: str) -> None:
         """The same of links below a folder, which each form tells, though they are no errors."""
@@ -643,8 +557,8 @@ class Check(HelperTest):
             status, out, said = checked(*[form] * bool(form), "links", at=at)
             bad = [line for line in out.splitlines() if is_command(line, form)]
             told = len(re.findall(r"a link to a file, which isn't followed", out.replace("&apos;", "'")))
-            is_so = (status, said, bad) == (0, "", []) and told == len(RUNNERS) * (2 if form == "--json" else 1)
-            self.check(f"dexasm-check {form}, links that are called as commands of runners", is_so, (status, out, bad))
+            self.check_equal(f"{form}, links that are called as commands of runners", (status, said, bad, told),
+                             (0, "", [], len(RUNNERS) * (2 if form == "--json" else 1)))
 
     def test_sarif(self) -> None:
         """The document keeps the schema's rules, and says the very names; of an archive's entry it has no region."""
@@ -653,30 +567,27 @@ class Check(HelperTest):
         document = json.loads(out)
         results = document["runs"][0]["results"]
         uris = [one["locations"][0]["physicalLocation"]["artifactLocation"]["uri"] for one in results]
-        self.check(
-            "dexasm-check --sarif, names", (status, said, [*map(unquote_to_bytes, uris)]) == (1, "", listed()), out
-        )
-        put(at, "y.txt", HEAD + b"class LA; 0x1\nsuper 7\nend class\n")
-        put(at, "a.apk", archive(("classes.dex", damaged(assembled(LISTING))), ("classes2.dex", assembled(LISTING))))
+        self.check_equal("--sarif, names", (status, said, [*map(unquote_to_bytes, uris)]), (1, "", listed()))
+        puts(at, {
+            "y.txt": HEAD + b"class LA; 0x1\nsuper 7\nend class\n",
+            "a.apk": archive(("classes.dex", damaged(assembled(LISTING))), ("classes2.dex", assembled(LISTING)))
+        })
         whole = os.path.join(at, "f", "-x.dex")
         status, out, said = checked("--sarif", "./y.txt", "a.apk", "none", whole, at=at)
         other = json.loads(out)
-        self.check("dexasm-check --sarif, the schema", [*faults(document), *faults(other)] == [], [*faults(other)])
+        self.check_equal("--sarif, the schema", [*faults(document), *faults(other)], [])
         results, invocation = other["runs"][0]["results"], other["runs"][0]["invocations"][0]
         places = [one["locations"][0]["physicalLocation"] for one in results]
-        want = [
-            {"artifactLocation": {"uri": "y.txt"}, "region": {"startLine": 3, "startColumn": 7}},
-            {"artifactLocation": {"uri": "a.apk"}},
-            {"artifactLocation": {"uri": "file://" + whole.replace(" ", "%20")}, "region": {"byteOffset": 7}},
-        ]
-        self.check("dexasm-check --sarif, places", places == want and status == 3, places)
+        want = [{"artifactLocation": {"uri": "y.txt"}, "region": {"startLine": 3, "startColumn": 7}},
+                {"artifactLocation": {"uri": "a.apk"}},
+                {"artifactLocation": {"uri": "file://" + whole.replace(" ", "%20")}, "region": {"byteOffset": 7}}]
+        self.check_equal("--sarif, places", (places, status), (want, 3))
         rules = [one["ruleId"] for one in results]
-        is_so = rules == ["101", "8", "1"] and invocation["executionSuccessful"] is False
-        self.check("dexasm-check --sarif, what couldn't be read", is_so and invocation["exitCode"] == 3, other)
+        self.check_equal("--sarif, what couldn't be read",
+                         (rules, invocation["executionSuccessful"], invocation["exitCode"]),
+                         (["101", "8", "1"], False, 3))
         seen = checked("--sarif", "--jobs", "1", "a.apk", at=at)
-        self.check(
-            "dexasm-check --sarif, all could", json.loads(seen[1])["runs"][0]["invocations"][0]["executionSuccessful"]
-        )
+        self.check("--sarif, all could", json.loads(seen[1])["runs"][0]["invocations"][0]["executionSuccessful"])
 
     def test_no_files(self) -> None:
         """Pipes, devices, sockets, loops of links, what isn't there: a line each, and the others go on."""
@@ -691,21 +602,18 @@ class Check(HelperTest):
         for how, runs in (("the library", checked), ("the command", by_command)):
             status, out, said = runs(*words, at=at)
             lines = out.splitlines()
-            is_so = lines[-2:] == ["a.dex: ok", "link.dex: ok"] and all(": error: " in line for line in lines[:-2])
-            is_so = is_so and (status, said, len(lines)) == (3, "", 9)
-            self.check(f"dexasm-check, no files, by {how}", is_so, (status, out, said))
+            self.check_equal(f"no files, by {how}",
+                             (lines[-2:], [line for line in lines[:-2] if ": error: " not in line], status, said,
+                              len(lines)),
+                             (["a.dex: ok", "link.dex: ok"], [], 3, "", 9))
     def test_below_a_folder(self) -> None:
         """Links, pipes and devices below a folder: each has a line, and is an error where something could pass unseen."""
-        at, file = room("check below a folder"), assembled(LISTING)
-        put(at, "d/x.DEX", file)
-        put(at, "d/other.txt", b"")
+        file = assembled(LISTING)
+        at = room("check below a folder", {"d/x.DEX": file, "d/other.txt": b""})
         os.mkfifo(os.path.join(at, "d", "fifo.dex"))
         for name, to in (("up", ".."), ("top", "/"), ("l.dex", "/etc/passwd")):
             os.symlink(to, os.path.join(at, "d", name))
-        put(at, "d/inner/b.dex", file)
-        put(at, "d/blob", b"no file")
-        put(at, "e/c", file)
-        put(at, "e/text", b"a text")
+        puts(at, {"d/inner/b.dex": file, "d/blob": b"no file", "e/c": file, "e/text": b"a text"})
         os.mkfifo(os.path.join(at, "d", "fifo"))
         for name, to in (("here", "inner"), ("same.dex", "x.DEX"), ("z.apk", "blob"), ("none", "none")):
             os.symlink(to, os.path.join(at, "d", name))
@@ -728,12 +636,12 @@ d/zero.jar: error: a link to no file
 d/inner/b.dex: ok
 """
         seen = checked("d", at=at)
-        self.check_equal("dexasm-check, what is below a folder", (seen[0], *seen[1:]), (3, want, ""))
+        self.check_equal("what is below a folder", (seen[0], *seen[1:]), (3, want, ""))
         quiet = "".join(line for line in want.splitlines(True) if ": error: " in line)
-        self.check_equal("dexasm-check --quiet, below a folder", checked("--quiet", "d", at=at), (3, quiet, ""))
+        self.check_equal("--quiet, below a folder", checked("--quiet", "d", at=at), (3, quiet, ""))
         found = [json.loads(line) for line in checked("--json", "d", at=at)[1].splitlines()]
         told = {one["status"] for one in found if one["file"] in ("d/fifo", "d/here", "d/same.dex", "d/text")}
-        self.check("dexasm-check --json, below a folder", told == {"skipped"} and len(found) == 15, found)
+        self.check_equal("--json, below a folder", (told, len(found)), ({"skipped"}, 15))
         self.check_forms_below(at)
 
     def check_forms_below(self, at: str) -> None:
@@ -742,11 +650,11 @@ d/inner/b.dex: ok
         notes = document["runs"][0]["invocations"][0]["toolExecutionNotifications"]
         skipped = [one["locations"][0]["physicalLocation"] for one in notes if one["level"] == "note"]
         names = [one["artifactLocation"]["uri"] for one in skipped]
-        is_so = names == ["d/fifo", "d/here", "d/same.dex", "d/text"] and len(notes) == 13 and [*faults(document)] == []
-        self.check("dexasm-check --sarif, below a folder", is_so, document)
+        self.check_equal("--sarif, below a folder", (names, len(notes), [*faults(document)]),
+                         (["d/fifo", "d/here", "d/same.dex", "d/text"], 13, []))
         lines = checked("--github", "d", at=at)[1].splitlines()
         notices = [line for line in lines if line.startswith("::notice file=d/")]
-        self.check("dexasm-check --github, below a folder", len(notices) == 4 and len(lines) == 13, lines)
+        self.check_equal("--github, below a folder", (len(notices), len(lines)), (4, 13))
 
     def test_below(self) -> None:
         """What is looked at below a folder: names, and how other files begin; all below it is, or has a line."""
@@ -754,8 +662,7 @@ d/inner/b.dex: ok
         kinds = ("a.apk", "b.JAR", "c.zip", "d.aar", "e.aab", "f.Apks", "begins like one")
         for name in kinds:
             put(at, f"f/{name}", archive(("x/y.Dex", damaged(file))))
-        put(at, "f/a.dex", file)
-        put(at, "f/dex", file)
+        puts(at, {"f/a.dex": file, "f/dex": file})
         for name, given in (("text", b"PK, a text"), ("empty", b""), ("short", b"de"), ("L.java", b"class Lamp {}\n")):
             put(at, f"f/{name}", given)
         headless = LISTING.replace(b"dex 035 listing 2\n", b"")
@@ -767,12 +674,14 @@ d/inner/b.dex: ok
         want = sorted([*want, "f/headless: looks like a listing, but ", "f/037.txt: looks like a listing, but "])
         status, out, said = checked("f", at=at)
         lines = sorted(out.splitlines())
-        is_so = len(lines) == len(want) and all(line.startswith(begin) for line, begin in zip(lines, want))
-        self.check("dexasm-check, below a folder", is_so and (status, said) == (1, ""), (status, out, said))
+        self.check_equal("below a folder",
+                         (len(lines), [(line, begin) for line, begin in zip(lines, want) if not line.startswith(begin)],
+                          status, said),
+                         (len(want), [], 1, ""))
         if os.geteuid():
             os.chmod(os.path.join(at, "f/text"), 0)
             seen = checked("f", at=at)
-            self.check("dexasm-check, what can't be opened", seen[0] == 3 and "f/text: error: Perm" in seen[1], seen)
+            self.check_equal("what can't be opened", seen[:2], (3, Has("f/text: error: Perm")))
 
     def test_nested(self) -> None:
         """Archives in an archive, one deep; what is wrong with one of them has a line, and the others go on."""
@@ -784,17 +693,14 @@ d/inner/b.dex: ok
             ("a.apks", archive(("splits/base.apk", two)), 0, ["splits/base.apk!classes.dex: ok"]),
             ("b.aab", aab, 1, ["base/dex/classes.dex: ok", "base/lib.jar!classes2.dex:0x08: error: 8 Ch"]),
             ("c.zip", wrong, 3, ["a.jar: error: no zip", "b.jar: error: it begins as a .dex"]),
-            ("d.apks", archive(("a.apk", archive(("x", b"")))), 0, None),
+            ("d.apks", archive(("a.apk", archive(("x", b"")))), 0, ["d.apks: no .dex file in it"]),
         ):
             put(at, name, given)
             seen = checked(name, at=at)
             told = [one.removeprefix(f"{name}!") for one in seen[1].splitlines() if "two archives deep" not in one]
-            is_so = told == [f"{name}: no .dex file in it"] if lines is None else len(told) == len(lines) and all(
-                line.startswith(begin) for line, begin in zip(told, lines)
-            )
-            self.check(f"dexasm-check {name}", is_so and seen[::2] == (status, ""), seen)
+            self.check_equal(name, (seen[0], told, seen[2]), (status, [*map(Begins, lines)], ""))
         deep = "a.apks!splits/base.apk!deep.zip: an archive two archives deep\n"
-        self.check("dexasm-check, two deep", deep in checked("a.apks", at=at)[1])
+        self.check_equal("two deep", checked("a.apks", at=at)[1], Has(deep))
 
     def test_fronts(self) -> None:
         """A file that begins as something else, with an archive behind that, is refused as a whole."""
@@ -804,17 +710,15 @@ d/inner/b.dex: ok
             put(at, name, front + good)
             want = f"{name}: error: it begins as {what}, and the archive stands behind that: "
             seen = checked(name, at=at)
-            is_so = seen[::2] == (3, "") and seen[1].startswith(want)
-            self.check(f"dexasm-check {name}, its front", is_so and seen[1].count("\n") == 1, seen)
+            self.check_equal(f"{name}, its front", seen, (3, Begins(want) & ONE_LINE, ""))
             seen = run([os.path.join(TOOLS, "dexasm-apk"), "check", name], at=at)
-            is_so = seen[:2] == (3, "") and seen[2].startswith(f"dexasm-apk: {name}: it begins as ")
-            self.check(f"dexasm-apk {name}, its front", is_so and seen[2].count("\n") == 1, seen)
+            self.check_equal(f"dexasm-apk {name}, its front", seen,
+                             (3, "", Begins(f"dexasm-apk: {name}: it begins as ") & ONE_LINE))
 
     def test_folders(self) -> None:
         """A folder that can't be read: one that is too deep for a name, and one of no rights."""
-        at, file = room("check folders"), assembled(LISTING)
-        put(at, "f/a.dex", file)
-        put(at, "f/z.dex", file)
+        file = assembled(LISTING)
+        at = room("check folders", {"f/a.dex": file, "f/z.dex": file})
         here = os.open(os.path.join(at, "f"), os.O_RDONLY | os.O_DIRECTORY)
         for _ in range(18):
             os.mkdir("d" * 250, dir_fd=here)
@@ -824,15 +728,15 @@ d/inner/b.dex: ok
         os.close(here)
         seen = checked("f", at=at)
         lines = seen[1].splitlines()
-        is_so = lines[:2] == ["f/a.dex: ok", "f/z.dex: ok"] and lines[2].endswith(": error: File name too long")
-        self.check("dexasm-check, a folder that is too deep", seen[::2] == (3, "") and is_so and len(lines) == 3, seen)
+        self.check_equal("a folder that is too deep", (seen, lines[:2], lines[2], len(lines)),
+                         ((3, ANY, ""), ["f/a.dex: ok", "f/z.dex: ok"], Ends(": error: File name too long"), 3))
         put(at, "g/a.dex", file)
         os.mkdir(os.path.join(at, "g", "b"), 0)
         put(at, "g/c/d.dex", file)
         want = "g/a.dex: ok\ng/b: error: Permission denied\ng/c/d.dex: ok\n"
         if os.geteuid():
             seen = checked("g", at=at)
-            self.check_equal("dexasm-check, a folder without rights", seen, (3, want, ""))
+            self.check_equal("a folder without rights", seen, (3, want, ""))
         os.chmod(os.path.join(at, "g", "b"), stat.S_IRWXU)
 
     def test_archives(self) -> None:
@@ -841,24 +745,19 @@ d/inner/b.dex: ok
         good, two = archive(("classes.dex", file)), archive(("classes.dex", file), ("classes2.dex", file))
         cases = {
             "encrypted.apk": (
-                changed(two, "classes.dex", *FLAGS, 1),
-                "!classes.dex: error: it is encrypted, or says so",
+                changed(two, "classes.dex", *FLAGS, 1), "!classes.dex: error: it is encrypted, or says so"
             ),
             "sum.apk": (changed(two, "classes.dex", *CRC, 7), "!classes.dex: error: it can't be read: "),
-            "twice.apk": (
-                archive(("classes.dex", file), ("classes.dex", file)),
-                "!classes.dex: error: it is there more ",
-            ),
+            "twice.apk": (archive(("classes.dex", file), ("classes.dex", file)),
+                          "!classes.dex: error: it is there more "),
             "cut.apk": (good[:-30], ": error: no zip archive can be read: "),
             "text.zip": (f"{ESC}[31m".encode(), ": error: no zip archive can be read: "),
         }
         for name, (given, want) in cases.items():
             put(at, name, given)
             status, out, said = checked(name, at=at)
-            is_so = out.startswith(name + want) and (f"{name}!classes2.dex: ok\n" in out) == (len(given) == len(two))
-            self.check(
-                f"dexasm-check {name}", (status, said) == (3, "") and is_so and is_safe(out), (status, out, said)
-            )
+            self.check_equal(f"{name}", (status, said, out, f"{name}!classes2.dex: ok\n" in out),
+                             (3, "", Begins(name + want) & That(is_safe), len(given) == len(two)))
 
     def test_bombs(self) -> None:
         """What grows past --memory, or says so, or is as large: told as that, fast, and the others go on."""
@@ -877,7 +776,7 @@ d/inner/b.dex: ok
         want = f"bomb.apk!classes.dex: error: {want}bomb.apk!classes2.dex: ok\nsparse.dex: error: {want}a.dex: ok\n"
         for jobs in ("1", "3"):
             seen = checked("--memory", "250M", "--jobs", jobs, "bomb.apk", "sparse.dex", "a.dex", at=at)
-            self.check_equal(f"dexasm-check, bombs, --jobs {jobs}", seen, (4, want, ""))
+            self.check_equal(f"bombs, --jobs {jobs}", seen, (4, want, ""))
 
     def test_archives_limits(self) -> None:
         """An archive has --seconds and --memory once, whatever its entries say, and ends soon."""
@@ -891,9 +790,11 @@ d/inner/b.dex: ok
         status, out, said = checked("many.apk", at=at)
         taken = time.monotonic() - begun
         lines = out.splitlines()
-        is_so = len(lines) == count and all(line.endswith(": it takes more than --memory") for line in lines)
-        self.check("dexasm-check, 65,000 entries that say 3 GB", is_so and (status, said) == (4, ""), (status, out[:500]))
-        self.check("dexasm-check, 65,000 entries, its time", taken < 60, taken)
+        self.check_equal("65,000 entries that say 3 GB",
+                         (len(lines), [line for line in lines if not line.endswith(": it takes more than --memory")],
+                          status, said),
+                         (count, [], 4, ""))
+        self.check_equal("65,000 entries, its time", taken, Below(60))
         bomb = io.BytesIO()
         with zipfile.ZipFile(bomb, "w", zipfile.ZIP_DEFLATED) as zipped:
             zipped.writestr("big.dex", bytes(100 << 20))
@@ -902,12 +803,12 @@ d/inner/b.dex: ok
             put(at, f"{number}.zip", archive(*entries, ("z/classes.dex", given)))
         status, out, said = checked("--memory", "400M", "1.zip", at=at)
         told = [line.rpartition(": ")[2] for line in out.splitlines()]
-        is_so = told.count("it takes more than --memory") >= 6 and out.endswith("1.zip!z/classes.dex: ok\n")
-        self.check("dexasm-check, a sum of memory", is_so and (status, said) == (4, ""), (status, out, said))
+        self.check_equal("a sum of memory", (told.count("it takes more than --memory"), out, status, said),
+                         (Above(5), Ends("1.zip!z/classes.dex: ok\n"), 4, ""))
         seen = checked("--seconds", "0.02", "--lint", "1.zip", "none", at=at)
-        is_so = "it takes longer than --seconds: nothing behind it in the archive is looked at\n" in seen[1]
-        is_so = is_so or "1.zip: error: it takes longer than --seconds\n" in seen[1]
-        self.check("dexasm-check, a sum of time", is_so and seen[0] == 3 and seen[1].endswith("directory\n"), seen)
+        late: Like = Has("it takes longer than --seconds: nothing behind it in the archive is looked at\n")
+        late |= Has("1.zip: error: it takes longer than --seconds\n")
+        self.check_equal("a sum of time", seen[:2], (3, late & Ends("directory\n")))
 
     def test_lying_sizes(self) -> None:
         """An entry that is larger than it says, or smaller: no more is inflated than it says."""
@@ -921,17 +822,23 @@ d/inner/b.dex: ok
             put(at, name, changed(made.getvalue(), "classes.dex", 22, "<I", says))
             seen = checked("--memory", "1G", name, at=at)
             begin = f"{name}!classes.dex: error: it can't be read: "
-            is_so = seen[::2] == (3, "") and seen[1].startswith(begin) and seen[1].endswith("classes2.dex: ok\n")
-            self.check(f"dexasm-check {name}", is_so, seen)
+            self.check_equal(name, seen, (3, Begins(begin) & Ends("classes2.dex: ok\n"), ""))
         seen = checked("--memory", "150M", "less.apk", at=at)
-        self.check("dexasm-check, no more than it says", seen[0] == 3 and "--memory" not in seen[1], seen)
+        self.check_equal("no more than it says", seen[:2], (3, Lacks("--memory")))
         for method in (zipfile.ZIP_BZIP2, zipfile.ZIP_LZMA):
             made = io.BytesIO()
             with zipfile.ZipFile(made, "w", method) as zipped:
                 zipped.writestr("classes.dex", file)
             put(at, "a.zip", made.getvalue())
             want = f"a.zip!classes.dex: error: its method of compression is unknown: {int(method)}\n"
-            self.check_equal(f"dexasm-check, method {method}", checked("a.zip", at=at), (3, want, ""))
+            self.check_equal(f"method {method}", checked("a.zip", at=at), (3, want, ""))
+
+    def check_none_left(self, what: str, seconds: bytes) -> None:
+        """That no such `sleep` runs any more."""
+        left = sleeping(seconds)
+        self.check_equal(f"{what}, nothing is left running", left, [])
+        for one in left:
+            os.kill(int(one), signal.SIGKILL)
 
     def test_ended(self) -> None:
         """However a helper is ended, its workers end, with what they run."""
@@ -947,9 +854,7 @@ d/inner/b.dex: ok
             begun.send_signal(ends)
             begun.wait(LIMIT)
             wait_for(lambda: not sleeping(b"619"))
-            self.check_equal(f"dexasm-check, ended by {ends.name}, what it left", sleeping(b"619"), [])
-            for one in sleeping(b"619"):
-                os.kill(int(one), signal.SIGKILL)
+            self.check_none_left(f"ended by {ends.name}", b"619")
 
     def test_limits(self) -> None:
         """A file that takes too long, and one at which the worker is killed: the others go on, and nothing is left."""
@@ -958,16 +863,14 @@ d/inner/b.dex: ok
         does = (
             'cat >"$0.$$"; if grep -q SLOW "$0.$$"; then sleep 613; elif grep -q KILL "$0.$$"; then kill -9 $PPID; fi'
         )
-        command = fake(
-            at, "fake/dexasm", f'[ "$1" != check ] && exec {program} "$@"\n{does}\nexec {program} "$@" <"$0.$$"'
-        )
+        command = fake(at, "fake/dexasm",
+                       f'[ "$1" != check ] && exec {program} "$@"\n{does}\nexec {program} "$@" <"$0.$$"')
         for name, given in (("a", file), ("b", b"SLOW"), ("c", file), ("d", b"KILL"), ("e", file)):
             put(at, f"{name}.dex", given)
         seen = by_command("--seconds", "0.2", *(f"{name}.dex" for name in "abcde"), at=at, DEXASM_COMMAND=command)
         want = "b.dex: error: it takes longer than --seconds\nc.dex: ok\nd.dex: error: its worker was killed\n"
-        self.check_equal("dexasm-check, limits", seen, (3, f"a.dex: ok\n{want}e.dex: ok\n", ""))
-        left = [one for one in os.listdir("/proc") if one.isdigit() and words_of(one) == [b"sleep", b"613"]]
-        self.check_equal("dexasm-check, nothing is left running", left, [])
+        self.check_equal("limits", seen, (3, f"a.dex: ok\n{want}e.dex: ok\n", ""))
+        self.check_none_left("limits", b"613")
 
     def test_interrupted(self) -> None:
         """Control-C while a file is looked at: its status, no line, and nothing is left running."""
@@ -980,21 +883,15 @@ d/inner/b.dex: ok
         # (a shell may have begun this test without that signal)
         obeyed: dict[str, Any] = {"preexec_fn": lambda: signal.signal(signal.SIGINT, signal.SIG_DFL)}
         begun = subprocess.Popen([os.path.join(alone(), "dexasm-check"), "a.dex"], cwd=at, env=env, **streams, **obeyed)
-        for _ in range(200):
-            if os.path.exists(f"{command}.begun"):
-                break
-            time.sleep(0.05)
+        wait_for(lambda: os.path.exists(f"{command}.begun"))
         begun.send_signal(signal.SIGINT)
         try:
             said = begun.communicate(timeout=20)
         except subprocess.TimeoutExpired:
             begun.kill()
             said = begun.communicate()
-        self.check("dexasm-check, interrupted", (begun.returncode, *said) == (130, b"", b""), (begun.returncode, said))
-        left = [one for one in os.listdir("/proc") if one.isdigit() and words_of(one) == [b"sleep", b"617"]]
-        self.check_equal("dexasm-check, nothing is left running after it", left, [])
-        for one in left:
-            os.kill(int(one), signal.SIGKILL)
+        self.check_equal("interrupted", (begun.returncode, *said), (130, b"", b""))
+        self.check_none_left("interrupted", b"617")
 
     def test_changes(self) -> None:
         """Files that become something else after they were found."""
@@ -1008,7 +905,7 @@ d/inner/b.dex: ok
             "f/a.dex failed None No such file or directory\nf/b.dex failed None no file\nf/c.dex refused 1 None\n"
             "f/d.dex failed None no file\nf/e.dex ok None None\n"
         )
-        self.check_equal("dexasm-check, files that change", seen, (0, want, ""))
+        self.check_equal("files that change", seen, (0, want, ""))
 
     def test_many(self) -> None:
         """100,000 paths on standard input, most of which aren't there; each has its line, in that order."""
@@ -1017,19 +914,20 @@ d/inner/b.dex: ok
         names = ["a.dex" if number % 1000 == 0 else str(number) for number in range(count)]
         status, out, said = checked("--paths-from", "-", at=at, given="\0".join(names).encode())
         lines = out.splitlines()
-        is_so = all(line.startswith(f"{name}: ") for line, name in zip(lines, names))
-        is_so = is_so and (status, said, len(lines)) == (3, "", count)
-        self.check("dexasm-check, 100,000 paths", is_so, (status, said, out[:99]))
-        self.check("dexasm-check, their verdicts", lines.count("a.dex: ok") == count // 1000, out[:99])
+        self.check_equal("100,000 paths",
+                         ([(line, name) for line, name in zip(lines, names) if not line.startswith(f"{name}: ")],
+                          status, said, len(lines)),
+                         ([], 3, "", count))
+        self.check_equal("their verdicts", lines.count("a.dex: ok"), count // 1000)
         for given, want in ((b"", 3), (b"\0\0\0", 3), (b"a.dex", 0), (b"a.dex\n", 3), (os.urandom(5000), 3)):
             seen = checked("--paths-from", "-", at=at, given=given)
-            self.check(f"dexasm-check, {given[:9]!r} on standard input", seen[0] == want and is_safe(seen[1]), seen)
+            self.check_equal(f"{given[:9]!r} on standard input", seen[:2], (want, That(is_safe)))
 
     def test_workers(self) -> None:
         """A further worker is for what is worth one; the lines are the same (try_order)."""
         share = os.path.join(TOP, "python", "src")
         seen = run([sys.executable, "-B", "-c", WORKERS, share], at=room("check workers"))
-        self.check_equal("dexasm-check, how many workers", seen, (0, "1\n1\n4\n2\n4\n1\n1\n4\n", ""))
+        self.check_equal("how many workers", seen, (0, "1\n1\n4\n2\n4\n1\n1\n4\n", ""))
 
     def test_order(self) -> None:
         """Whatever the number of workers, and however long each file takes, the lines are the same."""
@@ -1042,51 +940,34 @@ d/inner/b.dex: ok
         names = [f"f/{number % 40:02}.dex" for number in range(0, 40 * 77, 7)] * 5
         one, many = (checked("--jobs", jobs, *names, at=at) for jobs in ("1", "4"))
         told = [line.partition(":")[0] for line in many[1].splitlines()]
-        self.check("dexasm-check, the order", told == names and one == many and one[0] == 1, (one[2], many[2]))
+        self.check_equal("the order", (told, one, one[0]), (names, many, 1))
 
     def test_commands(self) -> None:
         """Over a command whose output can't be parsed: nothing is accepted, and each has a line."""
-        at = room("check commands")
-        put(at, "a.dex", assembled(LISTING))
+        at = room("check commands", {"a.dex": assembled(LISTING)})
         given = [("true", "/bin/true"), ("a signal", fake(at, "fake/signal", "kill -11 $$"))]
         given += [("nothing that runs", put(at, "fake/no", b"no program")), ("nothing there", os.path.join(at, "none"))]
         ready = f'[ "$1" = --version ] && exec {shlex.quote(config.program())} --version\n'
         for number, (name, command) in enumerate(given):
             seen = by_command("a.dex", at=at, DEXASM_COMMAND=command)
-            is_so = seen[:2] == (3, "") and seen[2].startswith("dexasm-check: a worker doesn't start: ")
-            self.check(f"dexasm-check by {name}", is_so and seen[2].count("\n") == 1, seen)
+            self.check_equal(f"by {name}", seen, (3, "", Begins("dexasm-check: a worker doesn't start: ") & ONE_LINE))
             later = fake(at, f"later/{number}", f'{ready}exec {shlex.quote(command)} "$@"')
             seen = by_command("a.dex", "a.dex", at=at, DEXASM_COMMAND=later)
             lines = seen[1].splitlines()
-            is_so = seen[::2] == (3, "") and len(lines) == 2 and all(": error: " in line for line in lines)
-            self.check(f"dexasm-check by {name} later", is_so and is_safe(seen[1]), seen)
+            self.check_equal(f"by {name} later",
+                             (seen, len(lines), [line for line in lines if ": error: " not in line]),
+                             ((3, That(is_safe), ""), 2, []))
 
     def test_words(self) -> None:
-        at = room("check words")
-        put(at, "a.dex", assembled(LISTING))
+        at = room("check words", {"a.dex": assembled(LISTING)})
         for words in (
-            "",
-            "--json --sarif a.dex",
-            "--program a.dex",
-            "--sarif --program a.dex",
-            "--jobs 0 a.dex",
-            "--jobs -1 a.dex",
-            "--jobs 9999999999 a.dex",
-            "--seconds nan a.dex",
-            "--seconds inf a.dex",
-            "--memory 1 a.dex",
-            "--memory 5X a.dex",
-            "--color sometimes a.dex",
-            "--jso a.dex",
-            "--lint",
+            "", "--json --sarif a.dex", "--program a.dex", "--sarif --program a.dex", "--jobs 0 a.dex",
+            "--jobs -1 a.dex", "--jobs 9999999999 a.dex", "--seconds nan a.dex", "--seconds inf a.dex",
+            "--memory 1 a.dex", "--memory 5X a.dex", "--color sometimes a.dex", "--jso a.dex", "--lint"
         ):
             seen = checked(*words.split(), at=at)
-            self.check(
-                f"dexasm-check {words}", seen[:2] == (2, "") and seen[2].startswith("usage: dexasm-check "), seen
-            )
-        self.check_equal(
-            "dexasm-check, no .dex file in a folder", checked(at, at=room("check empty")), (0, f"{at}/a.dex: ok\n", "")
-        )
+            self.check_equal(words, seen, (2, "", Begins("usage: dexasm-check ")))
+        self.check_equal("no .dex file in a folder", checked(at, at=room("check empty")), (0, f"{at}/a.dex: ok\n", ""))
 
     def test_nothing(self) -> None:
         """Where nothing is looked at that isn't accepted: not in any form, and not without a line."""
@@ -1098,79 +979,71 @@ d/inner/b.dex: ok
             by_input = ["--paths-from", "-"]
             for words, given in (
                 (["empty"], b""), (["others"], b""), (by_input, b""), (by_input, b"\0\0"), ([*by_input, "empty"], b"")
-            ):  # fmt: skip
+            ):
                 seen = checked(*[form] * bool(form), *words, at=at, given=given)
-                is_so = seen[0] == 3 and seen[2].startswith("dexasm-check: nothing was looked at: ")
-                self.check(f"dexasm-check {form} {words}", is_so and seen[2].count("\n") == 1, seen)
+                self.check_equal(f"{form} {words}", seen,
+                                 (3, ANY, Begins("dexasm-check: nothing was looked at: ") & ONE_LINE))
                 if form == "--sarif":
                     done = json.loads(seen[1])["runs"][0]["invocations"][0]
                     notes = [note["descriptor"]["id"] for note in done["toolExecutionNotifications"]]
                     want = 3, [*["skipped"] * (words == ["others"]), "nothing"]
-                    self.check(f"dexasm-check --sarif {words}", (done["exitCode"], notes) == want, seen)
-                    self.check_equal("dexasm-check --sarif, the schema", [*faults(json.loads(seen[1]))], [])
+                    self.check_equal(f"--sarif {words}", (done["exitCode"], notes), want)
+                    self.check_equal("--sarif, the schema", [*faults(json.loads(seen[1]))], [])
                 if form == "--junit":
                     suite = ElementTree.fromstring(seen[1]).find("testsuite")
                     assert suite is not None
-                    is_so = suite.get("errors") == "1" and suite.get("tests") == str(len(suite)) and len(suite) >= 1
-                    self.check(f"dexasm-check --junit {words}", is_so, seen)
+                    self.check_equal(f"--junit {words}", (suite.get("errors"), suite.get("tests"), len(suite)),
+                                     ("1", str(len(suite)), Above(0)))
                 seen = checked(*[form] * bool(form), "--allow-empty", *words, at=at, given=given)
-                self.check(f"dexasm-check {form} --allow-empty {words}", seen[::2] == (0, ""), seen)
-        self.check("dexasm-check, what isn't there", checked("none", "--allow-empty", at=at)[0] == 3)
+                self.check_equal(f"{form} --allow-empty {words}", seen, (0, ANY, ""))
+        self.check_equal("what isn't there", checked("none", "--allow-empty", at=at)[0], 3)
         put(at, "a.zip", archive(("x", b"")))
-        self.check_equal("dexasm-check, an archive was looked at", checked(".", at=at)[0], 0)
+        self.check_equal("an archive was looked at", checked(".", at=at)[0], 0)
         for name, asks in (("dexasm-corpus", ("add", "c.db", "others")), ("dexasm-apk", ("check", "a.zip"))):
             for more, status in (((), 3), (("--allow-empty",), 0)):
-                seen = run([os.path.join(TOOLS, name), *asks, *more], at=at, **self.library())
-                is_so = seen[0] == status and seen[2].count("\n") == (status > 0)
-                self.check(f"{name} {asks} {more}, nothing to look at", is_so, seen)
-
-    def library(self) -> dict[str, Any]:
-        return {"DEXASM_LIBRARY": config.shared_library()} if config.shared_library() else {}
+                seen = run([os.path.join(TOOLS, name), *asks, *more], at=at, **library())
+                self.check_equal(f"{name} {asks} {more}, nothing to look at", (seen[0], seen[2].count("\n")),
+                                 (status, int(status > 0)))
 
     def test_terminal(self) -> None:
         """Colours where they are asked for, and a line of progress that is gone at the end."""
-        at, file = room("check terminal"), assembled(LISTING)
-        put(at, "a.dex", file)
-        put(at, "b.dex", damaged(file))
+        file = assembled(LISTING)
+        at = room("check terminal", {"a.dex": file, "b.dex": damaged(file)})
         plain = "a.dex: ok\nb.dex:0x08: error: 8 Checksum: the Adler-32 differs\n"
         colored = (
             f"a.dex: {ESC}[32mok{ESC}[0m\nb.dex:0x08: {ESC}[1;31merror:{ESC}[0m 8 Checksum: the Adler-32 differs\n"
         )
         for word, want in (("auto", plain), ("never", plain), ("always", colored)):
             seen = checked("--color", word, "a.dex", "b.dex", at=at)
-            self.check_equal(f"dexasm-check --color {word}", seen, (1, want, ""))
+            self.check_equal(f"--color {word}", seen, (1, want, ""))
         for env, want in (({"NO_COLOR": ""}, colored), ({"NO_COLOR": "1"}, plain)):
-            shown = on_terminal(at, "a.dex", "b.dex", **env)
-            is_so = all(line in shown for line in want.splitlines())
-            self.check(f"dexasm-check on a terminal, {env}", is_so and (want == colored) == ("[32m" in shown), shown)
-            self.check(
-                f"dexasm-check on a terminal, {env}, the line goes", not re.search(r"of 2 files[^\r]*$", shown), shown
-            )
+            shown = on_terminal(at, "dexasm-check", "a.dex", "b.dex", **env)[1]
+            self.check_equal(f"on a terminal, {env}",
+                             ([line for line in want.splitlines() if line not in shown], "[32m" in shown),
+                             ([], want == colored))
+            self.check_equal(f"on a terminal, {env}, the line goes", re.search(r"of 2 files[^\r]*$", shown), EMPTY)
 
     def test_hooks_file(self) -> None:
         """The hook of pre-commit.com: which names it takes, and what it does with them."""
         text = get(TOP, ".pre-commit-hooks.yaml").decode()
         field = dict(re.findall(r"^[ -] (\w+): (.*)$", text, re.M))
         pattern = re.compile(field["files"])
-        self.check(".pre-commit-hooks.yaml takes links", field["types_or"] == "[file, symlink]", field)
+        self.check_equal(".pre-commit-hooks.yaml takes links", field["types_or"], "[file, symlink]")
         for name in ("a.dex", "f/X.DEX", "x.apk", "X.Jar", "a.zip", "--seconds=9.dex", "a.aar", "b.AAB", "c.apks"):
-            self.check(f".pre-commit-hooks.yaml takes {name}", pattern.search(name) is not None)
+            self.check_equal(f".pre-commit-hooks.yaml takes {name}", pattern.search(name), Other(None))
         for name in ("a.dexx", "a.apk.txt", "dex", "adex"):
-            self.check(f".pre-commit-hooks.yaml leaves {name}", pattern.search(name) is None)
+            self.check_equal(f".pre-commit-hooks.yaml leaves {name}", pattern.search(name), None)
         at = room("check hooks file")
         entry = shlex.split(field["entry"])
         names = ("a.dex", "--seconds=9.dex", "-x.dex", "new\nline.dex")
         for name in names:
             put(at, name, assembled(LISTING))
         words = [os.path.join(TOP, entry[0]), *entry[1:], *names]
-        self.check(
-            ".pre-commit-hooks.yaml, accepted", run(words, at=at) == (0, "", "") and field["language"] == "script"
-        )
+        self.check_equal(".pre-commit-hooks.yaml, accepted", (run(words, at=at), field["language"]),
+                         ((0, "", ""), "script"))
         put(at, "-x.dex", b"no file")
         seen = run(words, at=at)
-        self.check(
-            ".pre-commit-hooks.yaml, refused", seen[0] == 1 and seen[1].startswith("-x.dex:0x07: error: 1 "), seen
-        )
+        self.check_equal(".pre-commit-hooks.yaml, refused", seen[:2], (1, Begins("-x.dex:0x07: error: 1 ")))
 
     def test_build(self) -> None:
         """Which build answers: by where it lies, or by the sums of its package. With DEXASM=proved no other one does."""
@@ -1199,9 +1072,9 @@ d/inner/b.dex: ok
             self.check_equal(f"{place} {said[:9]}", told, {"version": version, "build": want, "sha256": sha})
             seen = by_command("a.dex", at=at, **env, DEXASM="proved")
             # (the launcher would make a proved one, which it can't here)
-            is_told = f" is the {want} build" in seen[2] or place == "dexasm" and "status 70" in seen[2]
-            is_so = seen == (0, "a.dex: ok\n", "") if want == "proved" else seen[:2] == (3, "") and is_told
-            self.check(f"{place} {said[:9]}, DEXASM=proved", is_so, seen)
+            why = Has("status 70" if place == "dexasm" else f" is the {want} build")
+            expected = (0, "a.dex: ok\n", "") if want == "proved" else (3, "", why)
+            self.check_equal(f"{place} {said[:9]}, DEXASM=proved", seen, expected)
         os.remove(proved_by)
 
     def test_version(self) -> None:
@@ -1211,7 +1084,7 @@ d/inner/b.dex: ok
             seen = run([os.path.join(TOOLS, name), "--version"])
             lines = seen[1].splitlines()
             is_build = name == "dexasm-check" and re.fullmatch(BUILD, lines.pop()) is not None
-            self.check(f"{name} --version", seen[::2] == (0, "") and lines == [f"{name} {want}"], seen)
-            self.check(f"{name} --version, its build", is_build == (name == "dexasm-check"), seen)
+            self.check_equal(f"{name} --version", (seen, lines), ((0, ANY, ""), [f"{name} {want}"]))
+            self.check_equal(f"{name} --version, its build", is_build, name == "dexasm-check")
         seen = run([os.path.join(TOOLS, "dexasm-check"), "--version"], DEXASM_COMMAND="/bin/true")
-        self.check("dexasm-check --version by /bin/true", seen[:2] == (3, "") and seen[2].count("\n") == 1, seen)
+        self.check_equal("--version by /bin/true", seen, (3, "", ONE_LINE))

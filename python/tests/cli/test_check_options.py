@@ -3,7 +3,7 @@ import json
 import os
 
 from .archive_files import archive
-from .support import ESC, HEAD, NAMES, TOP, HelperTest, assembled, get, is_one_line, put, room
+from .support import ESC, HEAD, NAMES, TOP, HelperTest, Line, assembled, get, put, room
 from .test_check import checked, damaged, faults, is_safe
 from .test_extras import annotated
 
@@ -54,18 +54,14 @@ class CheckOptions(HelperTest):
         """By name, by a folder's name, by path; each with a line."""
         at, file = room("check exclude"), assembled(GOOD)
         for name in (
-            "a/x.dex",
-            "a/fixtures/bad.dex",
-            "fixtures/bad.dex",
-            "bad.dex",
-            *(f"n/{name}.dex" for name in NAMES),
+            "a/x.dex", "a/fixtures/bad.dex", "fixtures/bad.dex", "bad.dex", *(f"n/{name}.dex" for name in NAMES)
         ):
             put(at, name, damaged(file) if name.endswith("bad.dex") else file)
         for patterns, left in (
             (["fixtures", "bad.dex"], 3), (["./fixtures/", "*bad*"], 3), (["bad.*"], 3), (["*/bad.dex", "bad.dex"], 3),
             (["a/fixtures", "fixtures/*", "/bad.dex", "bad.dex"], 3), (["?ad.dex", "[!a-z]*"], 3),
-            (["*"], 4 + len(NAMES)),
-        ):  # fmt: skip
+            (["*"], 4 + len(NAMES))
+        ):
             with self.subTest(patterns):
                 seen = checked(*(word for one in patterns for word in ("--exclude", one)), ".", at=at)
                 lines = seen[1].splitlines()
@@ -78,35 +74,31 @@ class CheckOptions(HelperTest):
         self.assertEqual(checked("--exclude", "b", "bad.dex", at=at)[0], 1)
         seen = checked("--json", "--exclude", f"{ESC}[31m*", "--exclude", "bad*", "bad.dex", "a/x.dex", at=at)
         told = [json.loads(line) for line in seen[1].splitlines()]
-        self.assertEqual(
-            [(one["status"], one["why"]) for one in told], [("skipped", "excluded by --exclude bad*"), ("ok", None)]
-        )
+        self.assertEqual([(one["status"], one["why"]) for one in told],
+                         [("skipped", "excluded by --exclude bad*"), ("ok", None)])
         self.assertEqual(checked("--exclude", "bad*", "bad.dex", at=at)[0], 3)
 
     def test_baseline(self) -> None:
         """What was printed by --json is accepted, and nothing else."""
-        at, file = room("check baseline"), assembled(GOOD)
-        put(at, "a.dex", damaged(file))
-        put(at, "b.apk", archive(("classes.dex", file), ("classes2.dex", damaged(file))))
-        put(at, "c.txt", NO_SUPER)
-        put(at, "d.txt", HEAD + b"nop\n")
+        file = assembled(GOOD)
+        at = room("check baseline", {
+            "a.dex": damaged(file), "b.apk": archive(("classes.dex", file), ("classes2.dex", damaged(file))),
+            "c.txt": NO_SUPER, "d.txt": HEAD + b"nop\n"
+        })
         words = "--lint", "a.dex", "b.apk", "c.txt", "d.txt", "none"
         put(at, "known", checked("--json", *words, at=at)[1].encode())
         seen = checked("--baseline", "known", *words, at=at)
         self.assertEqual(seen[0], 3)  # (what can't be read isn't known)
-        self.assertEqual(
-            [line.partition(": ")[2][:6] for line in seen[1].splitlines()],
-            ["known:", "ok", "known:", "LA;: k", "known:", "error:"],
-        )
+        self.assertEqual([line.partition(": ")[2][:6] for line in seen[1].splitlines()],
+                         ["known:", "ok", "known:", "LA;: k", "known:", "error:"])
         self.assertEqual(checked("--baseline", "known", *words[:-1], at=at)[0], 0)
         document = json.loads(checked("--sarif", "--baseline", "known", *words[:-1], at=at)[1])
         self.assertEqual([*faults(document)], [])
         results = document["runs"][0]["results"]
         self.assertEqual([[one["kind"] for one in result["suppressions"]] for result in results], [["external"]] * 4)
         self.assertEqual(checked("--github", "--baseline", "known", *words[:-1], at=at), (0, "", ""))
-        self.assertIn(
-            'failures="0" errors="0" skipped="4"', checked("--junit", "--baseline", "known", *words[:-1], at=at)[1]
-        )
+        self.assertIn('failures="0" errors="0" skipped="4"',
+                      checked("--junit", "--baseline", "known", *words[:-1], at=at)[1])
         put(at, "c.txt", b"# a line before\n" + HEAD + b"nop\n")
         self.assertEqual(checked("--baseline", "known", "c.txt", at=at)[0], 1)
         put(at, "e.dex", damaged(file))
@@ -115,24 +107,16 @@ class CheckOptions(HelperTest):
         self.assertEqual(checked("--baseline", "known", "a.dex", at=at)[0], 1)
 
     def test_hostile_baseline(self) -> None:
-        at = room("check hostile baseline")
-        put(at, "a.dex", assembled(GOOD))
+        at = room("check hostile baseline", {"a.dex": assembled(GOOD)})
         for data in (
-            b"x",
-            b"[]",
-            b"1\n",
-            b'{"status": "refused"}',
-            b'{"status": []}',
-            b"[" * 100000,
-            b"\xff",
-            b"null",
-            b'{"status": "refused", "file": {}}',
+            b"x", b"[]", b"1\n", b'{"status": "refused"}', b'{"status": []}', b"[" * 100000, b"\xff", b"null",
+            b'{"status": "refused", "file": {}}'
         ):
             with self.subTest(data[:20]):
                 put(at, "known", data)
                 seen = checked("--baseline", "known", "a.dex", at=at)
                 self.assertEqual(seen[:2], (3, ""), seen)
-                self.assertTrue(is_one_line(seen[2], "dexasm-check: known: line 1 is no verdict of --json"), seen)
+                self.assertEqual(seen[2], Line("dexasm-check: known: line 1 is no verdict of --json"))
         self.assertEqual(checked("--baseline", "none", "a.dex", at=at)[0], 3)
         put(at, "known", b"")
         self.assertEqual(checked("--baseline", "known", "a.dex", at=at), (0, "a.dex: ok\n", ""))
@@ -145,39 +129,33 @@ class CheckOptions(HelperTest):
         for given, want in (
             (file, (0, "-: ok\n", "")), (GOOD, (0, "-: ok\n", "")), (b"", (1, "-:0x00: error: 1 TooShort: ", "")),
             (file[:99], (1, "-:0x63: error: 1 TooShort: ", "")),
-            (archive(("classes.dex", file)), (0, "-!classes.dex: ok\n", "")),
-        ):  # fmt: skip
+            (archive(("classes.dex", file)), (0, "-!classes.dex: ok\n", ""))
+        ):
             seen = checked("-", at=at, given=given, TMPDIR="tmp")
             self.assertEqual((seen[0], seen[1][: len(want[1])], seen[2]), want)
-        self.assertEqual(
-            checked("a.dex", "-", "a.dex", at=at, given=file, TMPDIR="tmp")[1], "a.dex: ok\n-: ok\na.dex: ok\n"
-        )
+        self.assertEqual(checked("a.dex", "-", "a.dex", at=at, given=file, TMPDIR="tmp")[1],
+                         "a.dex: ok\n-: ok\na.dex: ok\n")
         seen = checked("--memory", "1M", "-", at=at, given=bytes(3 << 20), TMPDIR="tmp")
         self.assertEqual(seen, (4, "", "dexasm-check: standard input: it is longer than --memory\n"))
         self.assertEqual(os.listdir(os.path.join(at, "tmp")), [])
         self.assertEqual(checked("-", at=at, given=file, TMPDIR="none")[0], 0)
 
     def test_paths_from(self) -> None:
-        at, file = room("check paths"), assembled(GOOD)
-        put(at, "a.dex", file)
-        put(at, "b\n.dex", damaged(file))
-        put(at, "paths", b"a.dex\0b\n.dex\0\0none")
+        file = assembled(GOOD)
+        at = room("check paths", {"a.dex": file, "b\n.dex": damaged(file), "paths": b"a.dex\0b\n.dex\0\0none"})
         for words, given in ((["paths"], b""), (["-"], get(at, "paths"))):
             seen = checked("--paths-from", *words, at=at, given=given)
             self.assertEqual(seen[0], 3)
             self.assertEqual([line.split(":")[0] for line in seen[1].splitlines()], ["a.dex", "b\\x0a.dex", "none"])
         for words in (["-", "-"], ["-", "a.dex", "-"]):
             self.assertEqual(checked("--paths-from", *words, at=at)[:2], (2, ""))
-        self.assertEqual(
-            checked("--paths-from", "none", at=at), (3, "", "dexasm-check: none: No such file or directory\n")
-        )
+        self.assertEqual(checked("--paths-from", "none", at=at),
+                         (3, "", "dexasm-check: none: No such file or directory\n"))
         self.assertEqual(checked(at=at)[:2], (2, ""))
 
     def test_counts(self) -> None:
         """--program counts what a file has beside its program."""
-        at = room("check counts")
-        put(at, "a.dex", annotated())
-        put(at, "b.dex", damaged(annotated()))
+        at = room("check counts", {"a.dex": annotated(), "b.dex": damaged(annotated())})
         told = [json.loads(line) for line in checked("--json", "--program", "a.dex", "b.dex", at=at)[1].splitlines()]
         self.assertEqual([one["annotations"] for one in told], [{"build": 1, "runtime": 2, "system": 1}, None])
         self.assertEqual([one["debug_methods"] for one in told], [1, None])

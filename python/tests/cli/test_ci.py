@@ -10,10 +10,11 @@ from collections.abc import Callable, Iterable
 from typing import Any
 
 from tests import config
+from tests.matchers import ANY, ONE_LINE, SOME, Begins, Has, Lacks, Other
 from .archive_files import archive, changed
 from .ci_lines import alone, properties
 from .recipe_cases import EVIL, IDENTITY, TEXT, TURNED, many
-from .support import TOP, Ended, HelperTest, assembled, environment, get, put, room, run, shell
+from .support import TOP, Ended, HelperTest, assembled, environment, get, put, puts, room, run, shell
 
 HOOK = os.path.join(TOP, "docs/ci/pre-commit")
 COMMIT = ("git", "commit", "-qm", "a")
@@ -135,25 +136,24 @@ class ReadmeLine(HelperTest):
     """The build that README's line has to stop, and the one that goes on."""
 
     def is_stopped(self, what: str, seen: Ended, at: str = "") -> None:
-        self.check(f"README's line, {what}", seen[:2] == (1, "") and "Traceback" not in seen[2], seen)
+        self.check_equal(f"README's line, {what}", seen, (1, "", Lacks("Traceback")))
         if at:
             document = json.loads(get(at, "dexasm.sarif"))
             found, run_of = document["runs"][0]["results"], document["runs"][0]["invocations"][0]
-            is_so = bool(found) or run_of["executionSuccessful"] is False and run_of["toolExecutionNotifications"]
-            self.check(f"README's line, {what}: the report says so", is_so, document)
+            why = found or not run_of["executionSuccessful"] and run_of["toolExecutionNotifications"]
+            self.check_equal(f"README's line, {what}: the report says so", why, SOME)
 
     def test_broken(self) -> None:
         """What is in the folder beside a good file."""
         file = assembled(TEXT)
-        for number, (what, puts) in enumerate(BROKEN.items()):
+        for number, (what, change) in enumerate(BROKEN.items()):
             at = os.path.join(room(f"readme {number}"), "build")
             put(at, "good.dex", file)
             if number == 0:
                 self.check_equal("README's line, a good file", build(at), (0, "went on\n", ""))
-            puts(at, file)
+            change(at, file)
             self.is_stopped(what, build(at), at)
-        at = room("readme good")
-        put(at, "a.aab", archive(("base/dex/classes.dex", file)))
+        at = room("readme good", {"a.aab": archive(("base/dex/classes.dex", file))})
         self.check_equal("README's line, a good archive", build(at), (0, "went on\n", ""))
 
     def test_nothing_there(self) -> None:
@@ -173,17 +173,16 @@ class ReadmeLine(HelperTest):
             if shutil.which("setpriv") is None or run([*before.split(), "true"])[0] != 0:
                 self.skipTest("root may read all files here, and setpriv can't take that away")
         for what, name in (("a file", "x.dex"), ("a file of another name", "x.dat"), ("a folder", "inner")):
-            at = room(f"readme unreadable {name}")
-            put(at, "good.dex", assembled(TEXT))
-            put(at, "inner/x.dex" if name == "inner" else name, assembled(TEXT))
+            at = room(f"readme unreadable {name}", {
+                "good.dex": assembled(TEXT), "inner/x.dex" if name == "inner" else name: assembled(TEXT)
+            })
             os.chmod(os.path.join(at, name), 0)
             self.is_stopped(f"{what} that may not be read", build(at, before), at)
             os.chmod(os.path.join(at, name), 0o700)
 
     def test_surroundings(self) -> None:
         """What runs fails: a worker is killed, there is no room for the report, and dexasm isn't there."""
-        at = room("readme surroundings")
-        put(at, "good.dex", assembled(TEXT))
+        at = room("readme surroundings", {"good.dex": assembled(TEXT)})
         does = b'#!/bin/sh\n[ "$1" = --version ] && exec dexasm "$@"\nkill -9 $PPID\n'
         killer = put(room("readme killer"), "dexasm", does)
         os.chmod(killer, 0o755)
@@ -206,17 +205,13 @@ class ContinuousIntegration(HelperTest):
             at = repository(f"hook {name!r}".replace("/", "_"))
             path = name.lstrip("./") + ".dex" if name in ("./c", "/b") else f"{name}.dex"
             seen = staged(at, path, assembled(TEXT)), committed(at)
-            self.check(f"hook, {path!r} is accepted", seen[1][0] == 0, seen)
+            self.check_equal(f"hook, {path!r} is accepted", seen[1][0], 0)
             staged(at, path, b"no file")
             put(at, path, assembled(TEXT))
             seen = committed(at)
-            is_so = (
-                seen[0] == 1
-                and "error: 1 TooShort: " in seen[2]
-                and seen[2].count("\n") == 1
-                and seen[2][:-1].isprintable()
-            )
-            self.check(f"hook, {path!r} is refused as it is staged", is_so and "PWNED" not in os.listdir(at), seen)
+            self.check_equal(f"hook, {path!r} is refused as it is staged",
+                             (seen, seen[2][:-1].isprintable(), os.listdir(at)),
+                             ((1, ANY, Has("error: 1 TooShort: ") & ONE_LINE), True, Lacks("PWNED")))
 
     def test_kinds(self) -> None:
         """A name in any case, archives too, and what is no file; what has no .dex file in it isn't kept out."""
@@ -225,29 +220,29 @@ class ContinuousIntegration(HelperTest):
             at = repository(f"hook kind {number}")
             staged(at, name, refused(b"no file", name))
             seen = committed(at)
-            is_so = seen[0] == 1 and f"pre-commit: {name}" in seen[2] and "1 TooShort: " in seen[2] and count(at) == "0"
-            self.check(f"hook, {name}", is_so, seen)
+            self.check_equal(f"hook, {name}", (seen, count(at)),
+                             ((1, ANY, Has(f"pre-commit: {name}", "1 TooShort: ")), "0"))
             staged(at, name, refused(assembled(TEXT), name))
             seen = committed(at)
-            self.check(f"hook, {name}, accepted", (seen[0], seen[2], count(at)) == (0, "", "1"), seen)
+            self.check_equal(f"hook, {name}, accepted", (seen, count(at)), ((0, ANY, ""), "1"))
         at = repository("hook other kinds")
         staged(at, "gradle-wrapper.jar", archive(("a.class", b"x")))
         staged(at, "x.zip", archive())
         staged(at, "x.dexx", b"no file")
-        self.check("hook, archives without a .dex file, other names", committed(at)[0] == 0 and count(at) == "1")
+        self.check_equal("hook, archives without a .dex file, other names", (committed(at)[0], count(at)), (0, "1"))
         staged(at, "x.jar", b"no archive")
         seen = committed(at)
-        self.check("hook, no archive", seen[0] == 1 and "x.jar: " in seen[2], seen)
+        self.check_equal("hook, no archive", seen, (1, ANY, Has("x.jar: ")))
         at = repository("hook link")
         put(at, "blob", b"no file")
         os.symlink("blob", os.path.join(at, "a.dex"))
         run(["git", "add", "-A"], at=at)
         seen = committed(at)
-        self.check("hook, a link", seen[0] == 1 and "a.dex: " in seen[2] and count(at) == "0", seen)
+        self.check_equal("hook, a link", (seen, count(at)), ((1, ANY, Has("a.dex: ")), "0"))
         at = repository("hook link of a file's bytes")
         put(at, "good", assembled(TEXT))
         seen = shell("git update-index --add --cacheinfo 120000,$(git hash-object -w good),a.dex", at), committed(at)
-        self.check("hook, a link whose bytes are a file", seen[1][0] == 1 and count(at) == "0", seen)
+        self.check_equal("hook, a link whose bytes are a file", (seen[1][0], count(at)), (1, "0"))
 
     def test_merged(self) -> None:
         """What a merge brings, by the hook's other name."""
@@ -259,8 +254,8 @@ class ContinuousIntegration(HelperTest):
         staged(at, "c", b"")
         seen += [committed(at), run(["git", "merge", "-qm", "b", "theirs"], at=at, **IDENTITY)]
         said = seen[-1][2]
-        is_so = seen[-1][0] == 1 and "b.dex:0x07: error: 1 TooShort: " in said and said.startswith("pre-merge-commit: ")
-        self.check("hook, a merge", is_so and count(at) == "3" and [one[0] for one in seen[:-1]] == [0] * 5, seen)
+        self.check_equal("hook, a merge", (seen[-1][0], said, count(at), [one[0] for one in seen[:-1]]),
+                         (1, Begins("pre-merge-commit: ") & Has("b.dex:0x07: error: 1 TooShort: "), "3", [0] * 5))
 
     def test_hook_fails(self) -> None:
         """Whatever git can't do, or dexasm or the disk, ends in failure."""
@@ -272,63 +267,59 @@ class ContinuousIntegration(HelperTest):
         for word in ("rev-parse", "hash-object", "diff-index", "cat-file"):
             seen = run(hook, at=at, **before(failing(f"hook git {word}", git, word)))
             # (without rev-parse, all files count as new)
-            self.check(f"hook, git {word} fails", seen[0] != 0 or word == "rev-parse", seen)
+            self.check_equal(f"hook, git {word} fails", seen[0], 0 if word == "rev-parse" else Other(0))
         seen = run(hook, at=at, **before(failing("hook git", git)))
-        self.check("hook, git fails", seen[0] != 0, seen)
+        self.check_equal("hook, git fails", seen[0], Other(0))
         put(at, "b.dex", b"no file")
         run(["git", "add", "-A"], at=at)
         for setting in ("diff.orderFile=/none", "diff.external=/none", "diff.relative=true", "core.quotePath=false"):
             seen = run(["git", "-c", setting, *COMMIT[1:]], at=at, **IDENTITY)
-            self.check(f"hook, {setting}", seen[0] != 0 and "b.dex:0x07: " in seen[2] and count(at) == "0", seen)
+            self.check_equal(f"hook, {setting}", (seen, count(at)), ((Other(0), ANY, Has("b.dex:0x07: ")), "0"))
         for name in ("GIT_LITERAL_PATHSPECS", "GIT_ICASE_PATHSPECS", "GIT_GLOB_PATHSPECS", "GIT_NOGLOB_PATHSPECS"):
             seen = committed(at, **{name: "1"})
-            self.check(f"hook, {name}", seen[0] != 0 and "b.dex:0x07: " in seen[2] and count(at) == "0", seen)
+            self.check_equal(f"hook, {name}", (seen, count(at)), ((Other(0), ANY, Has("b.dex:0x07: ")), "0"))
         seen = run(hook, at=room("hook nowhere"))
-        self.check("hook, no repository", seen[0] != 0, seen)
+        self.check_equal("hook, no repository", seen[0], Other(0))
         seen = committed(at, TMPDIR="/none")
-        self.check("hook, no folder for what it looks at", seen[0] != 0 and count(at) == "0", seen)
+        self.check_equal("hook, no folder for what it looks at", (seen[0], count(at)), (Other(0), "0"))
         run(["git", "rm", "-qf", "b.dex"], at=at)
         os.mkdir(os.path.join(at, "without"))
         os.symlink("/bin/true", os.path.join(at, "without", "dexasm"))
         ways = os.pathsep.join([alone(), os.path.join(at, "without")])
         seen = committed(at, **before(ways), DEXASM_COMMAND="")  # (which stands before the PATH)
-        self.check("hook, a dexasm that answers nothing", seen[0] != 0 and count(at) == "0", seen)
+        self.check_equal("hook, a dexasm that answers nothing", (seen[0], count(at)), (Other(0), "0"))
         seen = committed(at, PATH=os.path.dirname(git))
-        self.check("hook, no dexasm", seen[0] == 1 and count(at) == "0", seen)
+        self.check_equal("hook, no dexasm", (seen[0], count(at)), (1, "0"))
         seen = run(["bash", "-c", 'ulimit -f 0; exec "$@"', "-", *COMMIT], at=at, **IDENTITY)
-        self.check("hook, no room for what it looks at", seen[0] != 0 and count(at) == "0", seen)
+        self.check_equal("hook, no room for what it looks at", (seen[0], count(at)), (Other(0), "0"))
 
     def step_of(self) -> str:
         """The step of the workflow that looks, as a file."""
         text = get(TOP, "docs/ci/github-actions.yml").decode()
         found = re.findall(r"^ {8}run: \|\n((?: {10}.*\n)+)", text, re.M)
         steps = [re.sub(r"^ {10}", "", step, flags=re.M) for step in found]
-        self.check("workflow, its steps", len(steps) == 2 and all("${{" not in step for step in steps), steps)
+        self.check_equal("workflow, its steps", (len(steps), [step for step in steps if "${{" in step]), (2, []))
         return put(room("workflow step"), "step", steps[1].encode())
 
     def test_workflow(self) -> None:
         """The steps of the workflow, as bash runs them there, but the one that installs."""
         step, at = self.step_of(), room("workflow")
         bad = many(at) + 1  # (a link)
-        put(at, "a.apk", archive(("classes.dex", assembled(TEXT))))
-        put(at, "b.apk", b"no archive")
+        puts(at, {"a.apk": archive(("classes.dex", assembled(TEXT))), "b.apk": b"no archive"})
         for number, name in enumerate(LOOKED_AT):
             put(at, f"{number}/{name}", refused(b"no file", name))
         run(["git", "init", "-q", "."], at=at)
         run(["git", "add", "-A"], at=at)
         status, out, said = worked(step, at)
         lines = out.encode("latin1").decode("utf8").splitlines()
-        is_so = len(lines) == bad + 1 + len(LOOKED_AT)
-        is_so = is_so and all(line.startswith("refused: ") or properties(line) for line in lines)
-        is_so = is_so and all(line.isprintable() for line in lines)
+        others = [line for line in lines if not line.isprintable() or line[:9] != "refused: " and not properties(line)]
         self.check_equal("workflow, status and standard error", (status, said), (3, ""))  # (of an archive that is none)
-        self.check("workflow, what is refused", is_so and "PWNED" not in os.listdir(at), out)
+        self.check_equal("workflow, what is refused", (len(lines), others, os.listdir(at)),
+                         (bad + 1 + len(LOOKED_AT), [], Lacks("PWNED")))
         names = [one["locations"][0]["physicalLocation"]["artifactLocation"]["uri"] for one in uploaded(step)]
         self.check_equal("workflow, what is uploaded", len(names), bad + len(LOOKED_AT))  # (all but the link)
         self.check_equal("workflow, an archive that is uploaded", names.count("b.apk"), 1)
-        good = room("workflow good")
-        put(good, "a.dex", assembled(TEXT))
-        put(good, "gradle-wrapper.jar", archive(("a.class", b"x")))
+        good = room("workflow good", {"a.dex": assembled(TEXT), "gradle-wrapper.jar": archive(("a.class", b"x"))})
         run(["git", "init", "-q", "."], at=good)
         run(["git", "add", "-A"], at=good)
         self.check_equal("workflow, all is accepted", worked(step, good), (0, "", ""))
@@ -340,17 +331,17 @@ class ContinuousIntegration(HelperTest):
         git = shutil.which("git")
         assert git is not None  # (the repository was made by it)
         seen = worked(step, room("workflow nowhere"))
-        self.check("workflow, no repository", seen[0] != 0, seen)
+        self.check_equal("workflow, no repository", seen[0], Other(0))
         seen = worked(step, good, GIT_TEST_ASSUME_DIFFERENT_OWNER="1")
-        self.check("workflow, another one's repository", seen[0] != 0, seen)
+        self.check_equal("workflow, another one's repository", seen[0], Other(0))
         seen = worked(step, good, **before(failing("workflow git", git, "ls-files")))
-        self.check("workflow, git ls-files fails", seen[0] != 0, seen)
+        self.check_equal("workflow, git ls-files fails", seen[0], Other(0))
         seen = worked(step, good, TMPDIR="/none")
-        self.check("workflow, no folder for the list", seen[0] != 0, seen)
+        self.check_equal("workflow, no folder for the list", seen[0], Other(0))
         seen = worked(step, good, PATH=os.path.dirname(git))
         self.check_equal("workflow, no dexasm", seen[0], 127)
         seen = worked(step, good, RUNNER_TEMP="/none")
-        self.check("workflow, no folder for the report", seen[0] != 0, seen)
+        self.check_equal("workflow, no folder for the report", seen[0], Other(0))
         os.mkdir(os.path.join(good, "without"))
         os.symlink("/bin/true", os.path.join(good, "without", "dexasm"))
         ways = os.pathsep.join([alone(), os.path.join(good, "without")])
@@ -358,4 +349,4 @@ class ContinuousIntegration(HelperTest):
         self.check_equal("workflow, a dexasm that answers nothing", seen[0], 3)
         os.remove(os.path.join(good, "a.dex"))
         seen = worked(step, good)
-        self.check("workflow, a file that isn't there", seen[0] == 1 and "a.dex" in seen[1], seen)
+        self.check_equal("workflow, a file that isn't there", seen[:2], (1, Has("a.dex")))

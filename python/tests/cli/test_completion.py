@@ -2,6 +2,7 @@
 import os
 from collections.abc import Sequence
 
+from tests.matchers import Lacks
 from .support import NAMES, TOP, HelperTest, put, room, run, shell
 
 COMPLETION = f"{TOP}/contrib/completion"
@@ -48,7 +49,7 @@ class Completion(HelperTest):
         for word in ("'$(touch PWNED)'", "'`touch PWNED`'", "'a|;e touch'", "'$(touch'", "'*'"):
             completed(at, ("dexasm-diff", "a.dex", word))
             completed(at, ("dexasm", "list", word), "_dexasm")
-        self.check("bash runs no name", "PWNED" not in os.listdir(at))
+        self.check_equal("bash runs no name", os.listdir(at), Lacks("PWNED"))
 
     def test_zsh(self) -> None:
         self.need("zsh", "its completions aren't read")
@@ -59,5 +60,5 @@ class Completion(HelperTest):
         self.need("fish", "its completions aren't tried")
         text = f"source '{COMPLETION}/dexasm.fish'; complete -C 'dexasm-diff --color a'; complete -C 'dexasm-query c'"
         seen = run(["fish", "--no-config", "-c", text], at=room("completion fish"))
-        is_so = seen[0] == 0 and {"always", "auto", "calls", "classes"} <= set(seen[1].split())
-        self.check("fish completes", is_so, seen)
+        self.check_equal("fish completes", (seen[0], {"always", "auto", "calls", "classes"} <= set(seen[1].split())),
+                         (0, True))

@@ -3,35 +3,35 @@ test_full_output_of_dexasm_merge. A new helper needs a row in HELPERS.
 """
 import os
 import shlex
+import tempfile
 from collections.abc import Callable
 
+from tests.matchers import Begins, Lacks
+
 from .archive_files import archive
+from .shell_runs import fake
 
 from .support import (
-    ESC, HEAD, LISTING, NAMES, TOOLS, Ended, HelperTest, assembled, has_pages, is_one_line, put, room, run, shell, tool
-)  # fmt: skip
+    ESC, HEAD, LISTING, NAMES, TOOLS, Ended, HelperTest, Line, assembled, has_pages, in_turn, puts, room, run, shell,
+    tool
+)
 
 # For each helper words with which it succeeds, where {} is the file that it reads; its name, and the words after that.
 HELPERS = {
-    "apk": ("check -- {}", "a.apk"),
-    "browse": ("--output pages -- {}", "a.dex"),
-    "check": ("-- {}", "a.dex"),
-    "close": ("--check -- {}", "a.dex"),
-    "corpus": ("sum -- {}", "c.db"),
-    "diff": ("--names -- {} b.dex", "a.dex"),
-    "explain": ("-- {} <refusal", "a.dex"),
-    "graph": ("--calls -- {}", "a.dex"),
-    "info": ("-- {}", "a.dex"),
-    "lint": ("-- {}", "lint.dex"),
-    "merge": ("--output merged -- {} c.txt", "b.dex"),
-    "query": ("classes -- {}", "a.dex"),
-    "rename": ("--output renamed -- {} A=Z", "a.dex"),
-    "size": ("-- {}", "a.dex"),
-    "split": ("-- {} split", "a.dex"),
+    "apk": ("check -- {}", "a.apk"), "browse": ("--output pages -- {}", "a.dex"), "check": ("-- {}", "a.dex"),
+    "close": ("--check -- {}", "a.dex"), "corpus": ("sum -- {}", "c.db"), "diff": ("--names -- {} b.dex", "a.dex"),
+    "explain": ("-- {} <refusal", "a.dex"), "graph": ("--calls -- {}", "a.dex"), "info": ("-- {}", "a.dex"),
+    "lint": ("-- {}", "lint.dex"), "merge": ("--output merged -- {} c.txt", "b.dex"),
+    "query": ("classes -- {}", "a.dex"), "rename": ("--output renamed -- {} A=Z", "a.dex"), "size": ("-- {}", "a.dex"),
+    "split": ("-- {} split", "a.dex")
 }
 FAILED = {"diff": 2}  # the status where something can't be read or written, if it isn't 3
 DIFFERENT = {"diff": 1}  # that of a run that goes well, if it isn't 0
 SILENT = ("browse", "merge", "rename", "split")  # on standard output
+# Commands in place of dexasm, by what they do, and the status of a helper over them.
+COMMANDS = {"kill -9 $$": 3, "exit 70": 3, "exit 1": 3, "true": 3, "echo x": 3, "exec cat given": 3,
+            "echo dexasm: out of memory >&2; exit 4": 4}
+WITHOUT = ("close", "corpus", "explain")  # what runs no command with these words
 UNREAD = "( sleep 0.3; {} ) | true; exit ${{PIPESTATUS[0]}}"
 PLAIN = {"PYTHONOPTIMIZE": "2", "PYTHONSAFEPATH": "1"}  # no docstrings, and no module beside the program
 
@@ -47,6 +47,7 @@ class Contract(HelperTest):
     """Each method `case_..` is a case."""
 
     at: str
+    files: list[str]
 
     @classmethod
     def setUpClass(cls) -> None:
@@ -54,13 +55,14 @@ class Contract(HelperTest):
         super().setUpClass()
         at = cls.at = room("contract")
         file = assembled(LISTING)
-        put(at, "a.dex", file)
-        put(at, "b.dex", assembled(HEAD + b"class LA; 0x1\nend class\n"))
-        put(at, "lint.dex", assembled(HEAD + b"class LA; 0x1\nsuper Ljava/lang/Object;\nend class\n"))
-        put(at, "c.txt", HEAD + b"class LB; 0x1\nsuper LA;\nend class\n")
-        put(at, "a.apk", archive(("classes.dex", file)))
-        put(at, "refusal", b"dexasm: refused 1 TooShort at 7\n")
+        puts(at, {
+            "a.dex": file, "b.dex": assembled(HEAD + b"class LA; 0x1\nend class\n"),
+            "lint.dex": assembled(HEAD + b"class LA; 0x1\nsuper Ljava/lang/Object;\nend class\n"),
+            "c.txt": HEAD + b"class LB; 0x1\nsuper LA;\nend class\n", "a.apk": archive(("classes.dex", file)),
+            "refusal": b"dexasm: refused 1 TooShort at 7\n", "given": HEAD + b"class LA; 0x1\nvirtual m\nend class\n"
+        })
         shell("dexasm-corpus add --processes 1 c.db a.dex", at)
+        cls.files = os.listdir(at)
 
     def ended(self, text: str, **env: str) -> Ended:
         return shell(text, self.at, **env)
@@ -68,7 +70,7 @@ class Contract(HelperTest):
     def assert_line(self, seen: Ended, status: int, name: str) -> None:
         """A status, nothing on standard output, and a line on standard error."""
         self.assertEqual(seen[:2], (status, ""), seen[2])
-        self.assertTrue(is_one_line(seen[2], f"dexasm-{name}: "), seen[2])
+        self.assertEqual(seen[2], Line(f"dexasm-{name}: "))
 
     def case_help(self, name: str) -> None:
         """The same without docstrings."""
@@ -106,22 +108,28 @@ class Contract(HelperTest):
             self.assert_line(seen, FAILED.get(name, 3), name)
             self.assertIn("none", seen[2])
 
+    def copied(self) -> str:
+        """Another folder with the same files."""
+        at = tempfile.mkdtemp(dir=self.at)
+        for name in self.files:
+            os.link(os.path.join(self.at, name), os.path.join(at, name))
+        return at
+
     def case_hostile_name(self, name: str) -> None:
         """As those of files that are there, and of such that aren't."""
-        want = self.ended(words_of(name))
-        for file in NAMES:
+
+        def seen_of(file: str) -> tuple[Ended, Ended, list[str]]:
+            at = self.copied()
+            os.link(os.path.join(at, HELPERS[name][1]), os.path.join(at, file))
+            there = shell(words_of(name, file), at)
+            os.unlink(os.path.join(at, file))
+            return there, shell(words_of(name, file), at), os.listdir(at)
+
+        status, lacks = DIFFERENT.get(name, 0), Lacks(ESC, "Traceback")
+        for (file,), seen in in_turn(seen_of, [(file,) for file in NAMES]):
             with self.subTest(file):
-                given = os.path.join(self.at, file)
-                os.link(os.path.join(self.at, HELPERS[name][1]), given)
-                seen = self.ended(f"rm -rf split merged renamed pages; {words_of(name, file)}")
-                os.unlink(given)
-                self.assertEqual(seen[0], want[0], seen)
-                self.assertNotIn(ESC, seen[1] + seen[2])
-                seen = self.ended(words_of(name, file))
-                self.assertEqual(seen[0], FAILED.get(name, 3), seen)
-                self.assertNotIn(ESC, seen[1] + seen[2])
-                self.assertNotIn("Traceback", seen[2])
-        self.assertNotIn("PWNED", os.listdir(self.at))
+                missing = (FAILED.get(name, 3), lacks, lacks)
+                self.assertEqual(seen, ((status, lacks, lacks), missing, Lacks("PWNED")))
 
     def case_full_output(self, name: str) -> None:
         seen = self.ended(f"rm -rf split; {words_of(name)} >/dev/full")
@@ -162,6 +170,30 @@ class Contract(HelperTest):
                     self.assert_line(self.ended(f"dexasm-{name} {word} >/dev/full", **env), FAILED.get(name, 3), name)
         self.assertEqual(self.ended(UNREAD.format(f"dexasm-{name} --help")), (0, "", ""))
 
+    def case_commands(self, name: str) -> None:
+        """Over a dexasm that isn't there, or whose output can't be parsed: a line, and the status of a failure."""
+        if name in WITHOUT:
+            self.skipTest("it runs no command")
+
+        def seen_of(does: str, _: int) -> tuple[Ended, list[str]]:
+            at = self.copied()
+            path = does if does[0] == "/" else fake(at, "fake", does)
+            return shell(words_of(name), at, DEXASM_COMMAND=path), os.listdir(at)
+
+        begins = "classes.dex: dexasm" if name == "apk" else f"dexasm-{name}: "
+        for (does, status), seen in in_turn(seen_of, COMMANDS.items()):
+            with self.subTest(does):
+                # (a worker tells no reason why it doesn't start)
+                status = 3 if name == "check" else FAILED.get(name, status)
+                # (these don't parse a listing)
+                is_text = "given" in does and name in ("diff", "split")
+                want = (0, "", "") if is_text else (status, "", Line(begins))
+                self.assertEqual(seen, (want, Lacks("merged", "pages", "renamed")))
+
+    def case_hostile_option(self, name: str) -> None:
+        seen = run([os.path.join(TOOLS, f"dexasm-{name}"), f"--{ESC}[31m\n"], at=self.at)
+        self.assertEqual(seen, (2, "", Begins(f"usage: dexasm-{name} ") & Lacks(ESC)))
+
     def case_plain_python(self, name: str) -> None:
         """A Python without docstrings, and one that says what isn't closed."""
         for env in (PLAIN, {"PYTHONWARNINGS": "error::ResourceWarning"}):
@@ -179,11 +211,10 @@ class Options(HelperTest):
 
     def test_twice(self) -> None:
         """An option is given once, but for those that are lists."""
-        at = room("contract twice")
-        put(at, "a.dex", assembled(LISTING))
+        at = room("contract twice", {"a.dex": assembled(LISTING)})
         for words in (
             "merge -o x --output y a.dex", "check -q a.dex -q", "check --jobs 1 --jobs=2 a.dex", "info --json --json a"
-        ):  # fmt: skip
+        ):
             with self.subTest(words):
                 seen = shell(f"dexasm-{words}", at)
                 self.assertEqual(seen[:2], (2, ""))
@@ -193,13 +224,9 @@ class Options(HelperTest):
 
     def test_short(self) -> None:
         """-o and -q, as the command has them."""
-        at = room("contract short")
-        put(at, "a.dex", assembled(LISTING))
+        at = room("contract short", {"a.dex": assembled(LISTING)})
         for words in (
-            "close -q a.dex -o b.dex",
-            "merge -q a.dex -o c.dex",
-            "rename -q a.dex A=Z -o d.dex",
-            "check -q a.dex",
+            "close -q a.dex -o b.dex", "merge -q a.dex -o c.dex", "rename -q a.dex A=Z -o d.dex", "check -q a.dex"
         ):
             self.assertEqual(shell(f"dexasm-{words}", at), (0, "", ""), words)
         self.assertEqual(sorted(os.listdir(at)), ["a.dex", "b.dex", "c.dex", "d.dex"])

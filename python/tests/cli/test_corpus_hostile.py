@@ -15,9 +15,10 @@ import struct
 from collections.abc import Callable, Iterable, Iterator
 
 from tests import sought
+from tests.matchers import ANY, SOME, Either, Ends, Has, Lacks, Other, That
 from .archive_files import archive
 from .corpus_cases import WIDE, CorpusTest, asked, padded, programs, rows, sums
-from .support import ESC, HEAD, TOOLS, TOP, Ended, assembled, can_trace, get, is_one_line, put, room, run, shell, tool
+from .support import ESC, HEAD, TOOLS, TOP, Ended, Line, assembled, get, put, puts, room, run, shell, tool
 from .shell_runs import each, is_line
 
 
@@ -96,21 +97,10 @@ CELLS |= {"=HYPERLINK(A1)": "'=HYPERLINK(A1)"}
 
 # Addresses at which somebody else could answer, and at which nobody else can.
 OTHERS = (
-    "tcp://10.0.0.1:8786",
-    "10.0.0.1:8786",
-    "tcp://example.org:8786",
-    "localhost.example.org:8786",
-    "tcp://127.0.0.1@example.org:8786",
-    "tcp://127.0.0.1.example.org:8786",
-    "tcp://0.0.0.0:8786",
-    "ucx://127.0.0.1:8786",
-    "ws://10.0.0.1:8786",
-    "inproc://127.0.0.1/1/1",
-    "tcp://127.0.0.1:8786,tcp://10.0.0.1:8786",
-    "tcp://[::2]:8786",
-    "tcp://127.0.0.1:8786\nx",
-    "tls:10.0.0.1:8786",
-    "x tls://10.0.0.1:8786",
+    "tcp://10.0.0.1:8786", "10.0.0.1:8786", "tcp://example.org:8786", "localhost.example.org:8786",
+    "tcp://127.0.0.1@example.org:8786", "tcp://127.0.0.1.example.org:8786", "tcp://0.0.0.0:8786",
+    "ucx://127.0.0.1:8786", "ws://10.0.0.1:8786", "inproc://127.0.0.1/1/1", "tcp://127.0.0.1:8786,tcp://10.0.0.1:8786",
+    "tcp://[::2]:8786", "tcp://127.0.0.1:8786\nx", "tls:10.0.0.1:8786", "x tls://10.0.0.1:8786"
 )
 OURS = ("tcp://127.0.0.1:1", "127.0.0.1:1", "localhost:1", "tcp://[::1]:1", "tls://10.0.0.1:1")
 
@@ -132,11 +122,9 @@ class HostileCorpus(CorpusTest):
             jobs = "add --processes 1 e.db f", others[number % 5], others[(number + 2) % 5]
             texts = [f"dexasm-corpus {job}" for job in jobs]
             for text, seen in limited(texts, at):
-                is_so = seen[:2] == (3, "") and is_one_line(seen[2], "dexasm-corpus: e.db: its tables, indexes, ")
-                self.check(f"{text}, a database with {name}", is_so, seen)
-            self.check(
-                f"dexasm-corpus, a database with {name} stays", get(at, "e.db") == before and not here(at, "m.db")
-            )
+                self.check_equal(f"{text}, a database with {name}", seen,
+                                 (3, "", Line("dexasm-corpus: e.db: its tables, indexes, ")))
+            self.check_equal(f"a database with {name} stays", (get(at, "e.db"), here(at, "m.db")), (before, False))
 
     def test_rows(self) -> None:
         """Rows that dexasm-corpus doesn't write."""
@@ -146,38 +134,35 @@ class HostileCorpus(CorpusTest):
             for text, seen in limited(
                 [f"dexasm-corpus add --processes 1 {word} e.db f" for word in ("--again", "")], at
             ):
-                is_so = seen[:2] == (3, "") and is_one_line(seen[2], "dexasm-corpus: e.db: its table file has rows ")
-                self.check(f"{text}, a database with {name}", is_so, seen)
+                self.check_equal(f"{text}, a database with {name}", seen,
+                                 (3, "", Line("dexasm-corpus: e.db: its table file has rows ")))
             job = ("refused e.db", "same e.db", "sum e.db", "merge m.db e.db")[number % 4]
             for text, seen in limited([f"dexasm-corpus {job}"], at):
-                is_so = seen[0] in (0, 3) and (seen[2] == "" or is_one_line(seen[2], "dexasm-corpus: "))
-                self.check(f"{text}, a database with {name}", is_so, seen)
+                line = Either("", Line("dexasm-corpus: "))
+                self.check_equal(f"{text}, a database with {name}", seen, (Either(0, 3), ANY, line))
 
     def test_damages(self) -> None:
         """Bytes that were changed: a line that names the damaged database, or an answer."""
         at = self.prepared("hostile damages")
         changed(at, "plain.db", "vacuum")
         file = get(at, "plain.db")
-        put(at, "0.db", file.replace(b"TABLE string(", b"TABLE str\xffng ", 1))
-        put(at, "1.db", file.replace(b"TABLE string(", b"TABLE 'stri\x9b", 1))
+        puts(at, {
+            "0.db": file.replace(b"TABLE string(", b"TABLE str\xffng ", 1),
+            "1.db": file.replace(b"TABLE string(", b"TABLE 'stri\x9b", 1)
+        })
         random_ = random.Random(7)
         for number in range(2, 20):
             damaged = bytearray(file)
             for _ in range(random_.choice((1, 3, 30))):
                 damaged[random_.randrange(100, len(file) if number % 3 else 4096)] = random_.randrange(256)
             put(at, f"{number}.db", damaged[: random_.choice((None, None, random_.randrange(len(file))))])
-        jobs = (
-            "add --processes 1 {} f",
-            "strings --pattern {} '*'",
-            "sum {}",
-            "merge {}.m {}",
-            "callers --pattern {} '*'",
-        )
+        jobs = ("add --processes 1 {} f", "strings --pattern {} '*'", "sum {}", "merge {}.m {}",
+                "callers --pattern {} '*'")
         texts = [f"dexasm-corpus {jobs[number % 5].format(*[f'{number}.db'] * 2)}" for number in range(20)]
         texts += [f"dexasm-corpus {job.format(*['0.db'] * 2)}" for job in jobs[1:]]
         for text, seen in limited(texts, at):
-            is_told = seen[0] == 3 and is_line(seen[2]) and "unexpected" not in seen[2] and ".m:" not in seen[2]
-            self.check(f"{text}, damaged", is_told or seen[0] == 0 and seen[2] == "", seen)
+            line = That(is_line) & Lacks("unexpected", ".m:")
+            self.check_equal(f"{text}, damaged", seen, Either((0, ANY, ""), (3, ANY, line)))
 
     def test_names(self) -> None:
         """A message names the database that it is about."""
@@ -189,9 +174,7 @@ class HostileCorpus(CorpusTest):
             for words in ("merge {} c.db", "merge c.db {}", "libraries --known {} c.db", "libraries --known c.db {}"):
                 words = words.format(bad)
                 seen = tool("dexasm-corpus", *words.split(), at=at)
-                self.check(
-                    f"dexasm-corpus {words}", seen[0] == 3 and is_one_line(seen[2], f"dexasm-corpus: {bad}: "), seen
-                )
+                self.check_equal(words, seen, (3, ANY, Line(f"dexasm-corpus: {bad}: ")))
 
     def test_side_files(self) -> None:
         """SQLite deletes the file that a journal names, and writes into the -wal and -shm that it finds: neither is
@@ -225,8 +208,7 @@ class HostileCorpus(CorpusTest):
 
     def test_no_journal(self) -> None:
         """dexasm-corpus itself makes no rollback journal, which it would refuse after a kill."""
-        if not can_trace():
-            self.skipTest("no strace here")
+        self.need_trace()
         at = self.prepared("no journal")
         changed(at, "plain.db", "vacuum")
         for words in ("add --processes 1 new.db f", "add --processes 1 plain.db f", "merge other.db plain.db"):
@@ -239,14 +221,13 @@ class HostileCorpus(CorpusTest):
     def test_only_asked(self) -> None:
         """What only asks opens its databases to be read."""
         at = self.prepared("hostile asked")
-        if not can_trace():
-            return
+        self.need_trace()
         for words in ("same c.db", "sum c.db", "libraries --known k.db c.db", "merge m.db k.db"):
             shutil.copy(os.path.join(at, "c.db"), os.path.join(at, "k.db"))
             strace = ["strace", "-qq", "-f", "-e", "trace=openat,open", "-o", "log"]
             run([*strace, os.path.join(TOOLS, "dexasm-corpus"), *words.split()], at=at)
             opens = [line for line in get(at, "log").decode().splitlines() if '/c.db"' in line or '/k.db"' in line]
-            self.check(f"dexasm-corpus {words}", opens and all("O_RDONLY" in line for line in opens), opens)
+            self.check_equal(words, (opens, [line for line in opens if "O_RDONLY" not in line]), (SOME, []))
 
     def test_cells(self) -> None:
         """What a spreadsheet takes for a formula begins with an apostrophe, in each column; --csv-raw has it as it
@@ -262,7 +243,7 @@ class HostileCorpus(CorpusTest):
             seen = tool("dexasm-corpus", "strings", form, "--pattern", "c.db", "*", at=at)
             got = {(row[0], row[3].encode("latin1").decode()) for row in [*csv.reader(io.StringIO(seen[1]))][1:]}
             want = spelled | {(cell, f"{cell}.dex") for cell in cells} | {("\\uff1d1", f"{before}{WIDE}.dex")}
-            self.check(f"dexasm-corpus {form}", got == want, (got ^ want, seen))
+            self.check_equal(form, got, want)
 
     def test_sqlite(self) -> None:
         """RECIPES' queries by SQLite's own program: a path is obeyed by no terminal and looks like no other row."""
@@ -279,9 +260,12 @@ class HostileCorpus(CorpusTest):
         for query in queries:
             status, out, said = shell(f"{head}{query}", at)
             words = sought(r"\"([^\"]*)\"", query)[1]
-            is_so = (status, said) == (0, "") and out.isascii() and all(line.isprintable() for line in out.splitlines())
-            is_so = is_so and out.count("\n") == len(rows(at, words, "corpus.db")) > 0
-            self.check(f"RECIPES by sqlite3: {words[:60]}", is_so, (status, out, said))
+            self.check_equal(
+                f"RECIPES by sqlite3: {words[:60]}",
+                (status, said, out.isascii(), [line for line in out.splitlines() if not line.isprintable()],
+                 out.count("\n") == len(rows(at, words, "corpus.db")) > 0),
+                (0, "", True, [], True)
+            )
 
     def test_hashes(self) -> None:
         """Hashes that lie, and texts that stand twice: what is merged is found by its text all the same."""
@@ -290,14 +274,13 @@ class HostileCorpus(CorpusTest):
         lies = "update {0} set hash = 7; insert into {0}(hash, text) select 8, text from {0}"
         changed(at, "e.db", ";".join(lies.format(table) for table in ("word", "string")))
         for text, seen in limited(["dexasm-corpus merge m.db e.db", "dexasm-corpus merge m.db e.db c.db"], at):
-            is_so = seen == (0, "", "") and sums(at, "m.db") == want
-            self.check(f"{text}, hashes that lie", is_so, (seen, sums(at, "m.db")))
+            self.check_equal(f"{text}, hashes that lie", (seen, sums(at, "m.db")), ((0, "", ""), want))
         found, right = (asked(at, "callers", name, "Ll/B;->take(Ljava/lang/String;)V") for name in ("m.db", "c.db"))
-        self.check("dexasm-corpus callers, after a merge of hashes that lie", found == right != [], (found, right))
+        self.check("callers, after a merge of hashes that lie", found == right != [], (found, right))
         lost = "insert into name(class, member) select max(id) + 1, min(id) from word"
         changed(at, "n.db", lost)
         for text, seen in limited(["dexasm-corpus merge o.db n.db"], at):
-            self.check(f"{text}, a member of no class", seen == (0, "", "") and sums(at, "o.db") == want, seen)
+            self.check_equal(f"{text}, a member of no class", (seen, sums(at, "o.db")), ((0, "", ""), want))
 
     def test_believed(self) -> None:
         """A row that tells of one file what another one has: merge believes it, and merge --verify looks itself."""
@@ -323,13 +306,11 @@ class HostileCorpus(CorpusTest):
             for words in lies:
                 db.execute(words)
         seen = tool("dexasm-corpus", "merge", "believed.db", "lies.db", at=at)
-        self.check(
-            "dexasm-corpus merge believes", seen == (0, "", "") and sums(at, "believed.db") != sums(at, "true.db"), seen
-        )
+        self.check_equal("merge believes", (seen, sums(at, "believed.db")), ((0, "", ""), Other(sums(at, "true.db"))))
         seen = tool("dexasm-corpus", "merge", "--verify", "--processes", "1", "own.db", "lies.db", at=at)
         want = "lies.db: 4 files, 3 looked at anew, 1 not at hand: not verified, and left out\n"
-        self.check_equal("dexasm-corpus merge --verify, what it says", seen, (1, want, ""))
-        self.check_equal("dexasm-corpus merge --verify, what it takes", sums(at, "own.db"), sums(at, "true.db"))
+        self.check_equal("merge --verify, what it says", seen, (1, want, ""))
+        self.check_equal("merge --verify, what it takes", sums(at, "own.db"), sums(at, "true.db"))
         self.check_at_hand(at)
 
     def check_at_hand(self, at: str) -> None:
@@ -338,12 +319,10 @@ class HostileCorpus(CorpusTest):
         seen = tool("dexasm-corpus", "merge", "--verify", "--processes", "1", "less.db", "true.db", at=at)
         want = "true.db: 3 files, 2 looked at anew, 1 not at hand: not verified, and left out\n"
         paths = rows(at, "select path, entry from path", "less.db")
-        is_so = seen == (1, want, "") and ("b.dex", "") not in paths and ("a.dex", "") in paths
-        self.check("dexasm-corpus merge --verify, another file at its place", is_so, (seen, paths))
+        self.check_equal("merge --verify, another file at its place", (seen, paths),
+                         ((1, want, ""), Lacks(("b.dex", "")) & Has(("a.dex", ""))))
         for status, left, files in (
-            (0, 0, ["less.db"]),
-            (0, 0, ["less.db", "less.db"]),
-            (1, 1, ["less.db", "true.db"]),
+            (0, 0, ["less.db"]), (0, 0, ["less.db", "less.db"]), (1, 1, ["less.db", "true.db"])
         ):
             name = f"{len(files)}{left}.db"
             seen = tool("dexasm-corpus", "merge", "--verify", name, *files, at=at)
@@ -351,31 +330,25 @@ class HostileCorpus(CorpusTest):
                 len(files) - left
             )
             want += "true.db: 3 files, 2 looked at anew, 1 not at hand: not verified, and left out\n" * left
-            is_so = seen == (status, want, "") and sums(at, name) == sums(at, "less.db")
-            self.check(f"dexasm-corpus merge --verify of {files}", is_so, seen)
+            self.check_equal(f"merge --verify of {files}", (seen, sums(at, name)),
+                             ((status, want, ""), sums(at, "less.db")))
 
     def test_addresses(self) -> None:
         """Who answers at another machine's address could run programs here: nobody is asked there without --trust."""
-        at = room("hostile addresses")
-        put(at, "a.dex", assembled(HEAD))
+        at = room("hostile addresses", {"a.dex": assembled(HEAD)})
         # (in place of Dask: a module that tells who is asked)
-        put(
-            at,
-            "m/distributed/__init__.py",
-            b"def Client(address, **_):\n    raise OSError('asked ' + ascii(address))\n",
-        )
-        put(at, "m/distributed/diagnostics/__init__.py", b"")
-        put(at, "m/distributed/diagnostics/plugin.py", b"UploadFile = None\n")
+        puts(at, {
+            "m/distributed/__init__.py": b"def Client(address, **_):\n    raise OSError('asked ' + ascii(address))\n",
+            "m/distributed/diagnostics/__init__.py": b"", "m/distributed/diagnostics/plugin.py": b"UploadFile = None\n"
+        })
         for address in (*OTHERS, *OURS):
             texts = [
                 f"dexasm-corpus add {word} --scheduler {shlex.quote(address)} c.db a.dex" for word in ("", "--trust")
             ]
             for text, seen in each(texts, at, PYTHONPATH=os.path.join(at, "m")):
-                is_asked = seen[:2] == (3, "") and "asked " in seen[2] and is_one_line(seen[2], "dexasm-corpus: ")
-                is_refused = seen[:2] == (2, "") and seen[2].endswith("it wants tls:// or --trust\n")
-                self.check(text, is_asked if "--trust" in text or address in OURS else is_refused, seen)
+                asked = (3, "", Line("dexasm-corpus: ") & Has("asked "))
+                refused = (2, "", Ends("it wants tls:// or --trust\n"))
+                self.check_equal(text, seen, asked if "--trust" in text or address in OURS else refused)
         for words in ("--trust c.db a.dex", "--send c.db a.dex"):
             seen = tool("dexasm-corpus", "add", *words.split(), at=at)
-            self.check(
-                f"dexasm-corpus add {words}", seen[:2] == (2, "") and seen[2].endswith("are for --scheduler\n"), seen
-            )
+            self.check_equal(f"add {words}", seen, (2, "", Ends("are for --scheduler\n")))

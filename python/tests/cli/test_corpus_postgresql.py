@@ -51,4 +51,4 @@ class PostgresqlTest(CorpusTest):
             self.skipTest("no server of PostgreSQL begins here: its tables")
         self.check_equal("CORPUS: the rows of tables in PostgreSQL", seen[: len(TABLES)], want)
         self.check_equal("CORPUS: paths in PostgreSQL", sorted(seen[len(TABLES) :]), paths)
-        self.check("CORPUS: PostgreSQL has nothing to say", said == "", said)
+        self.check_equal("CORPUS: PostgreSQL has nothing to say", said, "")

@@ -23,23 +23,10 @@ import unittest
 from collections.abc import Callable
 from typing import Any, TypeVar
 
+from tests.matchers import ANY, EMPTY, SOME, Begins, Either, Ends, Matches, Other
 from .corpus_cases import APP, LIBRARY, CorpusTest, asked, programs, rows, slow, strange, sums
 from .support import (
-    ESC,
-    HEAD,
-    LIMIT,
-    LISTING,
-    TOOLS,
-    TOP,
-    assembled,
-    environment,
-    get,
-    is_one_line,
-    put,
-    room,
-    run,
-    scratch,
-    tool,
+    ESC, HEAD, LIMIT, LISTING, TOOLS, TOP, Line, assembled, environment, get, put, room, run, scratch, tool
 )
 
 CORPUS = os.path.join(TOOLS, "dexasm-corpus")
@@ -210,14 +197,10 @@ class CorpusRuns(CorpusTest):
             for one in ([running.pid] if who == "writer" else workers())[:1]:
                 kill(one)
             said = running.communicate(timeout=PATIENCE)[1]
-            self.check(
-                f"dexasm-corpus, its {who} is killed",
-                running.returncode in (0, -signal.SIGKILL) and said == b"",
-                (running.returncode, said),
-            )
+            self.check_equal(f"its {who} is killed", (running.returncode, said), (Either(0, -signal.SIGKILL), b""))
         self.added("what was left", at, "c.db", "d")
-        self.check("dexasm-corpus, killed, and gone on", sums(at) == want and is_whole(at), (sums(at), want))
-        self.check("dexasm-corpus, no worker stays", not [one for one in workers() if is_alive(one)])
+        self.check_equal("killed, and gone on", (sums(at), is_whole(at)), (want, True))
+        self.check_equal("no worker stays", [one for one in workers() if is_alive(one)], EMPTY)
 
     def test_beside(self) -> None:
         """Two commands make and fill one database."""
@@ -226,13 +209,12 @@ class CorpusRuns(CorpusTest):
         running = [begun(at, "add", "--processes", "1", "c.db", "d") for _ in range(2)]
         said = [one.communicate(timeout=PATIENCE)[1] for one in running]
         ends = [one.returncode for one in running]
-        self.check("dexasm-corpus, two at once", ends == [0, 0] and said == [b"", b""], (ends, said))
-        self.check("dexasm-corpus, two at once, their sum", sums(at) == want and is_whole(at), (sums(at), want))
+        self.check_equal("two at once", (ends, said), ([0, 0], [b"", b""]))
+        self.check_equal("two at once, their sum", (sums(at), is_whole(at)), (want, True))
 
     def test_held(self) -> None:
         """Another command has the database, which is still empty: this one waits."""
-        at = room("corpus held")
-        put(at, "a.dex", assembled(LISTING))
+        at = room("corpus held", {"a.dex": assembled(LISTING)})
         db = sqlite3.connect(os.path.join(at, "c.db"), isolation_level=None)
         db.execute("pragma journal_mode = memory")  # (as dexasm-corpus has it; a journal beside it would be refused)
         db.execute("begin immediate")
@@ -242,13 +224,13 @@ class CorpusRuns(CorpusTest):
         db.execute("rollback")
         db.close()
         said = running.communicate(timeout=PATIENCE)[1]
-        is_so = waits and (running.returncode, said) == (0, b"") and rows(at, "select count(*) from file") == [(1,)]
-        self.check("dexasm-corpus, while another one has the database", is_so, (waits, running.returncode, said))
+        self.check_equal("while another one has the database",
+                         (waits, running.returncode, said, rows(at, "select count(*) from file")),
+                         (SOME, 0, b"", [(1,)]))
 
     def test_interrupted(self) -> None:
         """Control-C while it looks at a file, and while it waits for paths."""
-        at = room("corpus interrupted")
-        put(at, "slow.dex", slow())
+        at = room("corpus interrupted", {"slow.dex": slow()})
         for what, path in (("a file", b"slow.dex\0"), ("paths", b"")):
             # (a shell may have begun this test without that signal)
             obeyed: dict[str, Any]
@@ -261,9 +243,8 @@ class CorpusRuns(CorpusTest):
             time.sleep(0.3)
             kill(running.pid, signal.SIGINT)
             said = running.communicate(timeout=PATIENCE)[1]
-            is_so = (running.returncode, said) == (130, b"") and is_whole(at)
-            self.check(f"dexasm-corpus, interrupted at {what}", is_so, (running.returncode, said))
-            self.check("dexasm-corpus, interrupted, no worker stays", not [one for one in workers() if is_alive(one)])
+            self.check_equal(f"interrupted at {what}", (running.returncode, said, is_whole(at)), (130, b"", True))
+            self.check_equal("interrupted, no worker stays", [one for one in workers() if is_alive(one)], EMPTY)
 
     def test_no_room(self) -> None:
         """A database that can't grow: what is in it stays, and with room the same command goes on."""
@@ -271,17 +252,16 @@ class CorpusRuns(CorpusTest):
         want = self.many(at, 120)
         self.added("without room for tables", at, "none.db", "d", want=3, says="dexasm-corpus: none.db: ", most=9000)
         self.added("with room at last", at, "none.db", "d")
-        self.check_equal("dexasm-corpus, tables after there was no room", sums(at, "none.db"), want)
+        self.check_equal("tables after there was no room", sums(at, "none.db"), want)
         self.added("few", at, "c.db", "d/1.dex")
         self.added("without room", at, "c.db", "d", want=3, says="dexasm-corpus: c.db: ", most=150000)
-        self.check("dexasm-corpus, without room", is_whole(at) and sums(at) != want)
+        self.check_equal("without room", (is_whole(at), sums(at)), (True, Other(want)))
         self.added("with room", at, "c.db", "d")
-        self.check("dexasm-corpus, with room", sums(at) == want and is_whole(at))
+        self.check_equal("with room", (sums(at), is_whole(at)), (want, True))
 
     def test_memory(self) -> None:
         """An answer that memory doesn't suffice for ends with status 4 and a line."""
-        at = room("corpus memory")
-        put(at, "a.dex", assembled(LISTING))
+        at = room("corpus memory", {"a.dex": assembled(LISTING)})
         self.added("a file", at, "c.db", "a.dex")
         db = sqlite3.connect(os.path.join(at, "c.db"))
         db.execute("update string set text = ? where id = 1", ("x" * (8 << 20),))
@@ -291,7 +271,7 @@ class CorpusRuns(CorpusTest):
         for form in ((), ("--csv",), ("--json",)):
             limited = ["bash", "-c", 'ulimit -v 200000; exec "$@"', "-", sys.executable, CORPUS]
             seen = run([*limited, "strings", "--pattern", *form, "c.db", "*"], at=at)
-            self.check_equal(f"dexasm-corpus, no memory {form}", seen, (4, "", "dexasm-corpus: out of memory\n"))
+            self.check_equal(f"no memory {form}", seen, (4, "", "dexasm-corpus: out of memory\n"))
 
     def test_names(self) -> None:
         """A database is the file of that very name."""
@@ -302,26 +282,20 @@ class CorpusRuns(CorpusTest):
         put(at, "a.dex", assembled(LISTING))
         for name in names:
             self.added(f"to {name!r}", at, name, "a.dex")
-            self.check(f"dexasm-corpus, a database called {name!r}", os.path.isfile(os.path.join(at, name)))
+            self.check(f"a database called {name!r}", os.path.isfile(os.path.join(at, name)))
         seen = tool("dexasm-corpus", "merge", "all.db", *names, at=at)
-        self.check(
-            "dexasm-corpus, merge of such names", seen == (0, "", "") and sums(at, "all.db") == sums(at, names[0]), seen
-        )
+        self.check_equal("merge of such names", (seen, sums(at, "all.db")), ((0, "", ""), sums(at, names[0])))
         seen = tool("dexasm-corpus", "merge", names[-1], names[-1], at=at)
-        self.check(
-            "dexasm-corpus, merge with itself", seen == (0, "", "") and sums(at, names[-1]) == sums(at, "all.db"), seen
-        )
+        self.check_equal("merge with itself", (seen, sums(at, names[-1])), ((0, "", ""), sums(at, "all.db")))
         found = asked(at, "libraries", "--known", names[-1], "all.db")
-        self.check("dexasm-corpus, --known of such a name", [row["percent"] for row in found] == [100.0], found)
+        self.check_equal("--known of such a name", [row["percent"] for row in found], [100.0])
         seen = tool("dexasm-corpus", "merge", "new.db", "all.db", f"{ESC}none", at=at)
-        is_so = seen[0] == 3 and is_one_line(seen[2], "dexasm-corpus: \\x1bnone: no such database")
-        self.check("dexasm-corpus, merge of none", is_so and not os.path.exists(os.path.join(at, "new.db")), seen)
+        self.check_equal("merge of none", (seen, os.path.exists(os.path.join(at, "new.db"))),
+                         ((3, ANY, Line("dexasm-corpus: \\x1bnone: no such database")), False))
         self.added("no name", at, "", "a.dex", want=3, says="dexasm-corpus: : unable to open")
         closed = ["bash", "-c", 'exec "$@" <&-', "-", sys.executable, CORPUS, "add", "all.db", "-"]
         seen = run(closed, at=at)
-        self.check_equal(
-            "dexasm-corpus, no standard input", seen, (3, "", "dexasm-corpus: standard input: it is closed\n")
-        )
+        self.check_equal("no standard input", seen, (3, "", "dexasm-corpus: standard input: it is closed\n"))
 
     def test_terminal(self) -> None:
         """The bar has numbers alone, is no wider than the terminal, and is gone in the end."""
@@ -337,22 +311,19 @@ class CorpusRuns(CorpusTest):
         *lines, last = got.split("\r\n")
         bars = [bar for bar in re.split(r"\r\x1b\[K", got.replace("\r\n", "")) if bar]
         said = "dexasm-corpus: \\x1b]0;none\\x07: No such file or directory"
-        is_counted = status == 3 and out.startswith("131 paths, 0 not read; 1 new files, 1 refused")
-        self.check("dexasm-corpus, a terminal", is_counted, (status, out))
-        is_so = BAR.fullmatch(bars[0]) and all(BAR.fullmatch(bar) or bar == said for bar in bars)
-        self.check("dexasm-corpus, a bar", is_so, bars)
-        self.check(
-            "dexasm-corpus, a line beside the bar", [line.rpartition(f"{ESC}[K")[2] for line in lines] == [said], got
-        )
-        self.check("dexasm-corpus, the bar is gone", last.endswith(f"\r{ESC}[K"), got)
+        self.check_equal("a terminal", (status, out), (3, Begins("131 paths, 0 not read; 1 new files, 1 refused")))
+        self.check_equal("a bar", (bars[0], [bar for bar in bars if not (BAR.fullmatch(bar) or bar == said)]),
+                         (Matches(BAR), []))
+        self.check_equal("a line beside the bar", [line.rpartition(f"{ESC}[K")[2] for line in lines], [said])
+        self.check_equal("the bar is gone", last, Ends(f"\r{ESC}[K"))
         bars = re.split(r"\r\x1b\[K", on_terminal(at, 20, "narrow.db", "d")[2])
-        self.check("dexasm-corpus, a narrow terminal", max(map(len, bars)) == 19, bars)
+        self.check_equal("a narrow terminal", max(map(len, bars)), 19)
         got = on_terminal(at, 100, "dumb.db", "d", TERM="dumb")
-        self.check("dexasm-corpus, a terminal that obeys nothing", got[0] == 0 and got[2] == "", got)
+        self.check_equal("a terminal that obeys nothing", got, (0, ANY, ""))
         put(at, "slow.dex", slow(48000))
         status, out, got = on_terminal(at, 100, "--seconds", "600", "gone.db", "slow.dex", is_closed=True)
-        is_so = status == 0 and out.startswith("1 paths, 0 not read; 1 new files") and BAR.search(got)
-        self.check("dexasm-corpus, a terminal that goes away", is_so, (status, out, got))
+        self.check_equal("a terminal that goes away", (status, out, BAR.search(got)),
+                         (0, Begins("1 paths, 0 not read; 1 new files"), SOME))
 
     def test_dask(self) -> None:
         """Scheduler and two workers of Dask: the same content, with the folder and without."""
@@ -367,8 +338,7 @@ class CorpusRuns(CorpusTest):
                 file = f"dask{len(words)}.db"
                 running = cluster.add("--memory", "300M", *words, file, "f", "d")
                 said = running.communicate(timeout=PATIENCE)[1]
-                is_so = (running.returncode, said) == (0, b"") and sums(at, file) == want
-                self.check(f"dexasm-corpus, by Dask {words}", is_so, (running.returncode, said, sums(at, file), want))
+                self.check_equal(f"by Dask {words}", (running.returncode, said, sums(at, file)), (0, b"", want))
 
     def test_dask_tls(self) -> None:
         """Over TLS, with the certificates of Dask's own configuration; who has none isn't let in."""
@@ -384,23 +354,20 @@ class CorpusRuns(CorpusTest):
             has |= {f"{prefix}{who}__KEY": key, f"{prefix}{who}__CERT": cert}
         self.added("here", at, "here.db", "f")
         with Cluster(python, at, 1, "tls", **has) as cluster:
-            self.check("Dask over TLS", cluster.address.startswith("tls://"), cluster.address)
+            self.check_equal("Dask over TLS", cluster.address, Begins("tls://"))
             env: Any  # (mypy joins the dictionaries to object)
             for what, env, status, says in (
-                ("them", has, 0, ""),
-                ("none", {}, 3, f"dexasm-corpus: {cluster.address}: "),
+                ("them", has, 0, ""), ("none", {}, 3, f"dexasm-corpus: {cluster.address}: ")
             ):
                 words = [python, CORPUS, "add", "--scheduler", cluster.address, f"{what}.db", "f"]
                 seen = run(words, at=at, **env)
-                is_so = seen[0] == status and (is_one_line(seen[2], says) if says else seen[2] == "")
-                self.check(f"dexasm-corpus, Dask over TLS, with {what}", is_so, seen)
-            self.check_equal("dexasm-corpus, Dask over TLS, the sum", sums(at, "them.db"), sums(at, "here.db"))
+                self.check_equal(f"Dask over TLS, with {what}", seen, (status, ANY, Line(says) if says else ""))
+            self.check_equal("Dask over TLS, the sum", sums(at, "them.db"), sums(at, "here.db"))
 
     def test_dask_killed(self) -> None:
         """A worker of Dask is killed, then the scheduler, each while it looks at a file and others wait."""
         python = dask()
-        at = room("corpus dask killed")
-        put(at, "d/slow.dex", slow(8000))
+        at = room("corpus dask killed", {"d/slow.dex": slow(8000)})
         want = self.many(at, 70)
         said: bytes | str
         with Cluster(python, at, 1) as cluster:
@@ -409,16 +376,14 @@ class CorpusRuns(CorpusTest):
             if looker:
                 kill(nannied(looker[0]))
             said = running.communicate(timeout=PATIENCE)[1]
-            self.check_equal("dexasm-corpus, a worker of Dask is killed", (running.returncode, said), (0, b""))
-            self.check(
-                "dexasm-corpus, a worker of Dask is killed, the sum", sums(at) == want and is_whole(at), sums(at)
-            )
+            self.check_equal("a worker of Dask is killed", (running.returncode, said), (0, b""))
+            self.check_equal("a worker of Dask is killed, the sum", (sums(at), is_whole(at)), (want, True))
             before = {*workers()}
             running = cluster.add("--seconds", "600", "gone.db", "d")
-            self.check("dexasm-corpus, by Dask once more", waited(lambda: {*workers()} - before) is not None)
+            self.check_equal("by Dask once more", waited(lambda: {*workers()} - before), Other(None))
             cluster.begun[0].kill()
             said = running.communicate(timeout=PATIENCE)[1].decode("latin1")
-            is_so = running.returncode == 3 and is_one_line(said, GONE) and is_whole(at, "gone.db")
-            self.check("dexasm-corpus, the scheduler is killed", is_so, (running.returncode, said))
+            self.check_equal("the scheduler is killed", (running.returncode, said, is_whole(at, "gone.db")),
+                             (3, Line(GONE), True))
         self.added("what Dask left", at, "--seconds", "600", "gone.db", "d")
-        self.check_equal("dexasm-corpus, what Dask left, the sum", sums(at, "gone.db"), want)
+        self.check_equal("what Dask left, the sum", sums(at, "gone.db"), want)

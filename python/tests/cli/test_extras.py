@@ -41,8 +41,7 @@ def annotated(directory_at: int | None = None) -> bytes:
 
 class ExtrasTest(HelperTest):
     def test_counts(self) -> None:
-        at = room("extras counts")
-        put(at, "a.dex", annotated())
+        at = room("extras counts", {"a.dex": annotated()})
         told = json.loads(tool("dexasm-info", "--json", "a.dex", at=at)[1])
         self.assertEqual((told["annotations"], told["debug_methods"]), ({"build": 1, "runtime": 2, "system": 1}, 1))
         lines = tool("dexasm-info", "a.dex", at=at)[1].splitlines()
@@ -54,11 +53,10 @@ class ExtrasTest(HelperTest):
 
     def test_dropped(self) -> None:
         """A line on standard error, which --quiet silences; nothing of what has none."""
-        at = room("extras dropped")
-        put(at, "classes.dex", annotated())
-        put(at, "new/classes.dex", assembled(TEXT))
-        put(at, "app.apk", archive(("classes.dex", annotated())))
-        put(at, "plain.apk", archive(("classes.dex", assembled(TEXT))))
+        at = room("extras dropped", {
+            "classes.dex": annotated(), "new/classes.dex": assembled(TEXT),
+            "app.apk": archive(("classes.dex", annotated())), "plain.apk": archive(("classes.dex", assembled(TEXT)))
+        })
         cases = {
             "apk replace app.apk new/classes.dex -o o.apk": "dexasm-apk: classes.dex: ",
             "merge classes.dex -o o.dex": "dexasm-merge: classes.dex: ",

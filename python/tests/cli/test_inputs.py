@@ -10,26 +10,18 @@ import subprocess
 import zipfile
 from typing import Any
 
+from tests.matchers import ANY, EMPTY, Begins, Either, Has, Lacks, Other
 from .archive_files import CRC, FLAGS, archive, changed, hostile, streamed
-from .support import ESC, HEAD, Ended, HelperTest, assembled, get, has_pages, is_one_line, put, room, run, seen_in
+from .support import ESC, HEAD, Ended, HelperTest, Line, assembled, get, has_pages, put, puts, room, run, seen_in
 from .support import shell, tool
 
 A = HEAD + b'class LA; 0x1\nsuper LO;\ndirect m ()V 0x9\ncode 1 0 0\nconst-string v0 "a"\nreturn-void\nend code\nend class\n'
 B = A.replace(b"LA;", b"LB;").replace(b"direct m", b"direct n")
 CHANGED = A.replace(b'"a"', b'"b"')
 # What each helper is asked, of a FILE.
-ASKED = {
-    "info": "--json {}",
-    "lint": "--code {}",
-    "size": "{}",
-    "query": "classes {}",
-    "graph": "{} LA;->m()V",
-    "diff": "{} a.dex",
-    "close": "--check {}",
-    "split": "{} cut",
-    "merge": "{} --output -",
-    "browse": "{} --output pages",
-}
+ASKED = {"info": "--json {}", "lint": "--code {}", "size": "{}", "query": "classes {}", "graph": "{} LA;->m()V",
+         "diff": "{} a.dex", "close": "--check {}", "split": "{} cut", "merge": "{} --output -",
+         "browse": "{} --output pages"}
 SECRET = b"secret"
 
 
@@ -81,11 +73,11 @@ def application(*dexes: bytes) -> bytes:
 class Inputs(HelperTest):
     def test_one(self) -> None:
         """An archive with one .dex file, and one that is named, are as the file itself."""
-        at, file = room("inputs one"), assembled(A)
-        put(at, "a.dex", file)
-        put(at, "one.apk", archive(("x", b"x"), ("classes.dex", file)))
-        put(at, "two.apk", archive(("classes.dex", file), ("classes2.dex", assembled(B))))
-        put(at, "no!classes.dex", file)
+        file = assembled(A)
+        at = room("inputs one", {
+            "a.dex": file, "one.apk": archive(("x", b"x"), ("classes.dex", file)),
+            "two.apk": archive(("classes.dex", file), ("classes2.dex", assembled(B))), "no!classes.dex": file
+        })
         for name in ASKED:
             if name == "browse" and not has_pages():
                 continue
@@ -94,32 +86,32 @@ class Inputs(HelperTest):
                 seen = asked(name, given, at)
                 shown = given if "!" in given else f"{given}!classes.dex"
                 told = made(tuple(str(part).replace(shown, given) for part in seen), at, given)  # type: ignore[arg-type]
-                is_so = seen[0] == (1 if name == "diff" and seen[0] else 0) and seen[2] == ""
-                is_same = name in ("browse", "diff", "size") or normal(told) == normal(want)
-                self.check(f"dexasm-{name} {given}", is_so and is_same, (told, want))
+                self.check_equal(f"dexasm-{name} {given}", seen, (Either(0, 1) if name == "diff" else 0, ANY, ""))
+                if name not in ("browse", "diff", "size"):
+                    self.check_equal(f"dexasm-{name} {given}, the same", normal(told), normal(want))
 
     def test_all(self) -> None:
         """An archive with several: all of them, or the names of which one has to be given."""
         at = room("inputs all")
         one, two = assembled(A), assembled(B)
-        put(at, "two.apk", archive(("classes.dex", one), ("classes2.dex", two)))
-        put(at, "new.apk", archive(("classes.dex", assembled(CHANGED)), ("classes2.dex", two)))
-        put(at, "a.dex", one)
-        put(at, "b.dex", two)
+        puts(at, {
+            "two.apk": archive(("classes.dex", one), ("classes2.dex", two)),
+            "new.apk": archive(("classes.dex", assembled(CHANGED)), ("classes2.dex", two)), "a.dex": one, "b.dex": two
+        })
         seen = tool("dexasm-info", "two.apk", at=at)
-        self.check("dexasm-info, all", seen[1].startswith("two.apk!classes.dex\n") and "classes2.dex\nfile" in seen[1], seen)
+        self.check_equal("dexasm-info, all", seen[1], Begins("two.apk!classes.dex\n") & Has("classes2.dex\nfile"))
         want = "two.apk!classes.dex: ok\ntwo.apk!classes2.dex: ok\n"
         self.check_equal("dexasm-lint, all", tool("dexasm-lint", "two.apk", at=at), (0, want, ""))
         for query in ("classes", "calls", "strings"):
             seen = tool("dexasm-query", query, "two.apk", at=at)
-            self.check(f"dexasm-query {query}, all", seen[0] == 0 and '"LA;' in seen[1] and '"LB;' in seen[1], seen)
+            self.check_equal(f"dexasm-query {query}, all", seen[:2], (0, Has('"LA;', '"LB;')))
         seen = tool("dexasm-query", "show", "two.apk", "LB;->n", at=at)
-        self.check("dexasm-query show, all", seen[0] == 0 and "class LB;" in seen[1] and "class LA;" not in seen[1], seen)
+        self.check_equal("dexasm-query show, all", seen[:2], (0, Has("class LB;") & Lacks("class LA;")))
         seen = tool("dexasm-size", "--json", "--by", "class", "two.apk", at=at)
         both = f'"bytes": {len(one) + len(two)}'
-        self.check("dexasm-size, all", seen[0] == 0 and both in seen[1] and "LA;" in seen[1] and "LB;" in seen[1], seen)
+        self.check_equal("dexasm-size, all", seen[:2], (0, Has(both, "LA;", "LB;")))
         seen = tool("dexasm-size", "--by", "method", "two.apk", "new.apk", at=at)
-        self.check("dexasm-size, two applications", seen[0] == 0 and seen[2] == "" and "all" in seen[1], seen)
+        self.check_equal("dexasm-size, two applications", seen, (0, Has("all"), ""))
         seen = tool("dexasm-diff", "--names", "two.apk", "new.apk", at=at)
         self.check_equal("dexasm-diff, two applications", seen, (1, "! LA;->m()V\n", ""))
         self.check_equal("dexasm-diff, the same", tool("dexasm-diff", "two.apk", "two.apk", at=at), (0, "", ""))
@@ -130,15 +122,14 @@ class Inputs(HelperTest):
             self.is_told(words, 2, "two.apk: it has 2 .dex files: name one, as two.apk!classes.dex", at)
         self.is_told("close --in-place two.apk!classes.dex", 2, "use --output", at)
         seen = tool("dexasm-explain", "two.apk", given=b"classes2.dex: dexasm: refused 8 Checksum at 8\n", at=at)
-        self.check("dexasm-explain, by its entry", seen[0] == 0 and "  Hint: it is " in seen[1], seen)
+        self.check_equal("dexasm-explain, by its entry", seen[:2], (0, Has("  Hint: it is ")))
         seen = tool("dexasm-explain", "two.apk", given=b"dexasm: refused 2 Magic at 0\n", at=at)
-        self.check("dexasm-explain, the archive itself", seen[0] == 0 and "it is a zip archive" in seen[1], seen)
+        self.check_equal("dexasm-explain, the archive itself", seen[:2], (0, Has("it is a zip archive")))
 
     def is_told(self, words: str, status: int, says: str, at: str) -> None:
         name, *rest = words.split(" ")
         seen = tool(f"dexasm-{name}", *rest, at=at)
-        is_so = seen[0] == status and is_one_line(seen[2], f"dexasm-{name}: ") and says in seen[2]
-        self.check(f"dexasm-{words}", is_so, seen)
+        self.check_equal(f"dexasm-{words}", seen, (status, ANY, Line(f"dexasm-{name}: ") & Has(says)))
 
     def test_wrong(self) -> None:
         """Archives that lie, entries that aren't there, names that a terminal obeys: a line, and nothing is made."""
@@ -159,22 +150,23 @@ class Inputs(HelperTest):
                 # (an archive whose one entry is to be read, or no such one)
                 seen = asked(name, path if path in ("none.apk", "cut.apk") else f"{path}!classes.dex", at)
                 said = seen[2].splitlines()[-1:] or [""]
-                self.check(f"dexasm-{name} {path}", seen[0] == status and says in said[0] and "unexpected" not in seen[2], seen)
+                self.check_equal(f"dexasm-{name} {path}", (seen, said[0]),
+                                 ((status, ANY, Lacks("unexpected")), Has(says)))
         put(at, "good.apk", archive(("classes.dex", file), (f"{ESC}[31m.dex", file)))
         for entry in ("none.dex", f"{ESC}[31m", "", "../x", "classes.dex!x", "\udcff"):
             seen = tool("dexasm-query", "classes", f"good.apk!{entry}", at=at)
-            self.check(f"dexasm-query good.apk!{entry!r}", seen[:2] == (3, "") and is_one_line(seen[2], "dexasm-query: "), seen)
+            self.check_equal(f"dexasm-query good.apk!{entry!r}", seen, (3, "", Line("dexasm-query: ")))
         seen = tool("dexasm-query", "classes", f"good.apk!{ESC}[31m.dex", at=at)
-        self.check("dexasm-query, an entry of escapes", seen[0] == 0 and ESC not in seen[1] + seen[2], seen)
+        self.check_equal("dexasm-query, an entry of escapes", (seen[0], seen[1] + seen[2]), (0, Lacks(ESC)))
         put(at, "a.aab", archive(("base/dex/classes.dex", file), (f"{ESC}[31m.dex", file)))
         says = "a.aab: no classes*.dex in it, but others: name one, as a.aab!\\x1b[31m.dex"
         self.is_told("info a.aab", 3, says, at)
         seen = tool("dexasm-info", "a.aab!base/dex/classes.dex", at=at)
-        self.check("dexasm-info, an entry of an .aab", seen[0] == 0 and seen[2] == "", seen)
+        self.check_equal("dexasm-info, an entry of an .aab", seen, (0, ANY, ""))
         seen = tool("dexasm-lint", "none.apk", "--allow-empty", at=at)
         self.check_equal("dexasm-lint --allow-empty", seen, (0, "", ""))
         seen = tool("dexasm-info", given=good, at=at)
-        self.check("dexasm-info, an archive on standard input", seen[0] == 3 and "a zip archive" in seen[2], seen)
+        self.check_equal("dexasm-info, an archive on standard input", seen, (3, ANY, Has("a zip archive")))
 
 
     def test_hostile_archives(self) -> None:
@@ -192,24 +184,27 @@ class Inputs(HelperTest):
                 is_fine = status == (1 if name == "diff" and status == 1 else 0)
                 is_so = is_good is None or is_fine == is_good and (is_good or bool(out + said))
                 shown = said if out.startswith("dex\n035\0") else f"{out}\n{said}"  # (a file on standard output is no text)
-                is_safe = not re.search("Traceback|: unexpected |\x1b|##\\[|^ *::", shown, re.M)
-                is_safe = is_safe and status != "late"
-                self.check(f"dexasm-{name} of an archive: {what}", is_so and is_safe, (status, out, said))
+                self.check_equal(f"dexasm-{name} of an archive: {what}",
+                                 (is_so, re.search("Traceback|: unexpected |\x1b|##\\[|^ *::", shown, re.M), status),
+                                 (True, EMPTY, Other("late")))
         left = sorted(set(os.listdir(at)) - {"a.apk", "a.dex", "cut", "pages"})
-        self.check("of hostile archives nothing is made elsewhere", not left, left)
+        self.check_equal("of hostile archives nothing is made elsewhere", left, EMPTY)
+
+
+# What Python prints where it fails itself: its compiler ends with a ValueError, its interpreter with a SystemError.
+PYTHON_FAILS = "Fatal Python error|frozen site|field '.*' is required for|returned NULL without setting an exception"
 
 
 class Memory(HelperTest):
     def test_little(self) -> None:
         """Less memory than a helper's modules need: never status 1, which means refused, and a last line."""
-        at = room("little memory")
-        put(at, "a.dex", assembled(A))
+        at = room("little memory", {"a.dex": assembled(A)})
         words = "check a.dex", "query classes a.dex", "corpus add c.db a.dex", "browse a.dex --output out", "lint a.dex"
         for kilobytes in range(16500, 26000, 1500):
             for word in words:
                 status, out, said = shell(f"ulimit -v {kilobytes}; dexasm-{word}", at)
-                if status in (134, 139) or re.search("Fatal Python error|frozen site|field '.*' is required for", said):
-                    continue  # (Python itself fails, its compiler with a ValueError too)
+                if status in (134, 139) or re.search(PYTHON_FAILS, said):
+                    continue
                 with self.subTest(word, kilobytes=kilobytes):
                     self.assertIn(status, (0, 3, 4))
                     lines = (out + said).splitlines()
@@ -226,27 +221,27 @@ class Replacing(HelperTest):
         seen = {path: given for path, given in seen_in(at).items() if path.startswith("out/")}
         self.check_equal("dexasm-apk extract, what it wrote", seen, want)
         seen_words = tool("dexasm-apk", "extract", "a.apk", at=at)
-        self.check("dexasm-apk extract, no FOLDER", seen_words[0] == 2 and "wants a FOLDER" in seen_words[2], seen_words)
+        self.check_equal("dexasm-apk extract, no FOLDER", seen_words, (2, ANY, Has("wants a FOLDER")))
 
     def test_replace(self) -> None:
         """The entry is exchanged; each other one has its bytes, and its place is aligned; the signatures are gone."""
         at, old, new = room("replace"), assembled(A), assembled(CHANGED)
         given = application(old, old)
-        put(at, "app.apk", given)
-        put(at, "new/classes.dex", new)
-        put(at, "new/classes2.dex", new)
+        puts(at, {"app.apk": given, "new/classes.dex": new, "new/classes2.dex": new})
         for files in (["new/classes.dex"], ["new/classes2.dex"], ["new/classes.dex", "new/classes2.dex"]):
             seen = tool("dexasm-apk", "replace", "app.apk", *files, "--output", "out.apk", at=at)
             self.check_equal(f"dexasm-apk replace {files}", seen, (0, "", ""))
             self.is_replaced(given, get(at, "out.apk"), {os.path.basename(file): new for file in files})
         zipped = bytes(get(at, "out.apk"))
         seen = tool("dexasm-apk", "replace", "out.apk", "new/classes.dex", "-o", "out.apk", at=at)
-        self.check("dexasm-apk replace, again", seen == (0, "", "") and get(at, "out.apk") == zipped, seen)
+        self.check_equal("dexasm-apk replace, again", (seen, get(at, "out.apk")), ((0, "", ""), zipped))
         self.check("dexasm-apk replace, nothing outside", not os.path.exists(os.path.join(at, "..", "out")))
         jar = archive(("META-INF/MANIFEST.MF", b"x"), ("META-INF/A.SF", b"x"), ("classes.dex", old))
         put(at, "a.jar", jar)
         tool("dexasm-apk", "replace", "a.jar", "new/classes.dex", "--output", "b.jar", at=at)
-        self.check_equal("dexasm-apk replace, a .jar", [*raw(get(at, "b.jar"))], ["META-INF/MANIFEST.MF", "classes.dex"])
+        self.check_equal(
+            "dexasm-apk replace, a .jar", [*raw(get(at, "b.jar"))], ["META-INF/MANIFEST.MF", "classes.dex"]
+        )
 
     def is_replaced(self, before: bytes, after: bytes, files: dict[str, bytes]) -> None:
         was, now = raw(before), raw(after)
@@ -255,17 +250,16 @@ class Replacing(HelperTest):
         with zipfile.ZipFile(io.BytesIO(after)) as read:
             self.check_equal("its comment", read.comment, b"a comment")
             for name, (data, begin, told) in now.items():
-                unit = 16384 if name.endswith(".so") else 4
-                self.check(f"{name} is aligned", told[0] != zipfile.ZIP_STORED or begin % unit == 0, begin)
-                same = files.get(name)
-                is_so = (data, told) == was[name][::2] if same is None else read.read(name) == same
-                self.check(f"{name} in it", is_so and told[0] == was[name][2][0], (data[:50], told))
+                if told[0] == zipfile.ZIP_STORED:
+                    self.check_equal(f"{name} is aligned", begin % (16384 if name.endswith(".so") else 4), 0)
+                if name in files:
+                    self.check_equal(f"{name} in it", (read.read(name), told[0]), (files[name], was[name][2][0]))
+                else:
+                    self.check_equal(f"{name} in it", (data, told), was[name][::2])
 
     def replaced(self, name: str) -> str:
         """A folder with an archive out.apk, one file of which was replaced."""
-        at = room(name)
-        put(at, "app.apk", application(assembled(A)))
-        put(at, "classes.dex", assembled(CHANGED))
+        at = room(name, {"app.apk": application(assembled(A)), "classes.dex": assembled(CHANGED)})
         tool("dexasm-apk", "replace", "app.apk", "classes.dex", "--output", "out.apk", at=at)
         return at
 
@@ -274,7 +268,7 @@ class Replacing(HelperTest):
         at = self.replaced("replace zipalign")
         for words in (["-c", "4"], ["-c", "-p", "4"]):
             seen = run(["zipalign", *words, "out.apk"], at=at)
-            self.check(f"zipalign {words}", seen[0] == 0, seen)
+            self.check_equal(f"zipalign {words}", seen[0], 0)
 
     def test_apksigner(self) -> None:
         for program in ("apksigner", "keytool"):
@@ -285,22 +279,21 @@ class Replacing(HelperTest):
         sign = "sign --ks k --ks-pass pass:secret --min-sdk-version 21 out.apk"
         for text in (sign, "verify --min-sdk-version 21 out.apk"):
             seen = run(["apksigner", *text.split()], at=at)
-            self.check(f"apksigner {text.split()[0]}", seen[0] == 0, seen)
+            self.check_equal(f"apksigner {text.split()[0]}", seen[0], 0)
         put(at, "classes.dex", assembled(A))
         tool("dexasm-apk", "replace", "out.apk", "classes.dex", "--output", "again.apk", at=at)
-        self.check("of a signed one nothing is left of its signatures", b"APK Sig Block" not in get(at, "again.apk"))
+        self.check_equal("of a signed one nothing is left of its signatures", get(at, "again.apk"),
+                         Lacks(b"APK Sig Block"))
         seen = run(["apksigner", "verify", "--min-sdk-version", "21", "again.apk"], at=at)
-        self.check("apksigner verify, before it is signed anew", seen[0] != 0, seen)
+        self.check_equal("apksigner verify, before it is signed anew", seen[0], Other(0))
 
     def test_hostile(self) -> None:
         """What can't be copied entry by entry, and files that can't go in: a line, and OUT is as it was."""
         at, file = room("replace hostile"), assembled(A)
         good = archive(("classes.dex", file), ("x", b"data"))
-        put(at, "classes.dex", file)
-        put(at, "bad/classes.dex", file[:-1])
-        put(at, "classes3.dex", file)
-        put(at, "OUT", SECRET)
-        put(at, "good.apk", good)
+        puts(at, {
+            "classes.dex": file, "bad/classes.dex": file[:-1], "classes3.dex": file, "OUT": SECRET, "good.apk": good
+        })
         local, row = good.index(b"PK\3\4", 4), good.index(b"PK\1\2", good.index(b"PK\1\2") + 1)
         overlap = bytearray(good)
         struct.pack_into("<2I", overlap, row + 20, len(good), len(good))
@@ -311,7 +304,8 @@ class Replacing(HelperTest):
             ("an entry that isn't there", good, ["classes3.dex"], 3, "classes3.dex is in it not at all"),
             ("no classes*.dex", good, ["good.apk"], 2, "name it as the entry that it replaces"),
             ("a file twice", good, ["classes.dex", "./classes.dex"], 2, "it is given twice"),
-            ("an entry twice", archive(("classes.dex", file), ("classes.dex", file)), ["classes.dex"], 3, "more than once"),
+            ("an entry twice", archive(("classes.dex", file), ("classes.dex", file)), ["classes.dex"], 3,
+             "more than once"),
             ("entries that overlap", bytes(overlap), ["classes.dex"], 3, "its entries overlap"),
             ("a header elsewhere", bytes(elsewhere), ["classes.dex"], 3, "its own header isn't that of the directory"),
             ("another name", good.replace(b"x", b"y", 1), ["classes.dex"], 3, "its own header isn't"),
@@ -325,13 +319,15 @@ class Replacing(HelperTest):
         ):
             put(at, "a.apk", given)
             seen = tool("dexasm-apk", "replace", "a.apk", *words, "--output", "OUT", at=at)
-            is_so = seen[:2] == (status, "") and is_one_line(seen[2], "dexasm-apk: ") and says in seen[2]
-            self.check(f"dexasm-apk replace, {what}", is_so and get(at, "OUT") == SECRET, seen)
-        for words in (["replace", "good.apk"], ["replace", "good.apk", "classes.dex"], ["check", "good.apk", "-o", "x"]):
+            self.check_equal(f"dexasm-apk replace, {what}", (seen, get(at, "OUT")),
+                             ((status, "", Line("dexasm-apk: ") & Has(says)), SECRET))
+        for words in (
+            ["replace", "good.apk"], ["replace", "good.apk", "classes.dex"], ["check", "good.apk", "-o", "x"]
+        ):
             seen = tool("dexasm-apk", *words, at=at)
-            self.check(f"dexasm-apk {words}", seen[0] == 2 and seen[2].startswith("usage: "), seen)
+            self.check_equal(f"dexasm-apk {words}", seen, (2, ANY, Begins("usage: ")))
         seen = tool("dexasm-apk", "replace", "good.apk", "classes.dex", "-o", "OUT", at=at, most=20)
-        self.check("dexasm-apk replace, no room", seen[0] == 3 and get(at, "OUT") == SECRET, seen)
+        self.check_equal("dexasm-apk replace, no room", (seen[0], get(at, "OUT")), (3, SECRET))
 
     def test_descriptors(self) -> None:
         """Entries whose sizes stand behind their data, as streams are written, and with fields of their own."""
@@ -339,14 +335,13 @@ class Replacing(HelperTest):
 
         extra = zipfile.ZipInfo("z")
         extra.extra = struct.pack("<2H4s", 0x5455, 4, b"time")
-        put(at, "a.apk", streamed(("classes.dex", file), (extra, b"data")))
-        put(at, "classes.dex", file)
+        puts(at, {"a.apk": streamed(("classes.dex", file), (extra, b"data")), "classes.dex": file})
         seen = tool("dexasm-apk", "replace", "a.apk", "classes.dex", "--output", "b.apk", at=at)
         made = get(at, "b.apk")
-        self.check("dexasm-apk replace, sizes behind", seen == (0, "", "") and raw(made)["z"][0] == b"data", seen)
-        self.check("dexasm-apk replace, fields stay", b"UT\4\0time" in made and b"PK\7\x08" not in made)
+        self.check_equal("dexasm-apk replace, sizes behind", (seen, raw(made)["z"][0]), ((0, "", ""), b"data"))
+        self.check_equal("dexasm-apk replace, fields stay", made, Has(b"UT\4\0time") & Lacks(b"PK\7\x08"))
         self.need("unzip", "it isn't asked about sizes behind")
-        self.check("unzip -t", subprocess.run(["unzip", "-tq", os.path.join(at, "b.apk")]).returncode == 0)
+        self.check_equal("unzip -t", subprocess.run(["unzip", "-tq", os.path.join(at, "b.apk")]).returncode, 0)
 
 
 def normal(told: object) -> str:

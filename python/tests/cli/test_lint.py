@@ -9,25 +9,12 @@ import os
 import re
 from collections.abc import Callable, Iterator
 
+from tests.matchers import Begins, Has, Lacks
 from .patched_files import (
-    CLASSES,
-    FIELDS,
-    MAP_OFF,
-    METHODS,
-    PROTOS,
-    STRINGS,
-    TYPES,
-    Patched,
-    PatchedTest,
-    Place,
-    code,
-    map_entry,
-    swapped,
-    with_interface,
-    with_number,
-    with_super,
+    CLASSES, FIELDS, MAP_OFF, METHODS, PROTOS, STRINGS, TYPES, Patched, PatchedTest, Place, code, map_entry, swapped,
+    with_interface, with_number, with_super
 )
-from .support import ESC, HEAD, NAMES, TOP, assembled, dexasm, get, is_one_line, put, room, tool
+from .support import ESC, HEAD, NAMES, TOP, Line, assembled, dexasm, get, put, puts, room, tool
 
 PUBLIC, PRIVATE, PROTECTED, STATIC, FINAL, SYNCHRONIZED = 1, 2, 4, 8, 0x10, 0x20
 BRIDGE = VOLATILE = 0x40
@@ -207,7 +194,7 @@ class Lint(PatchedTest):
         wants: dict[str, tuple[str, str | None]]
         at, text, wants = room("lint cases"), [HEAD.decode()], {}
         for number, (test, about, count, rule, cases) in enumerate(ROWS):
-            self.check(f"dexasm-lint, as many cases of {test}: {about}", len(cases) >= count, len(cases))
+            self.check(f"as many cases of {test}: {about}", len(cases) >= count, len(cases))
             for which, (flags, body) in enumerate(cases):
                 name = f"L{test}{number}x{which};"
                 wants[name] = f"{test}, {about}, {which}", rule
@@ -216,24 +203,21 @@ class Lint(PatchedTest):
         put(at, "cases.dex", file)
         status, out, said = tool("dexasm-lint", "cases.dex", at=at)
         told = lines_by_class(out)
-        self.check(
-            "dexasm-lint, all cases", status == 1 and said == "" and set(told) <= set(wants), (status, said, out[:300])
-        )
+        self.check_equal("all cases", (status, said, set(told) - set(wants)), (1, "", set()))
         for name, (what, rule) in wants.items():
             seen = told.get(name, set())
-            self.check(f"dexasm-lint, {what}", rule in seen if rule else not seen, seen)
+            self.check_equal(what, seen, Has(rule) if rule else set())
         piped = tool("dexasm-lint", "-", at=at, given=dexasm("strip", given=file))[1]
-        self.check_equal("dexasm-lint, a strip", piped, out.replace("cases.dex", "standard input"))
+        self.check_equal("a strip", piped, out.replace("cases.dex", "standard input"))
 
     def test_superclass(self) -> None:
         """Of all classes java.lang.Object alone has no superclass."""
         at = room("lint superclass")
         classes = b"class Ljava/lang/Object; 0x1\nend class\nclass LB; 0x1\nsuper LA;\nend class\n"
-        put(at, "good.txt", HEAD + classes)
-        put(at, "bad.txt", HEAD + classes + b"class LI; 0x601\nend class\n")
+        puts(at, {"good.txt": HEAD + classes, "bad.txt": HEAD + classes + b"class LI; 0x601\nend class\n"})
         said = "a class other than java.lang.Object has no superclass: `super Ljava/lang/Object;` gives it one"
         want = f"good.txt: ok\nbad.txt: LI;: superclass-missing: {said} (dex-format, class_def_item)\n"
-        self.check_equal("dexasm-lint, superclasses", tool("dexasm-lint", "good.txt", "bad.txt", at=at), (1, want, ""))
+        self.check_equal("superclasses", tool("dexasm-lint", "good.txt", "bad.txt", at=at), (1, want, ""))
 
     def changed_files(self) -> Iterator[tuple[str, bytes, int | None]]:
         """Of each file that a listing can't say: its test or rule, its bytes, and dexasm's fault of it, or None."""
@@ -264,14 +248,14 @@ class Lint(PatchedTest):
             put(at, f"{number}.dex", file)
             wants.append((f"{number}.dex", what, fault))
         cases = sum(count for _, _, count, _, _ in ROWS) + sum(not what.startswith("stricter") for _, what, _ in wants)
-        self.check_equal("dexasm-lint, all of ART's cases", cases, ALL)
+        self.check_equal("all of ART's cases", cases, ALL)
         status, out, said = tool("dexasm-lint", *(name for name, _, _ in wants), at=at)
         told = dict(re.findall(r"^dexasm-lint: (\d+\.dex): dexasm: refused (\d+) \w+ at \d+$", said, re.M))
-        self.check("dexasm-lint, files that are refused", status == 1 and len(told) == said.count("\n"), said[:300])
+        self.check_equal("files that are refused", (status, len(told)), (1, said.count("\n")))
         for name, what, fault in wants:
             seen = told.get(name), bool(re.search(rf"^{name}: (?!ok$)", out, re.M))
             # (c's flags are those by which a LEB128 number takes five bytes)
-            self.check_equal(f"dexasm-lint, {what}", seen, (str(fault), False) if fault else (None, True))
+            self.check_equal(what, seen, (str(fault), False) if fault else (None, True))
 
     def test_hostile(self) -> None:
         """Texts that look like lines, names as long as they can be, marks that turn a terminal's direction."""
@@ -293,53 +277,43 @@ end code
 """
         put(at, "fine.txt", HEAD + f"{text}end class\n".encode())
         seen = tool("dexasm-lint", "fine.txt", at=at)
-        self.check_equal("dexasm-lint, texts that look like lines", seen, (0, "fine.txt: ok\n", ""))
+        self.check_equal("texts that look like lines", seen, (0, "fine.txt: ok\n", ""))
         wrong = "".join(f"virtual {name} ()V 0x5\n{CODE}" for name in (long, evil))
         put(at, "bad.txt", HEAD + f"{text}{wrong}end class\n".encode())
         status, out, said = tool("dexasm-lint", "bad.txt", at=at)
         begins = [f"bad.txt: L{evil};->{name}()V: {ONE_OF}: " for name in (long, evil)]
-        is_so = all(line.startswith(begin) and line.isascii() for line, begin in zip(out.splitlines(), begins))
-        self.check(
-            "dexasm-lint, long and turning names",
-            (status, said, out.count("\n"), is_so) == (1, "", 2, True),
-            out[-300:],
-        )
+        self.check_equal("long and turning names", (status, said, out.isascii(), out.splitlines()),
+                         (1, "", True, [*map(Begins, begins)]))
         for name in NAMES:
             put(at, name, HEAD)
         status, out, said = tool("dexasm-lint", "--", *NAMES, at=at)
-        is_so = out.count(": ok\n") == out.count("\n") == len(NAMES) and ESC not in out and "\\x1b[31mred" in out
-        self.check("dexasm-lint, names of files", (status, said) == (0, "") and is_so, (status, out, said))
+        self.check_equal("names of files", (status, said, out.count(": ok\n") == out.count("\n") == len(NAMES), out),
+                         (0, "", True, Lacks(ESC) & Has("\\x1b[31mred")))
 
     def test_words(self) -> None:
         """What can't be read, and words that are wrong; the other files go on."""
-        at = room("lint words")
-        put(at, "ok.txt", HEAD)
-        put(at, "four", b"#!/bin/sh\nexit 4\n")
+        at = room("lint words", {"ok.txt": HEAD, "four": b"#!/bin/sh\nexit 4\n"})
         os.chmod(os.path.join(at, "four"), 0o755)
         four, none = {"DEXASM_COMMAND": os.path.join(at, "four")}, {"DEXASM_COMMAND": "no/ne"}
         rows: tuple[tuple[tuple[str, ...], int, dict[str, str]], ...] = (
-            (("none", "ok.txt"), 3, {}),
-            ((".", "ok.txt"), 3, {}),
-            (("", "ok.txt"), 3, {}),
-            (("ok.txt",), 4, four),
-            (("ok.txt",), 3, none),
+            (("none", "ok.txt"), 3, {}), ((".", "ok.txt"), 3, {}), (("", "ok.txt"), 3, {}), (("ok.txt",), 4, four),
+            (("ok.txt",), 3, none)
         )
         for words, status, env in rows:
             got = tool("dexasm-lint", *words, at=at, **env)
-            is_so = got[0] == status and got[1] == "ok.txt: ok\n" * (len(words) - 1)
-            self.check(f"dexasm-lint {words} {env}", is_so and is_one_line(got[2], "dexasm-lint: "), got)
+            self.check_equal(f"{words} {env}", got, (status, "ok.txt: ok\n" * (len(words) - 1), Line("dexasm-lint: ")))
         put(at, "a.zip", b"PK\3\4" + bytes(99))
         got = tool("dexasm-lint", "a.zip", "ok.txt", at=at)
-        self.check("dexasm-lint, an archive", got[:2] == (3, "ok.txt: ok\n") and "no zip archive" in got[2], got)
+        self.check_equal("an archive", got, (3, "ok.txt: ok\n", Has("no zip archive")))
         for words in (("--rules",), (f"--{ESC}[31m",), ("-x",)):
             got = tool("dexasm-lint", *words, at=at)
-            self.check(f"dexasm-lint {words!r}", got[:2] == (2, "") and ESC not in got[2] and "usage: " in got[2], got)
+            self.check_equal(f"{words!r}", got, (2, "", Lacks(ESC) & Has("usage: ")))
 
     def test_page(self) -> None:
         """docs/VERIFIERS.md and the help have each rule, and no other, and a case of each is tried."""
         own = tool("dexasm-lint", "--help")[1].partition("With --code")[0]
         rules = re.findall(r"^  ([a-z][a-z-]+)  ", own, re.M)
         rows = re.findall(r"^\| \d+ \| `([a-z-]+)` \|", get(TOP, "docs/VERIFIERS.md").decode(), re.M)
-        self.check("VERIFIERS and the help have each rule", rules == rows, sorted(set(rules) ^ set(rows)))
+        self.check_equal("VERIFIERS and the help have each rule", rules, rows)
         tried = {rule for _, _, _, rule, _ in ROWS if rule} | {"superclass-missing"}  # (by test_superclass)
-        self.check("dexasm-lint, each rule is tried", set(rules) == tried, sorted(set(rules) ^ tried))
+        self.check_equal("each rule is tried", set(rules), tried)

@@ -10,6 +10,7 @@ from __future__ import annotations
 
 import re
 
+from tests.matchers import EMPTY, Has
 from ..cases import cases
 from .support import HEAD, TOP, HelperTest, get, room
 from .test_lint_code import WORLD, class_of, lint
@@ -47,17 +48,17 @@ class LintArt(HelperTest):
         found: dict[str, set[str]] = {}
         for one in told:
             found.setdefault(one["class"], set()).add(one["rule"])
-        self.check_equal("dexasm-lint --code, ART's cases", (len(CASES), said), (81, ""))
+        self.check_equal("--code, ART's cases", (len(CASES), said), (81, ""))
         for number, (name, expected, rule, *_) in enumerate(CASES):
             is_told = expected == VERIFY or name in RUNTIME
-            self.check(f"the case {name} expects what it is to be told", bool(rule) == is_told, (expected, rule))
-            self.check_equal(f"dexasm-lint --code, ART's case {name}", found.get(f"LT{number};", set()), {rule} - {""})
+            self.check_equal(f"the case {name} expects what it is to be told", bool(rule), is_told)
+            self.check_equal(f"--code, ART's case {name}", found.get(f"LT{number};", set()), {rule} - {""})
 
     def test_page(self) -> None:
         """docs/VERIFIERS.md has each case that doesn't agree, and how many there are of both."""
         page = re.sub(r"\s+", " ", get(TOP, "docs/VERIFIERS.md").decode())
         wrong = [name for name in RUNTIME if f"`{name}`" not in page]
-        self.check("VERIFIERS has the cases that don't agree", not wrong, wrong)
+        self.check_equal("VERIFIERS has the cases that don't agree", wrong, EMPTY)
         refused = sum(expected == VERIFY for _, expected, *_ in CASES)
         said = f"of its {len(CASES)} cases {refused} end in a VerifyError"
-        self.check("VERIFIERS says how many cases ART's test has", said in page, said)
+        self.check_equal("VERIFIERS says how many cases ART's test has", page, Has(said))

@@ -25,9 +25,9 @@ from dexasm.analysis.verifier.transfer import step_of
 from dexasm.cli.errors import CliError
 from dexasm.cli.worker import REASONS as SAYS
 from dexasm.code import Insn, Label, PackedSwitch
-from tests import config
-from ..cases import cases
-from .support import ESC, HEAD, TOP, HelperTest, assembled, dexasm, get, put, room, tool
+from tests.matchers import EMPTY, SOME, Above, Begins, Below, Either, Has
+from ..cases import TEXTS, cases
+from .support import ESC, HEAD, TOP, HelperTest, assembled, dexasm, get, library, put, puts, room, tool
 
 Row = tuple[Any, ...]  # rule, method, code, and of some the number of the instruction that is told of
 PUBLIC, STATIC, CONSTRUCTOR = 0x1, 0x8, 0x10001
@@ -36,31 +36,7 @@ ROWS: tuple[Row, ...] = tuple((*row[:3], *map(int, row[3:])) for row in CASES["r
 # Codes that a device takes, and of which something could be told; codes, and what is said of them, with types and
 # places in backquotes.
 FINE, SAID = CASES["fine"], CASES["said"]
-WORLD = """class LI; 0x601
-super Ljava/lang/Object;
-direct p ()V 0x102
-direct s ()V 0x109
-virtual m ()V 0x401
-end class
-class LE; 0x1
-super Ljava/lang/Exception;
-end class
-class LU; 0x1
-super Ldo/not/Found;
-end class
-class LB; 0x1
-super Ljava/lang/Object;
-instance b I 0x1
-virtual w ()V 0x101
-end class
-class LC; 0x401
-super Ljava/lang/Object;
-end class
-class LD; 0x1
-super Ljava/lang/Object;
-direct p ()V 0x102
-end class
-"""
+WORLD = TEXTS["test_lint_code WORLD"]
 CLASS = """class L{0}; 0x1
 super LB;
 instance f I 0x1
@@ -208,7 +184,7 @@ def rises(made: kinds.Lattice, insn: Insn, low: Iterable[kinds.RegType], high: I
     return bool(is_told) or all(made.join(one, two) is two for one, two in zip(before, after))
 
 
-class Ends:
+class Crashing:
     """Takes the place of a program that is looked at: at its second class the worker is ended so."""
 
     def __init__(self, how: int | None) -> None:
@@ -295,8 +271,7 @@ def hostile() -> Iterator[tuple[str, str, int | None, str]]:
     yield "registers by blocks", of_class(code("()V", "65535 0 0", body)), 3, "error: it has too many"
     ways = "".join(
         f":B{n}\nmove/from16 v{(n + 1) % 250} v{n % 250}\nint-to-short v{n * 3 % 16} v0\nif-eqz v0 :B"
-        f"{n - 1 if n else 1}\n"
-        for n in range(9000)
+        f"{n - 1 if n else 1}\n" for n in range(9000)
     )
     body = "".join(f"const/16 v{n} 0\n" for n in range(250))
     yield "deep joins", of_class(code("()V", "250 0 0", f"{body}goto/32 :B8999\n{ways}return-void\n")), None, ""
@@ -331,18 +306,18 @@ class LintCode(HelperTest):
         """Each rule: what breaks it is told, at its place and once, and what keeps it isn't."""
         at, rows = room("lint code"), [*enumerate(ROWS)]
         status, told, said = lint(listing(0, rows), at=at)
-        self.check_equal("dexasm-lint --code, wrong codes", (status, said), (1, ""))
+        self.check_equal("--code, wrong codes", (status, said), (1, ""))
         found: dict[str, list[tuple[str, int]]] = {}
         for one in told:
             found.setdefault(one["class"], []).append((one["rule"], one["instruction"]))
         for number, row in rows:
             seen = found.get(f"LT{number};")
-            self.check_equal(f"dexasm-lint --code {row}", seen, [(row[0], place_of(row))])
+            self.check_equal(f"--code {row}", seen, [(row[0], place_of(row))])
         status, told, said = lint(listing(1, rows), at=at)
-        self.check("dexasm-lint --code, right codes", (status, said) == (0, "") and told[0]["status"] == "ok", told[:3])
+        self.check_equal("--code, right codes", (status, said, told[0]["status"]), (0, "", "ok"))
         tried = [row[0] for row in ROWS]
         few = [rule for rule in lint_code.RULES if tried.count(rule) < 3]
-        self.check("dexasm-lint --code, three codes of each rule", not few, few)
+        self.check_equal("--code, three codes of each rule", few, EMPTY)
 
     def test_loops(self) -> None:
         """What is wrong is told in a loop too, to whose beginning the register comes back as one that was told of."""
@@ -355,23 +330,23 @@ class LintCode(HelperTest):
         found: dict[str, set[int]] = {}
         for one in told:
             found.setdefault(one["class"], set()).add(one["instruction"])
-        self.check("dexasm-lint --code, loops", len(rows) > 60 and said == "", (len(rows), said))
+        self.check_equal("--code, loops", (len(rows), said), (Above(60), ""))
         for number, row in rows:
-            self.check(f"dexasm-lint --code, a loop of {row}", place_of(row) in found.get(f"LT{number};", ()), found)
+            self.check_equal(f"--code, a loop of {row}", found.get(f"LT{number};", ()), Has(place_of(row)))
 
     def test_fine(self) -> None:
         """What a device takes isn't told of."""
         rows = [(number, ("", head, text)) for number, (head, text) in enumerate(FINE)]
         status, told, said = lint(listing(1, rows), at=room("lint fine"))
         seen = [(one["class"], one["instruction"], one["why"]) for one in told if one["status"] != "ok"]
-        self.check_equal("dexasm-lint --code, codes that a device takes", (status, seen, said), (0, [], ""))
+        self.check_equal("--code, codes that a device takes", (status, seen, said), (0, [], ""))
 
     def test_said(self) -> None:
         """What is said where a register is set on some ways, and where it is an array on some; of handlers and calls."""
         rows = [(number, ("", head, text)) for number, (head, text, _) in enumerate(SAID)]
         self.use_program()
         told = [one.text for one in lint_code.check_program(programs.Program.parse(listing(0, rows)))]
-        self.check_equal("dexasm-lint --code, sentences", told, [said for *_, said in SAID])
+        self.check_equal("--code, sentences", told, [said for *_, said in SAID])
 
     def test_named(self) -> None:
         """Each such instruction takes the types that its name says, and no other ones, and answers that of its name."""
@@ -380,45 +355,37 @@ class LintCode(HelperTest):
             count += 1
             every = itertools.product(GIVEN, repeat=len(takes))
             seen = [given for given in every if is_taken(made, mnemonic, given, answers)]
-            self.check_equal(f"dexasm-lint --code, {mnemonic}", seen, [takes])
-        self.check_equal("dexasm-lint --code, instructions of arithmetic", count, 119)
+            self.check_equal(f"--code, {mnemonic}", seen, [takes])
+        self.check_equal("--code, instructions of arithmetic", count, 119)
 
     def test_laws(self) -> None:
         """The join is that of a lattice: no order of ways makes a difference, and a loop comes to an end."""
         made, every = all_kinds()
         join = made.join
         pairs, triples = [*itertools.product(every, repeat=2)], itertools.product(every, repeat=3)
-        self.check("kinds, idempotent", all(join(one, one) is one for one in every))
-        self.check("kinds, commutative", all(join(one, two) is join(two, one) for one, two in pairs))
+        self.check_equal("kinds, idempotent", [one for one in every if join(one, one) is not one], [])
+        self.check_equal("kinds, commutative",
+                         [(one, two) for one, two in pairs if join(one, two) is not join(two, one)], [])
         wrong = [
             some for some in triples if join(join(some[0], some[1]), some[2]) is not join(some[0], join(*some[1:]))
         ]
-        self.check("kinds, associative", not wrong, wrong[:3])
+        self.check_equal("kinds, associative", wrong, EMPTY)
         ups = {one: [two for two in every if join(one, two) is two] for one in every}
         self.check("kinds, no way is longer than ten", max(longest(one, ups) for one in every) <= 10)
         for low, high, joined in (
-            ("zero", "reference", "reference"),
-            ("zero", "null", "null"),
-            ("constant", "float", "float"),
-            ("int", "float", "conflict"),
-            ("int", "reference", "conflict"),
-            ("wide low", "long low", "long low"),
-            ("long low", "double low", "conflict"),
-            ("unset", "zero", "unset"),
-            ("unset", "conflict", "unset"),
-            ("unset", "new", "unset"),
-            ("unset", "any", "any"),
-            ("conflict", "any", "any"),
-            ("new", "null", "conflict"),
+            ("zero", "reference", "reference"), ("zero", "null", "null"), ("constant", "float", "float"),
+            ("int", "float", "conflict"), ("int", "reference", "conflict"), ("wide low", "long low", "long low"),
+            ("long low", "double low", "conflict"), ("unset", "zero", "unset"), ("unset", "conflict", "unset"),
+            ("unset", "new", "unset"), ("unset", "any", "any"), ("conflict", "any", "any"), ("new", "null", "conflict")
         ):
             first, second = (next(kind for kind in every if kind.base == base) for base in (low, high))
-            self.check(f"kinds, {low} and {high}", join(first, second).base == joined, join(first, second))
+            self.check_equal(f"kinds, {low} and {high}", join(first, second).base, joined)
         types = [("LA;", "LD;", "LB;"), ("LA;", "LC;", "LC;"), ("LA;", "LE;", None), ("LA;", kinds.OBJECT, None)]
         seen = [join(made.ref(one), made.ref(two)).type for one, two, _ in types]
         self.check_equal("kinds, classes", seen, [both for *_, both in types])
         ranges = {one: kinds.constant(one).range for one in (1, 2, -1, 128, -129, 32768, 65536, -32769)}
         told = ["boolean", "0 to 127", "byte", "0 to 32767", "short", "char", "int", "int"]
-        self.check("kinds, ranges", [*ranges.values()] == told and kinds.constant(0) is kinds.ZERO, ranges)
+        self.check_equal("kinds, ranges", ([*ranges.values()], kinds.constant(0) is kinds.ZERO), (told, True))
 
     def test_monotone(self) -> None:
         """What an instruction leaves only rises where what it takes does, unless something was told of the lower."""
@@ -429,13 +396,12 @@ class LintCode(HelperTest):
         lines = [(low, high) for low, high in itertools.product(below, seconds)]
         for insn in insns():
             wrong = [line for line in lines if not rises(made, insn, *zip(*line))]
-            self.check(f"kinds, {insn} is monotone", not wrong, wrong[:3])
+            self.check_equal(f"kinds, {insn} is monotone", wrong, EMPTY)
 
     def test_places(self) -> None:
         """Line and column of a listing as somebody wrote it, in both forms; of a file the instruction and its
         address."""
-        at = room("lint places")
-        put(at, "a.txt", LISTED)
+        at = room("lint places", {"a.txt": LISTED})
         status, out, said = tool("dexasm-lint", "--code", "a.txt", at=at)
         want = [
             "a.txt:16:20: error: v0 holds a reference (java.lang.String, from line 11) on one way to here and a constant "
@@ -443,21 +409,16 @@ class LintCode(HelperTest):
             "a.txt:17:16: error: v1 holds a reference (java.lang.String, a parameter), and neg-int takes an int "
             "(register-kind, B1)",
         ]
-        self.check(
-            "dexasm-lint --code, a listing", (status, out.splitlines(), said) == (1, want, ""), (status, out, said)
-        )
+        self.check_equal("--code, a listing", (status, out.splitlines(), said), (1, want, ""))
         put(at, "a.dex", assembled(LISTED))
         status, out, said = tool("dexasm-lint", "--code", "a.dex", at=at)
         member = "a.dex: LA;->m(Ljava/lang/String;I)V:"
         seen = [line.partition(" error: ")[0] for line in out.splitlines()]
-        self.check("dexasm-lint --code, a file", seen == [f"{member} 4 (0x05):", f"{member} 5 (0x07):"], out)
-        is_so = "from instruction 1) on one way" in out and "from instruction 3)" in out
-        self.check("dexasm-lint --code, a file's ways", is_so, out)
+        self.check_equal("--code, a file", seen, [f"{member} 4 (0x05):", f"{member} 5 (0x07):"])
+        self.check_equal("--code, a file's ways", out, Has("from instruction 1) on one way", "from instruction 3)"))
         first = b"dex 035\nclass LA; 0x1\nsuper Ljava/lang/Object;\ndirect m ()V 0x9\ncode 1 0 0\n0: nop\n1:  neg-int v0 v0\n2: return-void\n"
         got = tool("dexasm-lint", "--code", "-", at=at, given=first + b"end code\nend class\n")
-        self.check(
-            "dexasm-lint --code, the first form", got[0] == 1 and got[1].startswith("standard input:7:16: error: "), got
-        )
+        self.check_equal("--code, the first form", got[:2], (1, Begins("standard input:7:16: error: ")))
 
     def test_forms(self) -> None:
         """JSON, SARIF, workers: each tells the same."""
@@ -467,9 +428,9 @@ class LintCode(HelperTest):
         lines = [
             f"a.txt:{one['line']}:{one['column']}: error: {one['why']} ({one['rule']}, {one['page']})" for one in told
         ]
-        self.check_equal("dexasm-lint --code, JSON and lines", plain, lines)
+        self.check_equal("--code, JSON and lines", plain, lines)
         seen: list[Any] = [one for one in told if one["page"] != lint_code.RULES[one["rule"]] or not one["sentence"]]
-        self.check("dexasm-lint --code, JSON's pages", told and not seen, seen[:2])
+        self.check_equal("--code, JSON's pages", (told, seen), (SOME, EMPTY))
         sarif = json.loads(tool("dexasm-lint", "--code", "--sarif", "a.txt", at=at)[1])["runs"][0]
         rules = [one["id"] for one in sarif["tool"]["driver"]["rules"]]
         regions = [one["locations"][0]["physicalLocation"]["region"] for one in sarif["results"]]
@@ -477,28 +438,28 @@ class LintCode(HelperTest):
             (rules[one["ruleIndex"]], region["startLine"], region["startColumn"], one["message"]["text"])
             for one, region in zip(sarif["results"], regions)
         ]
-        self.check_equal(
-            "dexasm-lint --code, SARIF", seen, [(one["rule"], one["line"], one["column"], one["why"]) for one in told]
-        )
-        self.check("dexasm-lint --code, SARIF's name", sarif["tool"]["driver"]["name"] == "dexasm-lint", sarif["tool"])
-        for env in (dict[str, str](), {"DEXASM_LIBRARY": config.shared_library()} if config.shared_library() else {}):
+        self.check_equal("--code, SARIF", seen, [(one["rule"], one["line"], one["column"], one["why"]) for one in told])
+        self.check_equal("--code, SARIF's name", sarif["tool"]["driver"]["name"], "dexasm-lint")
+        for env in (dict[str, str](), library()):
             got = tool("dexasm-lint", "--code", "--jobs", "3", "a.txt", "a.txt", at=at, **env)
-            self.check(f"dexasm-lint --code --jobs 3 {env}", (got[0], got[1].splitlines()) == (1, plain * 2), got[2])
+            self.check_equal(f"--code --jobs 3 {env}", (got[0], got[1].splitlines()), (1, plain * 2))
         put(at, "a.dex", assembled(listing(0, [*enumerate(ROWS)]).encode()))
         sarif = json.loads(tool("dexasm-lint", "--code", "--sarif", "a.dex", at=at)[1])["runs"][0]["results"]
         names = [one["locations"][0]["logicalLocations"][0]["fullyQualifiedName"] for one in sarif]
         seen = [(name, one["message"]["text"].partition(" (0x")[0]) for name, one in zip(names, sarif)]
         want: list[tuple[str | None, ...]] = [("t(ILjava/lang/String;)V", "instruction 0"), ("t(F)V", "instruction 0")]
-        self.check("dexasm-lint --code, SARIF of a file", seen[:2] == want and len(seen) == len(ROWS), seen[:2])
-        put(at, "b.txt", HEAD + b"class LA; 0x10000\nsuper LB;\nend class\n")
-        put(at, "c.txt", HEAD + b"class LA; 0x1\nsuper LB;\nend class\n")
+        self.check_equal("--code, SARIF of a file", (seen[:2], len(seen)), (want, len(ROWS)))
+        puts(at, {
+            "b.txt": HEAD + b"class LA; 0x10000\nsuper LB;\nend class\n",
+            "c.txt": HEAD + b"class LA; 0x1\nsuper LB;\nend class\n"
+        })
         status, out, said = tool("dexasm-lint", "--code", "--json", "none", "b.txt", "c.txt", at=at)
         seen = [(one["file"], one["status"], one["rule"]) for one in map(json.loads, out.splitlines())]
         want = [("none", "failed", None), ("b.txt", "broken", "class-flags"), ("c.txt", "ok", None)]
-        self.check("dexasm-lint --code, files", (status, seen, said.count("\n")) == (3, want, 1), (status, out, said))
+        self.check_equal("--code, files", (status, seen, said.count("\n")), (3, want, 1))
         for words in (("--jobs", "0"), ("--jobs",), ("--json", "--sarif"), ("--cod",)):
             got = tool("dexasm-lint", *words, "c.txt", at=at)
-            self.check(f"dexasm-lint {words}", got[:2] == (2, "") and "usage: " in got[2], got)
+            self.check_equal(words, got, (2, "", Has("usage: ")))
 
     def test_hostile(self) -> None:
         """None takes long, and no line has what a terminal obeys."""
@@ -508,25 +469,21 @@ class LintCode(HelperTest):
             spent = os.times()
             status, out, said = tool("dexasm-lint", "--code", "a.txt", at=at)
             taken = os.times().children_user - spent.children_user
-            is_so = status == wanted if wanted is not None else status in (0, 3)
-            self.check(f"dexasm-lint --code, {what}", is_so and begin in out and not said, (status, out[:300], said))
+            ends = Either(0, 3) if wanted is None else wanted
+            self.check_equal(f"--code, {what}", (status, out, said), (ends, Has(begin), ""))
             most = 10000 if "each method" in what else 5
-            self.check(
-                f"dexasm-lint --code, {what}: lines",
-                out.count("\n") <= most
-                and out[:-1].replace("\n", "").isprintable()
-                and all(len(line) < 600 for line in out.splitlines()),
-                out[:300],
-            )
-            self.check(f"dexasm-lint --code, {what}: seconds", taken < 20, taken)
+            self.check_equal(f"--code, {what}: lines",
+                             (out.count("\n") <= most, out[:-1].replace("\n", "").isprintable(),
+                              [line for line in out.splitlines() if len(line) >= 600]),
+                             (True, True, []))
+            self.check_equal(f"--code, {what}: seconds", taken, Below(20))
         put(at, "a.dex", assembled([text for what, text, *_ in hostile() if what == "marks"][0].encode()))
         out = tool("dexasm-lint", "--code", "a.dex", at=at)[1]
-        self.check("dexasm-lint --code, marks of a file", out.startswith(r"a.dex: L\u2066\u061c;->\u2067(L\u2066"), out)
-        put(at, "bad.txt", HEAD + b"class LA; 0x1\nbad\n")
-        put(at, ESC, HEAD + b"class LA; 0x1\nsuper LB;\nend class\n")
+        self.check_equal("--code, marks of a file", out, Begins(r"a.dex: L\u2066\u061c;->\u2067(L\u2066"))
+        puts(at, {"bad.txt": HEAD + b"class LA; 0x1\nbad\n", ESC: HEAD + b"class LA; 0x1\nsuper LB;\nend class\n"})
         status, out, said = tool("dexasm-lint", "--code", "bad.txt", ESC, at=at)
-        is_so = (status, out) == (1, "\\x1b: ok\n") and said == "dexasm-lint: bad.txt: dexasm: refused 100 Word at 3\n"
-        self.check("dexasm-lint --code, a file that is refused", is_so, (status, out, said))
+        self.check_equal("--code, a file that is refused", (status, out, said),
+                         (1, "\\x1b: ok\n", "dexasm-lint: bad.txt: dexasm: refused 100 Word at 3\n"))
 
     def test_seconds(self) -> None:
         """--seconds ends each worker, and the other files go on."""
@@ -534,20 +491,19 @@ class LintCode(HelperTest):
         body = "add-int/lit8 v0 v0 1\n" * 2000
         methods = (f"direct m ()V 0x9\ncode 1 0 0\nconst v0 {n}\n{body}return-void\nend code\n" for n in range(60))
         text = "".join(f"class L{n}; 0x1\nsuper Ljava/lang/Object;\n{one}end class\n" for n, one in enumerate(methods))
-        put(at, "a.txt", HEAD + text.encode())
-        put(at, "b.txt", HEAD + b"class LA; 0x1\nsuper LB;\nend class\n")
+        puts(at, {"a.txt": HEAD + text.encode(), "b.txt": HEAD + b"class LA; 0x1\nsuper LB;\nend class\n"})
         for jobs in ("1", "3"):
             seen = tool("dexasm-lint", "--code", "--seconds", "0.05", "--jobs", jobs, "a.txt", "b.txt", at=at)
             want = (3, "b.txt: ok\n", "dexasm-lint: a.txt: it takes longer than --seconds\n")
-            self.check_equal(f"dexasm-lint --code --jobs {jobs}, a file that takes long", seen, want)
+            self.check_equal(f"--code --jobs {jobs}, a file that takes long", seen, want)
             seen = tool("dexasm-lint", "--code", "--jobs", jobs, "a.txt", at=at)
-            self.check_equal(f"dexasm-lint --code --jobs {jobs}, the same with time", seen, (0, "a.txt: ok\n", ""))
+            self.check_equal(f"--code --jobs {jobs}, the same with time", seen, (0, "a.txt: ok\n", ""))
 
     def test_killed(self) -> None:
         """A worker that is killed or out of memory is a line, and ends no other file."""
         told = [[0, 0, -1, "ins-count", "x", -1]]
         for how, want in ((None, told), (signal.SIGKILL, "its worker was killed"), (signal.SIGPROF, SAYS["time"])):
-            worker = pool.Worker(Ends(how), [(0, 1), (1, 2)], 60)  # type: ignore[arg-type]  # (a stand-in)
+            worker = pool.Worker(Crashing(how), [(0, 1), (1, 2)], 60)  # type: ignore[arg-type]  # (a stand-in)
             seen = [[*one] for one in worker.result()]
             self.check_equal("the first part", seen, told)
             try:
@@ -578,7 +534,7 @@ class LintCode(HelperTest):
         for words, want in (((), both), (("--skip-boot",), kept), (("--skip-boot", "--jobs", "2"), kept)):
             status, told, said = lint(text, *words, at=at)
             seen = {(one["class"], one["rule"]) for one in told}
-            self.check_equal(f"dexasm-lint --code {words}, the boot class path", (status, seen, said), (1, want, ""))
+            self.check_equal(f"--code {words}, the boot class path", (status, seen, said), (1, want, ""))
 
     def test_shared(self) -> None:
         """A code that methods share is judged once for each signature, and told of in each method."""
@@ -603,11 +559,11 @@ class LintCode(HelperTest):
             told = [*lint_code.check_program(program)]
         finally:
             vars(lint_code)["Method"] = verify.Method
-        self.check_equal("dexasm-lint --code, codes that are shared", len(looked), 1 + 1 + 3 + 3)
+        self.check_equal("--code, codes that are shared", len(looked), 1 + 1 + 3 + 3)
         seen = [(one.row, program.classes[one.row].methods[one.method].signature, one.rule) for one in told]
         wrong = [("m(F)V", "register-kind"), ("n(F)V", "register-kind"), ("v()V", "register-kind")]
         want = [(row, *one) for row in range(3) for one in (*wrong, ("w()V", "register-kind"))]
-        self.check_equal("dexasm-lint --code, methods that share codes", seen, want)
+        self.check_equal("--code, methods that share codes", seen, want)
 
     def test_bounds(self) -> None:
         """A method beyond what is looked at isn't called right."""
@@ -620,7 +576,7 @@ class LintCode(HelperTest):
                 told = [one.rule for one in lint_code.check_program(program)]
             finally:
                 vars(dataflow).update(kept)
-            self.check_equal(f"dexasm-lint --code, bounds {bounds}", told, [lint_code.UNREAD])
+            self.check_equal(f"--code, bounds {bounds}", told, [lint_code.UNREAD])
 
     def test_page(self) -> None:
         """docs/VERIFIERS.md and the help have each rule of code, the page with its numbers, and no other; each is
@@ -628,8 +584,8 @@ class LintCode(HelperTest):
         helped = re.findall(r"^  ([a-z][a-z-]+)  ", tool("dexasm-lint", "--help")[1].partition("With --code")[2], re.M)
         rows = re.findall(r"^\| ([AB]\d.*?|code_item) \| (`.*`) \|$", get(TOP, "docs/VERIFIERS.md").decode(), re.M)
         rules = lint_code.RULES
-        self.check("the help has each rule of code", helped == [*rules], set(helped) ^ {*rules})
+        self.check_equal("the help has each rule of code", helped, [*rules])
         numbers = {word: number for number, words in rows for word in re.findall("[a-z-]+", words)}
-        self.check("VERIFIERS has each rule of code", numbers == rules, rows)
+        self.check_equal("VERIFIERS has each rule of code", numbers, rules)
         tried = {row[0] for row in ROWS}
-        self.check("each rule of code is tried", tried == {*rules}, tried ^ {*rules})
+        self.check_equal("each rule of code is tried", tried, {*rules})

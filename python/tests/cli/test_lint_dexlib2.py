@@ -13,6 +13,7 @@ from dexasm.analysis.verifier.hierarchy import Hierarchy
 from dexasm.analysis.verifier.lattice import Lattice, RegType
 from dexasm.analysis.verifier.method import Method
 from dexasm.program import Program
+from tests.matchers import EMPTY, Above
 from .support import HEAD, TOP, HelperTest, assembled, dexasm, put, room, run
 
 JARS = [f"/usr/share/java/{name}.jar" for name in ("dexlib2", "guava", "jsr305", "smali-util")]
@@ -39,44 +40,13 @@ NUMBERS = {
 }
 # A, B, C are registers, W begins a pair, T is a target.
 INSNS = (
-    "const/4 A 0",
-    "const/4 A 1",
-    "const/16 A 300",
-    "const-wide/16 W 7",
-    'const-string A "x"',
-    "new-instance A LX;",
-    "invoke-direct { A } LX;-><init>()V",
-    "add-int A B C",
-    "add-long W W W",
-    "add-float A B C",
-    "int-to-float A B",
-    "int-to-long W A",
-    "long-to-int A W",
-    "long-to-double W W",
-    "move A B",
-    "move-object A B",
-    "move-wide W W",
-    "if-eqz A :T",
-    "if-eqz A :T",
-    "if-eq A B :T",
-    "if-nez A :T",
-    "goto/32 :T",
-    "check-cast A [I",
-    "aget A B C",
-    "array-length A B",
-    "new-array A B [J",
-    "iget A B LX;->f:I",
-    "iput-object A B LX;->o:LX;",
-    "sget-wide W LX;->j:J",
-    "sget-object A LX;->o:LX;",
-    "sget A LX;->g:F",
-    "instance-of A B LX;",
-    "invoke-static { A } LX;->m(I)V",
-    "nop",
-    "move-result A",
-    "throw A",
-    "cmp-long A W W",
-    "and-int A B C",
+    "const/4 A 0", "const/4 A 1", "const/16 A 300", "const-wide/16 W 7", 'const-string A "x"', "new-instance A LX;",
+    "invoke-direct { A } LX;-><init>()V", "add-int A B C", "add-long W W W", "add-float A B C", "int-to-float A B",
+    "int-to-long W A", "long-to-int A W", "long-to-double W W", "move A B", "move-object A B", "move-wide W W",
+    "if-eqz A :T", "if-eqz A :T", "if-eq A B :T", "if-nez A :T", "goto/32 :T", "check-cast A [I", "aget A B C",
+    "array-length A B", "new-array A B [J", "iget A B LX;->f:I", "iput-object A B LX;->o:LX;", "sget-wide W LX;->j:J",
+    "sget-object A LX;->o:LX;", "sget A LX;->g:F", "instance-of A B LX;", "invoke-static { A } LX;->m(I)V", "nop",
+    "move-result A", "throw A", "cmp-long A W W", "and-int A B C"
 )
 
 
@@ -171,8 +141,7 @@ class BesideDexlib2(HelperTest):
                 alone += [] if is_told else [one.name]
             else:
                 seen.update(differences(method, found[one.name]))
-        self.check(
-            "dexlib2 and dexasm-lint, as many as are compared", len(found) == METHODS and seen[None] > 5000, seen
-        )
-        self.check("dexlib2 and dexasm-lint, registers", set(seen) == {None}, seen)
-        self.check("dexlib2 and dexasm-lint, what one refuses alone", len(refused) > 20 and not alone, alone)
+        self.check_equal("dexlib2 and dexasm-lint, as many as are compared", (len(found), seen[None]),
+                         (METHODS, Above(5000)))
+        self.check_equal("dexlib2 and dexasm-lint, registers", set(seen), {None})
+        self.check_equal("dexlib2 and dexasm-lint, what one refuses alone", (len(refused), alone), (Above(20), EMPTY))

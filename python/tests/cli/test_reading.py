@@ -13,9 +13,10 @@ from typing import Any
 
 from dexasm.cli.sanitize import escaped
 from tests import sought
+from tests.matchers import EMPTY, SOME, Above, Below, Has, Lacks
 from . import browser
 from .browse_pages import BrowseTest, browse, numbers_of, spelled
-from .support import HEAD, LISTING, assembled, get, put, room, seen_in, tool
+from .support import HEAD, LISTING, assembled, get, room, seen_in, tool
 
 
 # What nobody sees: of Default_Ignorable_Code_Point, and a Braille pattern without dots.
@@ -170,22 +171,20 @@ class Pages(BrowseTest):
     def test_escaped(self) -> None:
         """What is printed of a name, by the standard's own list where perl has it."""
         wrong: list[str] | list[int] = [char for char in UNSEEN if escaped(f"x{char}y") != f"x{shown(char)}y"]
-        self.check("names, what nobody sees is an escape", not wrong, ascii(wrong))
+        self.check_equal("names, what nobody sees is an escape", wrong, EMPTY)
         words = "for (0..0x10ffff) { print qq($_ ) if ($_ < 0xd800 || $_ > 0xdfff) && chr =~ /\\p{DI}/ }"
         kept = "\u00e9\u4e2d\U0001f600\u05d0\u0e01\u0e38 x"
         self.check_equal("names, what is seen stays", escaped(kept), kept)
         self.need("perl", "the standard's own list isn't looked at")
         listed = subprocess.run(["perl", "-e", words], capture_output=True).stdout.split()
         wrong = [int(one) for one in listed if escaped(chr(int(one))) == chr(int(one))]
-        self.check(
-            "names, all of Default_Ignorable_Code_Point", len(listed) > 4000 and not wrong, (len(listed), wrong[:5])
-        )
+        self.check_equal("names, all of Default_Ignorable_Code_Point", (len(listed), wrong), (Above(4000), EMPTY))
 
     def test_names(self) -> None:
         """Names that deceive, on each page and in the table."""
         at = room("pages names")
         seen = browse(at, deceiving(), name="names.dex"), tool("dexasm-size", "--html", "s.html", "names.dex", at=at)
-        self.check("pages, names that deceive", seen[0] == (0, "", "") and seen[1][0] == 0, seen)
+        self.check_equal("pages, names that deceive", (seen[0], seen[1][0]), ((0, "", ""), 0))
         self.pages(os.path.join(at, "out"))
         files = {
             name: given.decode("utf8")  # type: ignore[union-attr]  # (each is a file)
@@ -194,67 +193,58 @@ class Pages(BrowseTest):
         }
         wrong: list[tuple[str, str]] | list[str]
         wrong = [(name, shown(char)) for name, text in files.items() for char in UNSEEN if char in text]
-        self.check("pages, what nobody sees is on none", not wrong, wrong[:5])
+        self.check_equal("pages, what nobody sees is on none", wrong, EMPTY)
         overview, size = files["out/index.html"], files["s.html"]
         table = tool("dexasm-size", "--by", "class", "names.dex", at=at)[1].encode("latin1").decode("utf8")
         wrong = [shown(char) for char in UNSEEN if not all(f"x{shown(char)}" in one for one in (overview, size, table))]
-        self.check("pages, it is an escape", not wrong, wrong)
+        self.check_equal("pages, it is an escape", wrong, EMPTY)
         for what, text in (("dexasm-browse", overview), ("dexasm-size", size)):
             two = re.findall(r"L?caf[^<:;]*", text)
-            self.check(
-                f"{what}, two forms of a name", any("\u00e9" in one for one in two) and "e\\u0301" in text, ascii(two)
-            )
+            self.check_equal(f"{what}, two forms of a name", (any("\u00e9" in one for one in two), text),
+                             (True, Has("e\\u0301")))
             pile = "z" + "\u0335" * 4 + "\\u0335" * 16
-            self.check(f"{what}, marks that pile up", pile in text and "\u0335" * 5 not in text)
-            self.check(f"{what}, a mark that begins a name", "\\u0335w" in text and "\u0335w" not in text)
+            self.check_equal(f"{what}, marks that pile up", text, Has(pile) & Lacks("\u0335" * 5))
+            self.check_equal(f"{what}, a mark that begins a name", text, Has("\\u0335w") & Lacks("\u0335w"))
         turned = {
             name: found for name, text in files.items() if name.endswith("html") and (found := Turned(text).found)
         }
-        self.check("pages, letters from right to left are kept apart", not turned, ascii(turned))
+        self.check_equal("pages, letters from right to left are kept apart", turned, EMPTY)
         row = next(text for text in files.values() if "name in the file" in text and "\u05d0" in text)
-        self.check(
-            "dexasm-browse, a name in the order of the file", f"<code>{IN_ORDER}</code>" in row, ascii(row[:2000])
-        )
-        self.check("dexasm-size, a name in the order of the file", f"<td>{IN_ORDER}</td>" in size)
+        self.check_equal("a name in the order of the file", row, Has(f"<code>{IN_ORDER}</code>"))
+        self.check_equal("dexasm-size, a name in the order of the file", size, Has(f"<td>{IN_ORDER}</td>"))
 
     def test_cut(self) -> None:
         """Pages are cut where they would be large, each name is on one, and each link leads to the right one."""
         at, file = room("pages cut"), large()
         out = os.path.join(at, "out")
         seen = browse(at, file)
-        self.check_equal("dexasm-browse, a large file", seen, (0, "", ""))
+        self.check_equal("a large file", seen, (0, "", ""))
         found = self.pages(out)
         self.says_listing("a large file", found, file)
         sizes = {name: os.path.getsize(os.path.join(out, name)) for name in found}
-        self.check(
-            "dexasm-browse, no page is large", max(sizes.values()) < MOST, max(sizes.items(), key=lambda one: one[1])
-        )
+        self.check_equal("no page is large", max(sizes.values()), Below(MOST))
         cut = {f"{kind}-1.html" for kind in ("class/0", "class/1", "package/0")} | {"class/0-2.html"}
-        self.check("dexasm-browse, pages are cut", cut <= set(found), sorted(found)[:9])
-        self.check("dexasm-browse, an overview of many packages", sizes["index.html"] < MOST // 2, sizes["index.html"])
+        self.check("pages are cut", cut <= set(found), sorted(found)[:9])
+        self.check_equal("an overview of many packages", sizes["index.html"], Below(MOST // 2))
         text = get(out, "class/1-1.html").decode()
         starts = re.findall(r'<ol class="code" start="(\d+)">(?:<li class="l">:L\d+\n)?<li id="0\.(\d+)"', text)
-        self.check(
-            "dexasm-browse, lines go on by their numbers", len(starts) == 1 and starts[0][0] == starts[0][1], starts
-        )
+        self.check_equal("lines go on by their numbers", (len(starts), starts[0][0]), (1, starts[0][1]))
         on: dict[str, list[tuple[str, str]]] = {}
         for name in sorted(found, key=numbers_of):
             if name.startswith("class/0"):
                 for one in re.findall(r'<h3 id="(\d+)">[^<]* (m\d{4})', get(out, name).decode("utf8")):
                     on.setdefault(one[1], []).append((name, one[0]))
-        self.check("dexasm-browse, each method is on one page", [*map(len, on.values())] == [1] * 500, len(on))
+        self.check_equal("each method is on one page", [*map(len, on.values())], [1] * 500)
         index = {name[:5]: (page, number) for name, page, number in listed(out) if name.startswith("m")}
-        self.check_equal(
-            "dexasm-browse, the index leads there", index, {name: places[0] for name, places in on.items()}
-        )
+        self.check_equal("the index leads there", index, {name: places[0] for name, places in on.items()})
         texts = (get(out, name).decode() for name in found if name.startswith("package/0"))
         rows = sorted(one for text in texts for one in re.findall(r"<td><a[^>]*>(\d{5})", text))
-        self.check_equal("dexasm-browse, each package is on one page", rows, [f"{n:05}" for n in range(900)])
+        self.check_equal("each package is on one page", rows, [f"{n:05}" for n in range(900)])
         if browser.found():
             self.search_cut(out, index["m0499"])
         again = browse(at, assembled(LISTING))
         left = [name for name in seen_in(out) if "-" in name]
-        self.check("dexasm-browse, cut pages are replaced", again == (0, "", "") and not left, (again, left[:5]))
+        self.check_equal("cut pages are replaced", (again, left), ((0, "", ""), EMPTY))
         browser.needed()
 
     def search_cut(self, out: str, place: tuple[str, str]) -> None:
@@ -287,14 +277,12 @@ class Pages(BrowseTest):
                 self.need("dot", "no picture is asked for")
             browse(at, file, *words)
             seen = [hint in get(at, "out", "class", f"{row}.html").decode() for row in range(2)]
-            self.check_equal(f"dexasm-browse {words}, how a picture is asked for", seen, want)
+            self.check_equal(f"{words}, how a picture is asked for", seen, want)
 
     def test_sights(self) -> None:
         """What is seen of the pages at 400 and at 1280 pixels, in light and in dark."""
         browser.needed()
-        at = room("pages sights")
-        put(at, "many.dex", many())
-        put(at, "names.dex", deceiving())
+        at = room("pages sights", {"many.dex": many(), "names.dex": deceiving()})
         has_flows = shutil.which("dot") is not None
         tool("dexasm-size", "--html", "size.html", "many.dex", at=at)
         tool("dexasm-size", "--html", "names.html", "names.dex", at=at)
@@ -319,7 +307,7 @@ class Pages(BrowseTest):
                     page.keep(f"{name}-{width}")
             self.order(page, f"{top}/names")
             outside = [url for url in page.asked if not url.startswith((f"{top}/", "about:"))]
-            self.check("the pages, nothing beyond the folder is asked for", page.asked and not outside, outside[:5])
+            self.check_equal("the pages, nothing beyond the folder is asked for", (page.asked, outside), (SOME, EMPTY))
             self.check_equal("the pages, the console is empty", page.told, [])
 
     def fits(self, page: browser.Browser, top: str, name: str, width: int) -> None:
@@ -329,10 +317,16 @@ class Pages(BrowseTest):
         wide = page.run("document.documentElement.scrollWidth")
         self.check(f"{name} at {width}, no wider than the window", wide <= width, wide)
         columns = page.run(COLUMNS)
-        self.check(
+        self.check_equal(
             f"{name} at {width}, names have 12 letters in a line, in sight",
-            columns and all(count >= 12 and 0 <= left and right <= width for count, left, right in columns),
-            columns,
+            (
+                columns,
+                [
+                    (count, left, right) for count, left, right in columns
+                    if not (count >= 12 and 0 <= left and right <= width)
+                ]
+            ),
+            (SOME, [])
         )
         page.keep(f"{name}-{width}")
 
@@ -348,16 +342,16 @@ class Pages(BrowseTest):
     def look(self, page: browser.Browser, top: str, name: str, width: int) -> None:
         self.fits(page, top, name, width)
         high = page.run("document.documentElement.scrollHeight")
-        self.check(f"{name} at {width}, no higher than its rows need", high < 60_000, high)
+        self.check_equal(f"{name} at {width}, no higher than its rows need", high, Below(60_000))
         self.check_equal(f"{name} at {width}, labels in their box", page.run(LABELS), 0)
         scrolls, is_said = page.run(SCROLLS)
-        is_so = scrolls == is_said == (width == 400)
-        self.check(f"{name} at {width}, the picture scrolls and says so", is_so, (scrolls, is_said))
+        want = (width == 400,) * 2
+        self.check_equal(f"{name} at {width}, the picture scrolls and says so", (scrolls, is_said), want)
         for is_dark in (False, True):
             page.scheme(is_dark)
             ground, ink = page.run("['backgroundColor', 'color'].map((name) => getComputedStyle(document.body)[name])")
             lights = [sum(numbers_of(color)[:3]) for color in (ground, ink)]
-            self.check(f"{name}, {'dark' if is_dark else 'light'}", (lights[0] < lights[1]) == is_dark, (ground, ink))
+            self.check_equal(f"{name}, {'dark' if is_dark else 'light'}", lights[0] < lights[1], is_dark)
 
     def flows(self, page: browser.Browser, url: str, width: int) -> None:
         """A flow opens in sight, and buttons, keys and the wheel make it larger and smaller."""
@@ -372,37 +366,25 @@ class Pages(BrowseTest):
         )
         is_so = within(rect(box(0)), rect(block)) or rect(block)[2] - rect(block)[0] > width * 0.8
         in_sight = rect(block)[0] >= rect(box(0))[0] and rect(block)[1] >= rect(box(0))[1]
-        self.check(
-            f"a flow of many blocks at {width}, its first block is seen",
-            is_so and in_sight,
-            (rect(box(0)), rect(block)),
-        )
-        self.check(
-            f"a flow of few blocks at {width}, all is seen",
-            within(rect(box(1)), rect(f"{box(1)}.querySelector('svg')")),
-        )
+        self.check_equal(f"a flow of many blocks at {width}, its first block is seen", (is_so, in_sight), (True, SOME))
+        self.check(f"a flow of few blocks at {width}, all is seen",
+                   within(rect(box(1)), rect(f"{box(1)}.querySelector('svg')")))
         page.keep(f"flow-{width}")
         was = [wide()]
         page.run(f"{box(0)}.focus()")
-        acts: tuple[Callable[[], Any], ...] = (
-            lambda: page.key("+", "Equal", "+"),
-            lambda: page.key("-", "Minus", "-"),
-            lambda: press("Larger"),
-            lambda: page.wheel(f"{box(0)}", -100),
-            lambda: page.key("0", "Digit0", "0"),
-        )
+        acts: tuple[Callable[[], Any], ...] = (lambda: page.key("+", "Equal", "+"), lambda: page.key("-", "Minus", "-"),
+                                               lambda: press("Larger"), lambda: page.wheel(f"{box(0)}", -100),
+                                               lambda: page.key("0", "Digit0", "0"))
         for act in acts:
             act()
             was.append(wide())
         larger, smaller, button, wheel, whole = was[1:]
-        self.check(f"a flow at {width}, keys", larger > was[0] > 0 and abs(smaller - was[0]) < 1, was)
-        self.check(f"a flow at {width}, a button and the wheel", button > smaller and wheel > button, was)
+        self.check_equal(f"a flow at {width}, keys", (larger > was[0] > 0, abs(smaller - was[0])), (True, Below(1)))
+        self.check_equal(f"a flow at {width}, a button and the wheel", (button, wheel), (Above(smaller), Above(button)))
         place = rect(f"{box(0)}.querySelector('svg')")
-        self.check(
-            f"a flow at {width}, all of it", within(rect(box(0)), place) and whole < was[0], (rect(box(0)), place)
-        )
+        self.check_equal(f"a flow at {width}, all of it", (within(rect(box(0)), place), whole), (True, Below(was[0])))
         press("First block")
-        self.check(f"a flow at {width}, back to its first block", abs(wide() - was[0]) < 1, (wide(), was[0]))
+        self.check_equal(f"a flow at {width}, back to its first block", abs(wide() - was[0]), Below(1))
 
     def order(self, page: browser.Browser, top: str) -> None:
         """Names with letters from right to left: their parts stand from left to right."""

@@ -6,10 +6,11 @@ import shlex
 import subprocess
 
 from tests import config
+from tests.matchers import ANY, EMPTY, SOME, Above, Either, Has, Lacks, Other
 from .archive_files import archive
 from .ssh_logins import Logins, are_there
 from .recipe_cases import EVIL, IDENTITY, TEXT, blocks, many
-from .support import ESC, HEAD, TOP, HelperTest, assembled, dexasm, environment, get, put, room, seen_in, shell
+from .support import ESC, HEAD, TOP, HelperTest, assembled, dexasm, environment, get, put, puts, room, seen_in, shell
 from .signatures import resigned
 
 LOGGED = re.compile(r"^\d+\t\S+\t[\d.]+\t.*dexasm check .*\.dex", re.M)  # a row of parallel's log
@@ -19,11 +20,8 @@ def with_names(block: str, name: str) -> str:
     """The recipe with another name before each .dex, .apk, .html and .txt, as a shell takes it; a line of what is told,
     in a comment, stays as it is.
     """
-    return re.sub(
-        r"(?<![\w.*'/])(\w+)(\.(?:dex|apk|html|stripped|txt))\b(?!:\d)",
-        lambda found: shlex.quote(f"{name}{found[1]}{found[2]}"),
-        block,
-    )
+    return re.sub(r"(?<![\w.*'/])(\w+)(\.(?:dex|apk|html|stripped|txt))\b(?!:\d)",
+                  lambda found: shlex.quote(f"{name}{found[1]}{found[2]}"), block)
 
 
 def prepared(what: str, name: str) -> str:
@@ -33,8 +31,10 @@ def prepared(what: str, name: str) -> str:
     other = assembled(TEXT.replace(b"v0 41", b"v0 42").replace(b"return v0", b"nop\nnop\nreturn v0"))
     for one, given in (("a", file), ("b", other), ("hello", file[:-1]), ("classes", file)):
         put(at, f"{name}{one}.dex", given)
-    put(at, f"{name}a.txt", TEXT.replace(b"const/16 v0 41", b"const/16 v9 41"))
-    put(at, f"{name}app.apk", archive(("classes.dex", file), ("classes2.dex", b"no file")))
+    puts(at, {
+        f"{name}a.txt": TEXT.replace(b"const/16 v0 41", b"const/16 v9 41"),
+        f"{name}app.apk": archive(("classes.dex", file), ("classes2.dex", b"no file"))
+    })
     return at
 
 
@@ -76,24 +76,19 @@ class Recipes(HelperTest):
             for name in ("", EVIL):
                 at = prepared(f"{head} {which} {bool(name)}", name)
                 _, out, said = shell(with_names(text, name), at)
-                is_so = (
-                    all(word in out + said for word in words)
-                    and not any("PWNED" == one for one in seen_in(at))
-                    and "Traceback" not in said
-                )
-                self.check(
-                    f"RECIPES: {head}, {which}, {'an evil name' if name else 'as it stands'}", is_so, (out, said)
-                )
+                self.check_equal(f"RECIPES: {head}, {which}, {'an evil name' if name else 'as it stands'}",
+                                 ([word for word in words if word not in out + said],
+                                  [one for one in seen_in(at) if "PWNED" == one], said),
+                                 ([], [], Lacks("Traceback")))
         for line in recipes_of_readme():
             for name in ("", EVIL):
                 at = prepared(f"README {line[:26]} {bool(name)}".replace("/", ""), name)
                 status, out, said = shell(with_names(line, name), at)
-                is_so = (
-                    status in (0, 1) and "PWNED" not in seen_in(at) and "Traceback" not in said and "cannot" not in said
-                )
-                if line.startswith("dexasm-check a.txt"):
-                    is_so = is_so and ": error: 118 Register: v9 of 2 registers (in get(Z)I, instruction " in out
-                self.check(f"README: {line}, {'an evil name' if name else 'as it stands'}", is_so, (status, out, said))
+                refusal = ": error: 118 Register: v9 of 2 registers (in get(Z)I, instruction "
+                prints = Has(refusal) if line.startswith("dexasm-check a.txt") else ANY
+                self.check_equal(f"README: {line}, {'an evil name' if name else 'as it stands'}",
+                                 (status, out, said, [*seen_in(at)]),
+                                 (Either(0, 1), prints, Lacks("Traceback", "cannot"), Lacks("PWNED")))
 
     def test_order(self) -> None:
         """The recipes of the page in their order in one folder, on the files that its first block makes there."""
@@ -106,8 +101,8 @@ class Recipes(HelperTest):
         for head, texts in found.items():
             for number, text in enumerate(texts):
                 _, _, said = shell("".join(line for line in text.splitlines(True) if "apksigner" not in line), at)
-                is_so = not re.search(r"Traceback|No such file|cannot|usage:", said)
-                self.check(f"RECIPES: in order: {head}, {number}", is_so, said)
+                self.check_equal(f"RECIPES: in order: {head}, {number}",
+                                 re.search(r"Traceback|No such file|cannot|usage:", said), EMPTY)
 
     def test_application(self) -> None:
         """An archive in place of a file, and a patched file put back, by plain names and by evil ones."""
@@ -116,15 +111,16 @@ class Recipes(HelperTest):
         changed = assembled(TEXT.replace(b"v0 41", b"v0 42"))
         back = "".join(line for line in back.splitlines(True) if not line.startswith("apksigner"))
         for name in ("", EVIL):
-            at = room(f"application {bool(name)}")
-            put(at, f"{name}app.apk", archive(("classes.dex", file), ("classes2.dex", other), ("x", b"x")))
-            put(at, f"{name}new.apk", archive(("classes.dex", changed), ("classes2.dex", other)))
+            at = room(f"application {bool(name)}", {
+                f"{name}app.apk": archive(("classes.dex", file), ("classes2.dex", other), ("x", b"x")),
+                f"{name}new.apk": archive(("classes.dex", changed), ("classes2.dex", other))
+            })
             _, out, said = shell(with_names(several, name), at)
             wants = "!classes2.dex: ok\n", "class LHello; 0x1\n", "@@ LHello;->get(Z)I in both @@\n", "unchanged)"
-            is_so = all(want in out for want in wants) and said == ""
-            self.check(f"RECIPES: archives, {name!r}", is_so and "PWNED" not in seen_in(at), (out, said))
+            self.check_equal(f"RECIPES: archives, {name!r}",
+                             ([want for want in wants if want not in out], said, seen_in(at)), ([], "", Lacks("PWNED")))
             seen = shell(f"set -e\n{with_names(back, name)}", at)
-            self.check(f"RECIPES: a patched file, {name!r}", seen == (0, "", "") and "PWNED" not in seen_in(at), seen)
+            self.check_equal(f"RECIPES: a patched file, {name!r}", (seen, seen_in(at)), ((0, "", ""), Lacks("PWNED")))
             words = ("dexasm-diff", "--", f"{name}new.apk", f"{name}patched.apk")
             seen = shell(" ".join(map(shlex.quote, words)), at)
             self.check_equal(f"RECIPES: what was patched, {name!r}", seen, (0, "", ""))
@@ -135,15 +131,16 @@ class Recipes(HelperTest):
         lines = blocks("docs/RECIPES.md")["Several files in one"][0]
         first, second = assembled(TEXT), assembled(HEAD + b"class LOther; 0x1\nsuper LHello;\nend class\n")
         for name in ("", EVIL):
-            at = room(f"merged {bool(name)}")
-            put(at, f"{name}a.dex", first)
-            put(at, f"{name}other.dex", second)
-            put(at, f"{name}app.apk", archive(("classes.dex", second), ("classes2.dex", first)))
+            at = room(f"merged {bool(name)}", {
+                f"{name}a.dex": first, f"{name}other.dex": second,
+                f"{name}app.apk": archive(("classes.dex", second), ("classes2.dex", first))
+            })
             seen = shell(f"set -e\n{with_names(lines, name)}", at)
             listed = {one: dexasm("list", given=get(at, f"{name}{one}.dex")) for one in ("ab", "app", "a")}
             other = b"class LOther; 0x1\nsuper LHello;\nend class\n"
-            is_so = seen == (0, "", "") and {listed["ab"], listed["app"]} == {listed["a"] + other}
-            self.check(f"RECIPES: several files in one, {name!r}", is_so and "PWNED" not in seen_in(at), seen)
+            self.check_equal(f"RECIPES: several files in one, {name!r}",
+                             (seen, {listed["ab"], listed["app"]}, seen_in(at)),
+                             ((0, "", ""), {listed["a"] + other}, Lacks("PWNED")))
 
     def test_words(self) -> None:
         """Each command of the table of other tools' words ends well, and writes no more than it says."""
@@ -152,52 +149,43 @@ class Recipes(HelperTest):
         commands = [one.replace("\0", "|") for row in rows for one in re.findall(r"`(dexasm[- ][^`]*)`", row[1])]
         for command in commands:
             at = prepared(f"word {command[:24]}".replace("/", ""), "")
-            put(at, "a.txt", TEXT)
-            put(at, "mapping.txt", b"com.x.Hi -> Hello:\n")
+            puts(at, {"a.txt": TEXT, "mapping.txt": b"com.x.Hi -> Hello:\n"})
             status, out, said = shell(command, at)
             wrote = [one for one in ("c.dex", "pages", "listings") if os.path.exists(os.path.join(at, one))]
             # (one entry of the archive is refused, and the two files differ)
-            is_so = (
-                status == (1 if command.startswith(("dexasm-apk", "dexasm-diff")) else 0)
-                and (out or wrote)
-                and "Traceback" not in said
-            )
-            self.check(
-                f"RECIPES: {command}", is_so and all(one in command for one in wrote), (status, out, said, wrote)
-            )
+            want = 1 if command.startswith(("dexasm-apk", "dexasm-diff")) else 0
+            self.check_equal(f"RECIPES: {command}", (status, out or wrote, said), (want, SOME, Lacks("Traceback")))
+            self.check_equal(f"RECIPES: {command}: its files", [one for one in wrote if one not in command], [])
         helpers = {command.split()[0] for command in commands}
-        self.check(
-            "RECIPES: words of other tools", len(commands) > 15 and len(rows) > 12 and len(helpers) > 9, commands
-        )
+        self.check_equal("RECIPES: words of other tools", (len(commands), len(rows), len(helpers)),
+                         (Above(15), Above(12), Above(9)))
 
     def test_signed(self) -> None:
         """The commands for a file that D8 before 1.6.20 signed: it is explained, closed and stripped."""
         explain, _, told, close, strip = blocks("docs/RECIPES.md")["What a refusal means"][0].splitlines()
         file = assembled(TEXT)
         for name in ("", EVIL):
-            at = room(f"signed {bool(name)}")
-            put(at, f"{name}a.dex", resigned(file, hashlib.sha1(file[32:-52]).digest()))
+            at = room(f"signed {bool(name)}", {f"{name}a.dex": resigned(file, hashlib.sha1(file[32:-52]).digest())})
             seen = [shell(with_names(line, name), at) for line in (explain, told, close, strip)]
-            is_so = "refused 9 Signature" in seen[0][1] and "signed as D8 before 1.6.20 wrote it" in seen[0][1]
-            self.check(f"RECIPES, {explain}", is_so, seen)
-            self.check(f"RECIPES, {told}", seen[1][0] == 1, seen)
-            is_so = seen[2][:2] == (0, "") and seen[3] == (0, "", "") and get(at, f"{name}closed.dex") == file
-            stripped = dexasm("strip", given=file)
-            self.check(f"RECIPES, {close}; {strip}", is_so and get(at, f"{name}stripped.dex") == stripped, seen)
+            self.check_equal(f"RECIPES, {explain}", seen[0][1],
+                             Has("refused 9 Signature", "signed as D8 before 1.6.20 wrote it"))
+            self.check_equal(f"RECIPES, {told}", seen[1][0], 1)
+            files = get(at, f"{name}closed.dex"), get(at, f"{name}stripped.dex")
+            self.check_equal(f"RECIPES, {close}; {strip}", (*seen[2:], files),
+                             ((0, "", ANY), (0, "", ""), (file, dexasm("strip", given=file))))
 
     def test_same(self) -> None:
         """No recipe says that two files are the same that are both refused."""
         recipes = [blocks("docs/RECIPES.md")["Two files"][0], blocks("docs/RECIPES.md")["Two files"][1]]
         recipes += [line for line in recipes_of_readme() if re.match("dexasm-diff|.*&& cmp", line)]
-        self.check("recipes that compare", len(recipes) == 4, recipes)
+        self.check_equal("recipes that compare", len(recipes), 4)
         for number, recipe in enumerate(recipes):
             at = room(f"same {number}")
             for name in ("a.dex", "b.dex"):
                 put(at, name, b"no file")
             seen = shell(recipe, at)
-            self.check(
-                f"{recipe!r} of two files that are refused", seen[0] != 0 and "refused 1 TooShort" in seen[2], seen
-            )
+            self.check_equal(f"{recipe!r} of two files that are refused", seen,
+                             (Other(0), ANY, Has("refused 1 TooShort")))
             for name in ("a.dex", "b.dex"):
                 put(at, name, assembled(TEXT))
             seen = shell(recipe, at)
@@ -215,45 +203,29 @@ class Recipes(HelperTest):
             changed = [
                 line for line in said[1].splitlines() if line[:1] in ("-", "+") and line[:3] not in ("---", "+++")
             ]
-            self.check(
-                f"git diff of {file!r}",
-                seen[0] == 0 and changed == ["-add-int/lit8 v0 v0 -1", "+add-int/lit8 v0 v0 -2", "+nop"],
-                said,
-            )
-            self.check(
-                f"git diff of {file!r}: the method",
-                " @@ direct get (Z)I 0x9\n" in said[1] and "PWNED" not in os.listdir(at),
-                said,
-            )
+            self.check_equal(f"git diff of {file!r}", (seen[0], changed),
+                             (0, ["-add-int/lit8 v0 v0 -1", "+add-int/lit8 v0 v0 -2", "+nop"]))
+            self.check_equal(f"git diff of {file!r}: the method", (said[1], os.listdir(at)),
+                             (Has(" @@ direct get (Z)I 0x9\n"), Lacks("PWNED")))
             put(at, file, b"no file")
-            self.check(
-                f"git diff of {file!r}, refused",
-                "\n+dexasm: refused 1 TooShort at 7\n" in shell("git diff", at, **IDENTITY)[1],
-                said,
-            )
+            self.check_equal(f"git diff of {file!r}, refused", shell("git diff", at, **IDENTITY)[1],
+                             Has("\n+dexasm: refused 1 TooShort at 7\n"))
         put(at, file, assembled(TEXT.replace(b"v0 41", b"v0 43")))
         shell("git add -A && git commit -qm b", at, **IDENTITY)
         without = shell("git show", at, **IDENTITY, DEXASM_COMMAND="/none")
-        self.check(
-            "git show without dexasm", without[0] != 0 and "DEXASM_COMMAND names no command" in without[2], without
-        )
+        self.check_equal("git show without dexasm", without, (Other(0), ANY, Has("DEXASM_COMMAND names no command")))
         seen = shell("git show", at, **IDENTITY)
-        self.check(
-            "git show keeps nothing of it",
-            seen[0] == 0 and "\n+const/16 v0 43\n" in seen[1] and "names no" not in seen[1],
-            seen,
-        )
+        self.check_equal("git show keeps nothing of it", seen[:2], (0, Has("\n+const/16 v0 43\n") & Lacks("names no")))
         without = shell("git config diff.dex.textconv no-such-command && git show", at, **IDENTITY)
-        self.check("git show without the helper", without[0] != 0, without)
+        self.check_equal("git show without the helper", without[0], Other(0))
 
     def test_split(self) -> None:
         block = blocks("docs/RECIPES.md")["Versions of a file in git"][1]
         for name in ("", EVIL):
             at = prepared(f"split {bool(name)}", name)
             seen = shell(with_names(block, name), at)
-            is_so = seen == (0, "", "") and get(at, f"{name}a.dex") == get(at, f"{name}joined.dex")
-            is_so = is_so and "PWNED" not in seen_in(at)
-            self.check(f"RECIPES: split and joined, {name!r}", is_so, seen)
+            self.check_equal(f"RECIPES: split and joined, {name!r}", (seen, get(at, f"{name}a.dex"), seen_in(at)),
+                             ((0, "", ""), get(at, f"{name}joined.dex"), Lacks("PWNED")))
 
     def test_many(self) -> None:
         """Each refused file has one line, which nothing on a terminal obeys."""
@@ -262,38 +234,35 @@ class Recipes(HelperTest):
         put(at, os.fsdecode(b"n\xff.dex"), b"no file")
         status, out, said = shell(blocks("docs/RECIPES.md")["Many files"][0], at)
         lines = out.splitlines()
-        is_so = len(lines) == refused + 1 and all(
-            re.fullmatch(r".*\.dex'?: status 1: dexasm:\\ refused\\ .*", line) and line.isprintable() for line in lines
-        )
-        self.check(
+        self.check_equal(
             "RECIPES: many files",
-            status in (0, 123) and said == "" and is_so and "PWNED" not in os.listdir(at),
-            (status, out, said),
+            (
+                status, said, len(lines),
+                [
+                    line for line in lines
+                    if not (re.fullmatch(r".*\.dex'?: status 1: dexasm:\\ refused\\ .*", line) and line.isprintable())
+                ],
+                os.listdir(at)
+            ),
+            (Either(0, 123), "", refused + 1, [], Lacks("PWNED"))
         )
-        fake = room("many killed")
-        put(fake, "bin/dexasm", b"#!/bin/sh\nkill -9 $$\n")
+        fake = room("many killed", {"bin/dexasm": b"#!/bin/sh\nkill -9 $$\n"})
         os.chmod(os.path.join(fake, "bin/dexasm"), 0o755)
         put(fake, "a.dex", assembled(TEXT))
         _, out, _ = shell(f"PATH={shlex.quote(fake)}/bin:$PATH\n" + blocks("docs/RECIPES.md")["Many files"][0], fake)
-        self.check("RECIPES: many files, a run that is killed", "./a.dex: status 137: " in out, out)
+        self.check_equal("RECIPES: many files, a run that is killed", out, Has("./a.dex: status 137: "))
 
     def resumed(self, what: str, at: str, refused: int, **env: str) -> None:
         """The recipe, twice: the job that was killed is told and done again."""
         block = blocks("docs/RECIPES.md")["Many files"][1]
         _, first, said = shell(block, at, **env)
-        self.check(
-            f"RECIPES: {what}: a job that was killed is told",
-            len(LOGGED.findall(first)) == refused + 1 and "check ./ok.dex" in first,
-            (first, said),
-        )
-        self.check(f"RECIPES: {what}: nothing is obeyed", "PWNED" not in os.listdir(at) and ESC not in first, first)
+        self.check_equal(f"RECIPES: {what}: a job that was killed is told", (len(LOGGED.findall(first)), first),
+                         (refused + 1, Has("check ./ok.dex")))
+        self.check_equal(f"RECIPES: {what}: nothing is obeyed", (os.listdir(at), first), (Lacks("PWNED"), Lacks(ESC)))
         _, second, said = shell(block, at, **env)
         again = re.findall(r"^(\d+)\tok$", second, re.M)
-        self.check(
-            f"RECIPES: {what}: it is done again, alone",
-            len(again) == 1 and len(LOGGED.findall(second)) == refused,
-            (second, said),
-        )
+        self.check_equal(f"RECIPES: {what}: it is done again, alone", (len(again), len(LOGGED.findall(second))),
+                         (1, refused))
 
     def test_parallel(self) -> None:
         self.need("parallel", "its recipe isn't tried")
@@ -324,18 +293,8 @@ class Recipes(HelperTest):
 
     def test_page(self) -> None:
         """Each recipe is tried."""
-        known = {
-            "Files to try them on": 1,
-            "Inspecting a file": 1,
-            "An .apk": 3,
-            "What a refusal means": 1,
-            "A file for a device": 2,
-            "Two files": 2,
-            "Versions of a file in git": 2,
-            "What takes the space": 1,
-            "Several files in one": 1,
-            "Many files": 2,
-            "A corpus": 3,
-        }
+        known = {"Files to try them on": 1, "Inspecting a file": 1, "An .apk": 3, "What a refusal means": 1,
+                 "A file for a device": 2, "Two files": 2, "Versions of a file in git": 2, "What takes the space": 1,
+                 "Several files in one": 1, "Many files": 2, "A corpus": 3}
         found = {head: len(texts) for head, texts in blocks("docs/RECIPES.md").items() if texts}
         self.check_equal("RECIPES: as many recipes as are tried", found, known)

@@ -1,58 +1,11 @@
 """dexasm-rename: by word and by mapping, there and back, and what it refuses; names of strangers stay names."""
 import os
 
-from .support import ESC, HEAD, LISTING, NAMES, HelperTest, assembled, dexasm, get, is_one_line, put, room, shell, tool
+from tests.matchers import Has, Lacks
+from ..cases import TEXTS
+from .support import ESC, HEAD, LISTING, NAMES, HelperTest, Line, assembled, dexasm, get, put, puts, room, shell, tool
 
-PROGRAM = rb"""class Lp/I; 0x601
-super Ljava/lang/Object;
-virtual m ()V 0x401
-end class
-class Lp/B; 0x1
-super Ljava/lang/Object;
-static f Lp/B; 0x9
-direct <init> ()V 0x10001
-code 1 1 1
-invoke-direct { v0 } Ljava/lang/Object;-><init>()V
-return-void
-end code
-virtual m ()V 0x1
-code 1 1 0
-return-void
-end code
-end class
-class Lp/A; 0x1
-super Lp/B;
-implements Lp/I;
-static s Ljava/lang/String; 0x9 = string "see p.B, Lp/B; and xp.B"
-static t Lp/B; 0x9
-static u Ljava/lang/Class; 0x9 = type [Lp/B;
-static v Ljava/lang/Object; 0x9 = array { method Lp/A;->m()V field Lp/A;->f:Lp/B; }
-virtual k (Lp/B;)[Lp/B; 0x1
-code 3 2 1
-:F
-sget-object v0 Lp/A;->f:Lp/B;
-invoke-virtual { v0 } Lp/A;->m()V
-invoke-interface { v0 } Lp/I;->m()V
-invoke-virtual { v0 } Lp/A;->toString()Ljava/lang/String;
-const-class v0 [[Lp/B;
-:T
-const/4 v0 0
-return-object v0
-:H
-move-exception v0
-throw v0
-try :F :T
-catch Lp/B; :H
-end code
-end class
-class Lout/C; 0x1
-super Lout/Side;
-virtual m ()V 0x1
-code 1 1 0
-return-void
-end code
-end class
-"""
+PROGRAM = TEXTS["test_rename PROGRAM"].encode()
 # What the listing is after `B` is `q.Base` and its members have other names: by hand, but for what stays.
 RENAMED = (
     PROGRAM.replace(b"Lp/B;", b"Lq/Base;").replace(b"see p.B, Lq/Base; and", b"see p.B, Lp/B; and")
@@ -85,70 +38,68 @@ class Rename(HelperTest):
 
     def test_words(self) -> None:
         """Classes and members by word; back again it is the same to the byte."""
-        at = room("rename words")
-        put(at, "a.dex", assembled(HEAD + PROGRAM))
+        at = room("rename words", {"a.dex": assembled(HEAD + PROGRAM)})
         seen = tool("dexasm-rename", "a.dex", *WORDS, "--output", "b.dex", at=at)
         text = "dexasm-rename: a text has an old name, and stays: see p.B, Lp/B; and xp.B"
-        self.check("dexasm-rename", seen[:2] == (0, "") and is_one_line(seen[2], text), seen)
-        self.check_equal("dexasm-rename, what it makes", get(at, "b.dex"), assembled(HEAD + RENAMED))
+        self.check_equal("dexasm-rename", seen, (0, "", Line(text)))
+        self.check_equal("what it makes", get(at, "b.dex"), assembled(HEAD + RENAMED))
         seen = tool("dexasm-rename", "b.dex", *BACK, "--output", "b.dex", at=at)
-        self.check("dexasm-rename, back", seen[0] == 0 and get(at, "b.dex") == get(at, "a.dex"), seen)
+        self.check_equal("back", (seen[0], get(at, "b.dex")), (0, get(at, "a.dex")))
         seen = tool("dexasm-rename", "a.dex", "p.*=r.s.*", "--output", "c.dex", at=at)
         want = self.listed(at, "a.dex").replace(b"Lp/", b"Lr/s/").replace(b"p.B, Lr/s/B;", b"p.B, Lp/B;")
-        self.check("dexasm-rename, a package", seen[0] == 0 and self.listed(at, "c.dex") == want, seen)
+        self.check_equal("a package", (seen[0], self.listed(at, "c.dex")), (0, want))
 
     def test_mapping(self) -> None:
         """What R8 did is taken back, and done again."""
-        at = room("rename mapping")
-        put(at, "a.dex", assembled(HEAD + PROGRAM))
-        put(at, "map.txt", MAPPING.encode())
+        at = room("rename mapping", {"a.dex": assembled(HEAD + PROGRAM), "map.txt": MAPPING.encode()})
         seen = tool("dexasm-rename", "--mapping", "map.txt", "a.dex", "--output", "b.dex", at=at)
         text = self.listed(at, "b.dex").decode()
-        for part in ("class Lcom/x/Iface;", "virtual run ()V", "class Lcom/x/Base$Inner;", "static self Lcom/x/Base$Inner;",
-                     "virtual take (Lcom/x/Base$Inner;)[Lcom/x/Base$Inner;", "Lcom/x/Main;->run()V", "direct <init> ()V"):
-            self.check(f"dexasm-rename --mapping: {part}", part in text, text)
-        self.check("dexasm-rename --mapping, what isn't there", "map.txt: 3 of its classes and members aren't there" in seen[2], seen)
+        for part in (
+            "class Lcom/x/Iface;", "virtual run ()V", "class Lcom/x/Base$Inner;", "static self Lcom/x/Base$Inner;",
+            "virtual take (Lcom/x/Base$Inner;)[Lcom/x/Base$Inner;", "Lcom/x/Main;->run()V", "direct <init> ()V"
+        ):
+            self.check_equal(f"--mapping: {part}", text, Has(part))
+        self.check_equal("--mapping, what isn't there", seen[2],
+                         Has("map.txt: 3 of its classes and members aren't there"))
         seen = tool("dexasm-rename", "--mapping", "map.txt", "--forward", "b.dex", "--output", "c.dex", at=at)
-        self.check("dexasm-rename --mapping --forward", seen[0] == 0 and get(at, "c.dex") == get(at, "a.dex"), seen)
+        self.check_equal("--mapping --forward", (seen[0], get(at, "c.dex")), (0, get(at, "a.dex")))
         for line in (f"{ESC}[31m -> x", "    int n -> a -> b", "p.A ->", "    int n"):
             put(at, "bad.txt", f"p.A -> p.B:\n{line}\n".encode())
             seen = tool("dexasm-rename", "--mapping", "bad.txt", "a.dex", "--output", "d.dex", at=at)
-            is_so = seen[:2] == (3, "") and is_one_line(seen[2], "dexasm-rename: bad.txt:2: no line of a mapping: ")
-            self.check(f"dexasm-rename, a mapping with {line!a}", is_so and not os.path.exists(os.path.join(at, "d.dex")), seen)
+            self.check_equal(f"a mapping with {line!a}", (seen, os.path.exists(os.path.join(at, "d.dex"))),
+                             ((3, "", Line("dexasm-rename: bad.txt:2: no line of a mapping: ")), False))
 
     def test_refused(self) -> None:
         """What would be two things' name at once, what isn't there, and what has no other name: OUT stays as it was."""
         at = room("rename refused")
         same = b"virtual same (Lp/B;)[Lp/B; 0x401\nvirtual k "
         more = PROGRAM.replace(b"static f ", b"static g Lp/B; 0x9\nstatic f ").replace(b"virtual k ", same)
-        put(at, "a.dex", assembled(HEAD + more))
-        put(at, "o.dex", b"old")
+        puts(at, {"a.dex": assembled(HEAD + more), "o.dex": b"old"})
         for words, status, says in (
-            (("p.B=p.A",), 1, "Lp/B; can't be Lp/A;"),
-            (("p.B=x.Y", "p.A=x.Y"), 1, "Lp/A; can't be Lx/Y;"),
+            (("p.B=p.A",), 1, "Lp/B; can't be Lp/A;"), (("p.B=x.Y", "p.A=x.Y"), 1, "Lp/A; can't be Lx/Y;"),
             (("p.B=out.Side",), 1, "Lp/B; can't be Lout/Side;, which the file names"),
             (("p.B=x.Y", "p.B=x.Z"), 1, "Lp/B; is to be Lx/Y; and Lx/Z;"),
             (("p.I->m=a", "p.B->m=b"), 1, "is to be a and b: they override one another"),
             (("p.A->k=same",), 1, "Lp/A;->k(Lp/B;)[Lp/B; can't be same(Lp/B;)[Lp/B;, as Lp/A;->same(Lp/B;)[Lp/B; is"),
             (("p.B->g=f",), 1, "can't be f:Lp/B;, as Lp/B;->f:Lp/B; is"), (("p.B->f=t",), 1, "as Lp/A;->t:Lp/B; is"),
-            (("p.B-><init>=n",), 2, "a constructor keeps its name"), (("p.B->m=<init>",), 2, "a constructor keeps its name"),
-            (("q.None=q.Other",), 2, "Lq/None; is no class of the file"), (("out.Side=x.Y",), 2, "is no class of the file"),
-            (("p.B->none=n",), 2, "names no member of the file"), (("z.*=y.*",), 2, "has no class of that package"),
-            (("p.*=y",), 2, "is no package"), (("p.B=a b",), 2, "is no name of a class"), (("p.B->m=a b",), 2, "is no name of a member"),
-            (("p.B",), 2, "OLD=NEW"), (("--forward", "p.B=q.B"), 2, "--forward is for --mapping"), ((), 2, "OLD=NEW"),
-        ):  # fmt: skip
+            (("p.B-><init>=n",), 2, "a constructor keeps its name"),
+            (("p.B->m=<init>",), 2, "a constructor keeps its name"),
+            (("q.None=q.Other",), 2, "Lq/None; is no class of the file"),
+            (("out.Side=x.Y",), 2, "is no class of the file"), (("p.B->none=n",), 2, "names no member of the file"),
+            (("z.*=y.*",), 2, "has no class of that package"), (("p.*=y",), 2, "is no package"),
+            (("p.B=a b",), 2, "is no name of a class"), (("p.B->m=a b",), 2, "is no name of a member"),
+            (("p.B",), 2, "OLD=NEW"), (("--forward", "p.B=q.B"), 2, "--forward is for --mapping"), ((), 2, "OLD=NEW")
+        ):
             seen = tool("dexasm-rename", "a.dex", *words, "--output", "o.dex", at=at)
-            is_so = seen[:2] == (status, "") and says in seen[2] and get(at, "o.dex") == b"old"
-            self.check(f"dexasm-rename {' '.join(words)}", is_so, seen)
+            self.check_equal(f"{' '.join(words)}", (seen, get(at, "o.dex")), ((status, "", Has(says)), b"old"))
 
     def test_outside(self) -> None:
         """What a renamed method may override, from outside, is told by name."""
-        at = room("rename outside")
-        put(at, "a.dex", assembled(HEAD + PROGRAM))
+        at = room("rename outside", {"a.dex": assembled(HEAD + PROGRAM)})
         seen = tool("dexasm-rename", "a.dex", "out.C->m=n", "--output", "b.dex", at=at)
         says = "dexasm-rename: a renamed method's class inherits from Lout/Side;, which isn't there"
-        self.check("dexasm-rename, a class from outside", seen[:2] == (0, "") and is_one_line(seen[2], says), seen)
-        self.check("dexasm-rename, no other method", self.listed(at, "b.dex").count(b"virtual m ") == 2)
+        self.check_equal("a class from outside", seen, (0, "", Line(says)))
+        self.check_equal("no other method", self.listed(at, "b.dex").count(b"virtual m "), 2)
 
     def test_families(self) -> None:
         """Methods that meet in a class below are renamed together, from whichever of them it begins."""
@@ -174,8 +125,7 @@ class Rename(HelperTest):
             bodies = "".join(f"virtual m{one} ()V 0x1\ncode 1 1 0\nreturn-void\nend code\n" for one in (number, "x"))
             classes.append(f"class LC{number:06}; 0x1\nsuper {above}\n{bodies}end class\n")
             lines.append(f"C{number:06} -> C{number:06}:\n    void m{number}() -> n{number}\n    void mx() -> nx\n")
-        put(at, "a.dex", assembled(HEAD + "".join(classes).encode()))
-        put(at, "map.txt", "".join(lines).encode())
+        puts(at, {"a.dex": assembled(HEAD + "".join(classes).encode()), "map.txt": "".join(lines).encode()})
         seen = shell("ulimit -t 15; dexasm-rename --mapping map.txt --forward a.dex --output b.dex", at)
         self.assertEqual(seen, (0, "", ""))
         self.assertEqual(self.listed(at, "b.dex").count(b"virtual n"), 8000)
@@ -186,13 +136,13 @@ class Rename(HelperTest):
         for name in NAMES:
             put(at, f"{name}.dex", file)
             seen = tool("dexasm-rename", f"./{name}.dex", "LA;=Lx;", "--output", f"./{name}.dex", at=at)
-            self.check(f"dexasm-rename, {name!a}", seen[0] == 0 and b"class Lx;" in self.listed(at, f"{name}.dex"), seen)
+            self.check_equal(f"{name!a}", (seen[0], self.listed(at, f"{name}.dex")), (0, Has(b"class Lx;")))
         put(at, "cut.dex", file[:-1])
         seen = tool("dexasm-rename", "cut.dex", "LA;=Lx;", "--output", "cut.dex", at=at)
-        is_so = seen[:2] == (1, "") and is_one_line(seen[2], "dexasm-rename: cut.dex: dexasm: refused ")
-        self.check("dexasm-rename, a file that is refused", is_so and get(at, "cut.dex") == file[:-1], seen)
+        self.check_equal("a file that is refused", (seen, get(at, "cut.dex")),
+                         ((1, "", Line("dexasm-rename: cut.dex: dexasm: refused ")), file[:-1]))
         put(at, "a.txt", LISTING)
         seen = tool("dexasm-rename", "a.txt", f"LA;=L{ESC};", "--output", "no.dex", at=at)
-        self.check("dexasm-rename, a name that is none", seen[:2] == (2, "") and ESC not in seen[2], seen)
+        self.check_equal("a name that is none", seen, (2, "", Lacks(ESC)))
         seen = tool("dexasm-rename", "a.txt", r"LA;=L\u00e9/\ud83d\ude00;", "--output", "e.dex", at=at)
-        self.check("dexasm-rename, other letters", b"class L\\u00e9/\\ud83d\\ude00;" in self.listed(at, "e.dex"), seen)
+        self.check_equal("other letters", self.listed(at, "e.dex"), Has(b"class L\\u00e9/\\ud83d\\ude00;"))
