@@ -12,6 +12,8 @@ from ..oracle.texts import random_texts
 
 # Whose line is the very one; of the others it is that, or the member's, or the class's.
 EXACT = (82, 85, 87, 88, 110, 112, 113, 114, 115, 117, 118)
+# Of which the module for Python knows the class alone: how the line begins that is at fault, the last such line.
+AT_LINE = {82: "const-string v0 ", 87: "try ", 88: "try "}
 END = "end code", "end class"
 FIRST = "dex 035", "class L\\u0041; 1", "direct \\u006d ()V 0", "code 1 0 0"
 LABEL = ":" + "n" * 32
@@ -40,10 +42,19 @@ def texts() -> Iterator[tuple[int, list[str]]]:
         for lines in itertools.chain.from_iterable(surrounded(body) for body, _ in BODIES[number]):
             yield number, lines
     for number, lines in large():
-        if number in (82, 87, 88, 114):
+        if number in AT_LINE:
+            yield number, marked_at(lines, AT_LINE[number])
+        elif number == 114:
             yield number, lines
     for lines in HOSTILE:
         yield 0, [*lines]
+
+
+def marked_at(lines: list[str], front: str) -> list[str]:
+    """The lines with the mark at the last that begins so."""
+    plain = [line.replace("«»", "") for line in lines]
+    at = max(at for at, line in enumerate(plain) if line.startswith(front))
+    return [*plain[:at], f"«»{plain[at]}", *plain[at + 1 :]]
 
 
 def marks() -> Iterator[tuple[bytes, bool, list[int], str]]:
@@ -55,14 +66,14 @@ def marks() -> Iterator[tuple[bytes, bool, list[int], str]]:
         where: Any = seen.where
         told = [line] if seen.number in EXACT else allowed(where)
         names = "" if number == 0 else f"{where.class_name.spelled} {where.member.spelled if where.member else 'null'}"
-        yield given, False, told, names if told == [line] else ""
+        yield given, False, told, names if told == [line] and number not in AT_LINE else ""
 
 
 def at_random(seed: int, count: int) -> Iterator[tuple[bytes, bool, list[int], str]]:
     for text, align in itertools.islice(random_texts(random.Random(seed)), count):
         given = text if isinstance(text, bytes) else text.encode("latin1")  # type: ignore[attr-defined]  # (all bytes)
         seen = refused(given, align)
-        if seen is not None and seen.where is not None:
+        if seen is not None and seen.where is not None and seen.number not in AT_LINE:
             where = seen.where
             yield given, align, [where.line] if seen.number in (*EXACT, *range(100, 107)) else allowed(where), ""
 
