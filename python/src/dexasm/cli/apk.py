@@ -6,13 +6,13 @@ usage: dexasm-apk [--close] [--allow-empty] check|list|strip|extract ARCHIVE [FO
 check and list write the name of the .dex file before each line: `classes2.dex: ok`. With FOLDER the listings go to
 FOLDER/classes.txt and so on, one for each .dex file; strip and extract want it, and write FOLDER/classes.dex and so on,
 stripped or as it is (extract does not validate, so a refused file is extracted too). What is
-refused, or can't be read out of the archive, is a line on standard error with the same name before it, and the others
+refused, or cannot be read out of the archive, is a line on standard error with the same name before it, and the others
 go on. Nothing else of the archive is read, and nothing outside FOLDER is written: a link there, a file with another
 name, and what is no file are lines too. After `--` a word is a file whatever it begins with.
 
-With --close each .dex file whose signature or checksum doesn't hold is closed first, as by `dexasm-close`, and a line
-on standard error says so and what didn't hold: D8 before 1.6.20 signed its files in a way that dexasm refuses. The
-others are taken as they are, and so is what has no header or another length. The archive isn't changed.
+With --close each .dex file whose signature or checksum does not hold is closed first, as by `dexasm-close`, and a line
+on standard error reports that, and what did not hold: D8 before 1.6.20 signed its files in a way that dexasm refuses.
+The others are taken as they are, and so is what has no header or another length. The archive is not changed.
 
 An entry is not read if it is encrypted or has the flag of it (Android ignores the flag), if its sum is wrong or its
 method unknown, or if another entry has its name (Android refuses such an archive). Each .dex file is held in memory. A
@@ -21,13 +21,13 @@ file to which an archive is appended, and an archive in which other tools can fi
 checks other names: *.dex in other folders, archives in the archive.
 
 replace writes OUT, the archive with its classes.dex exchanged for a FILE of that name, and so on, if dexasm accepts it.
-Each other entry stays byte for byte, at the place that zipalign asks for where it isn't compressed (4 bytes, 16 KB for
-lib/*.so); signatures are left out, since they don't hold any more: META-INF/*.SF, *.RSA, *.DSA and *.EC, of an
+Each other entry stays byte for byte, at the place that zipalign asks for where it is not compressed (4 bytes, 16 KB for
+lib/*.so); signatures are left out, since they do not hold any more: META-INF/*.SF, *.RSA, *.DSA and *.EC, of an
 application their MANIFEST.MF, and the block of Android's own. OUT has to be signed, as by apksigner. It is written by
 the command's rules, once it is whole; ARCHIVE stays, unless it is OUT. If FILE has less annotations or debug
-information than the entry that it replaces, a line says how much is dropped, unless --quiet is given.
+information than the entry that it replaces, a line reports how much is dropped, unless --quiet is given.
 
-Exit status: 0, or the highest of dexasm's; 2 wrong words; 3 no archive, no classes*.dex in it, or one that can't be
+Exit status: 0, or the highest of dexasm's; 2 a usage error; 3 no archive, no classes*.dex in it, or one that cannot be
 read or written.
 """
 from __future__ import annotations

@@ -9,9 +9,9 @@ PATH is a .dex file, a zip archive, of which each *.dex is checked, or a listing
 are read as .dex files, those named *.apk, *.jar, *.zip, *.aar, *.aab and *.apks as archives, in any case, and others by
 their first bytes. Archives in an archive are checked too, one deep. Of a folder it is each file below that has such a
 name, or begins as a .dex file, an archive or a listing (`dex 035`) does; a file that looks like a listing but for its
-first line has a line. A link there isn't followed: each has a line, and so have pipes and devices; it is an error where
-something could pass unseen (what it leads to has such a name, begins so or is a folder, and lies elsewhere). `-` is
-standard input. There is a line for each, in the order of the paths:
+first line has a line. A link there is not followed: each has a line, and so have pipes and devices; it is an error
+where something could pass unseen (what it leads to has such a name, begins so or is a folder, and lies elsewhere). `-`
+is standard input. There is a line for each, in the order of the paths:
 
   a.dex: ok
   a.dex:0x0c: error: 9 Signature: the SHA-1 differs
@@ -20,14 +20,14 @@ standard input. There is a line for each, in the order of the paths:
   x.txt:12:8: error: 102 Number: v16: v0 to v15 here; move/from16 or move/16 takes more
 
 The place follows the name: the byte of a file, or line and column of a listing, or the number of the class if no line
-is known. A file that can't be read has such a line too, and the others are checked; so has a file to which an archive
+is known. A file that cannot be read has such a line too, and the others are checked; so has a file to which an archive
 is appended. An archive without a *.dex is accepted, unless it is called *.apk. If nothing was checked, a line on
-standard error says so and the status is 3.
+standard error reports it and the status is 3.
 
   --allow-empty  accepts that
   --paths-from FILE  reads paths from FILE too, from standard input if it is `-`, each with a NUL after it
-  --exclude GLOB  leaves out files that GLOB matches, with a line that says so: by their name or a folder's above them,
-             or by the whole path if GLOB has a slash
+  --exclude GLOB  leaves out files that GLOB matches, and prints a line for each: by their name or a folder's above
+             them, or by the whole path if GLOB has a slash
   --baseline FILE  accepts what is in FILE, as an earlier run with --json printed it: the same fault at the same place
   --lint     of what dexasm accepts, what a device would still refuse: each place where it breaks a rule of dexasm-lint
              (with its --code, whose manual has them) is such a line, and where none does it is `ok`:
@@ -36,29 +36,29 @@ standard error says so and the status is 3.
              cause
   --quiet    leaves out what is accepted
   --json     a line of JSON for each: file, uri, kind (dex, listing, archive), status, number, name, place, line,
-             column, class, member, instruction, sentence, why, program, dexasm; what isn't known is null. The status is
-             ok, refused, empty (an archive without a *.dex), skipped (a link or no file, or an archive two deep, which
-             is accepted), failed (it can't be read), time, memory, killed or known (by --baseline). dexasm has version, build (proved, quick
-             or unknown) and sha256 of what answers. With --lint also address, register, rule and page, and the status
-             broken
+             column, class, member, instruction, sentence, why, program, dexasm; what is not known is null. The status
+             is ok, refused, empty (an archive without a *.dex), skipped (a link or no file, or an archive two deep,
+             which is accepted), failed (it cannot be read), time, memory, killed or known (by --baseline). dexasm has
+             version, build (proved, quick or unknown) and sha256 of what runs. With --lint also address, register, rule
+             and page, and the status broken
   --program  has program say the SHA-256 of the stripped bytes: equal where two files are one program; and annotations
              and debug_methods, how many annotations of each visibility and how many methods with debug information the
              file has beside that
-  --sarif    one document of SARIF 2.1.0, which has what isn't accepted (also archives that can't be read), as notes
-             what was skipped or can't be read, and dexasm as above
-  --github   what isn't accepted, and what was skipped, as commands of a workflow of GitHub, which shows it at the file
+  --sarif    one document of SARIF 2.1.0, which has what is not accepted (also archives that cannot be read), as notes
+             what was skipped or cannot be read, and dexasm as above
+  --github   what is not accepted, and what was skipped, as commands of a workflow of GitHub, which shows it at the file
   --junit    one document as JUnit writes it, for other servers
   --color    on a terminal, unless NO_COLOR is set, the verdicts have colours; always and never say so of each output
 
 The files are checked by up to --jobs N workers (as many as there are processors): one for some thousands of small
 files or some megabytes, and another for each that many more. Each file, an archive with all that is in it, may take
 --seconds N of its processor (60, or a fraction such as 0.5; ten times as much by the clock) and --memory SIZE (2G); one
-at which a worker is stopped has a line that says so. On a terminal a line tells how far it is. Without libdexasm each
-file is a run of dexasm, which takes longer. --version tells which build answers and its SHA-256; with DEXASM=proved in
+at which a worker is stopped has a line. On a terminal a line shows the progress. Without libdexasm each
+file is a run of dexasm, which takes longer. --version prints which build runs and its SHA-256; with DEXASM=proved in
 the environment only a proved one does.
 
-Exit status: 0 all are accepted, 1 one is refused or breaks a rule, 2 wrong words, 3 one can't be read or takes too
-long, or a method isn't checked to its end, 4 one takes more than --memory. Of several it is the highest.
+Exit status: 0 all are accepted, 1 one is refused or breaks a rule, 2 a usage error, 3 one cannot be read or takes too
+long, or a method is not checked to its end, 4 one takes more than --memory. Of several it is the highest.
 """
 from __future__ import annotations
 

@@ -11,12 +11,12 @@ changed by accident since, and no more: whether its maker meant it so can only b
 with, so run --check first.
 
 FILE is closed into OUT, or in place with --in-place; `-` is standard input and output. A line on standard error has
-each sum that changes, old and new, unless --quiet is given. What has no such header, or isn't as long as its header
+each sum that changes, old and new, unless --quiet is given. What has no such header, or is not as long as its header
 says, is refused. --check says what would change and changes nothing. A file is replaced when its answer is complete, by
 the command's own rules. As FILE an archive with one classes*.dex, or app.apk!classes2.dex, does too, with --output or
 --check. `dexasm-apk --close` does it with each .dex file that it takes out of an archive.
 
-Exit status: 0, and with --check that both sums hold; 1 with --check where one doesn't, or the file is refused; 2 wrong
+Exit status: 0, and with --check that both sums hold; 1 with --check where one does not, or the file is refused; 2 wrong
 words; 3 reading or writing failed; 4 out of memory.
 """
 from __future__ import annotations

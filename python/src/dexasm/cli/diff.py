@@ -8,7 +8,7 @@ of them alone. Debug information and annotations are no part of a program. A cla
 only one of them has is shown whole, one that both have by the lines that differ, with three lines around each change.
 Labels are numbered one after the other in each code, so that an instruction more or less changes no line but its own.
 With --names each class and member is one line: `-` only in A, `+` only in B, `!` in both, but different. Colours are
-shown on a terminal, if NO_COLOR isn't set. A last line says if classes are in another order.
+shown on a terminal, if NO_COLOR is not set. A last line reports classes in another order.
 
 With --json each of these is a line of JSON: class, member (null: the class, or its lines before the members), change
 (removed, added, changed, or order with both null), and lines, each with its mark in front (`-`, `+`, a blank, or `@`
@@ -18,8 +18,8 @@ With --textconv it prints one file's listing with labels numbered so: for git, w
 (docs/RECIPES.md). A file that dexasm refuses is then its refusal and its SHA-256. Anything else that goes wrong has a
 status of its own, so that git keeps nothing of it.
 
-Exit status, as of diff: 0 the same program, 1 another one, 2 trouble: a file that is refused or can't be read, or wrong
-words. Two files that are refused are never the same. With --textconv: 0 done, 2 trouble.
+Exit status, as of diff: 0 the same program, 1 another one, 2 trouble: a file that is refused or cannot be read, or a
+usage error. Two files that are refused are never the same. With --textconv: 0 done, 2 trouble.
 """
 from __future__ import annotations
 

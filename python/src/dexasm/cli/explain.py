@@ -5,7 +5,7 @@ usage: dexasm-explain [--json] [FILE]
 It reads what dexasm printed from standard input, as in `dexasm check FILE 2>&1 | dexasm-explain FILE`. For each line
 `.. refused N NAME at P` it prints the line, the sentence that docs/FORMAT.md or docs/LISTING.md has for N, and, with
 FILE, the bytes, the line or the class at P, the class or the method that has it, and what is often the reason: a comma
-between registers, an archive, a file of another version, who wrote such a signature, the character that a name can't
+between registers, an archive, a file of another version, who wrote such a signature, the character that a name cannot
 have, the member that is there twice, the number that is encoded too long. Of a listing it prints the line, the word and
 what is expected there, also where P is only a class that breaks a rule of programs or a limit, or a count. Other lines
 are printed as they are, but for what a terminal would obey. FILE may be an archive, as in `dexasm-apk check app.apk
@@ -16,7 +16,7 @@ With --json it prints a line of JSON for each refusal, and nothing else: `number
 `line`, `column`, `class`, `member`, `instruction` (its number in its code, from 0) and `word` where they are known,
 else null.
 
-Exit status: 0 done, 2 wrong words, 3 something can't be read or written.
+Exit status: 0 done, 2 a usage error, 3 something cannot be read or written.
 """
 from __future__ import annotations
 

@@ -9,13 +9,14 @@ leads, `switch` where a payload does, by its keys, `handler` where an exception 
 
 --calls has each method and those that it calls, with how often; --from METHOD only those that this one leads to, --to
 METHOD only those that lead to this one, --depth N at most so many calls away. With --to METHOD may be one that the file
-doesn't have, by its whole name. A call leads to the method that the named class has or inherits in this file;
-what the file doesn't have is dashed, in JSON `outside`.
+does not have, by its whole name. A call leads to the method that the named class has or inherits in this file;
+what the file does not have is dashed, in JSON `outside`.
 
-The answer is on standard output: the language of graphviz unless --format says otherwise. svg needs graphviz, which is
-given a minute. FILE may be a listing too, an archive, of which all classes*.dex are one program, or app.apk!classes2.dex.
+The output is in the language of graphviz unless --format is given. svg needs graphviz, which is
+given a minute. FILE may be a listing too, an archive, of which all classes*.dex are one program, or
+app.apk!classes2.dex.
 
-Exit status: 0 done, 1 the file is refused, 2 wrong words, 3 something can't be read or written, 4 out of memory.
+Exit status: 0 done, 1 the file is refused, 2 a usage error, 3 something cannot be read or written, 4 out of memory.
 """
 from __future__ import annotations
 

@@ -22,12 +22,12 @@ marked as read or not, as it leads to what it names. The command's line follows 
 
 With --json all of that is one JSON object. --hex prints every byte, or those from the offset FROM to before TO (either
 may be left out), each once, with what it is: fields, rows, strings, and each instruction behind its address in units of
-16 bits. Offsets are in hexadecimal. Of a refused file it tells what can be read, and the fault is marked.
+16 bits. Offsets are in hexadecimal. Of a refused file it shows what can be read, and the fault is marked.
 
 FILE is standard input where it is left out or `-`. Of an archive each classes*.dex is printed, with a line before it
 that names it (in JSON a line with `entry` for each); app.apk!classes2.dex is one of them alone.
 
-Exit status: 0 the file is accepted, 1 it is refused, 2 wrong words, 3 something can't be read or written, 4 out of
+Exit status: 0 the file is accepted, 1 it is refused, 2 a usage error, 3 something cannot be read or written, 4 out of
 memory.
 """
 from __future__ import annotations

@@ -12,20 +12,20 @@ says how many, unless --quiet is given.
 A class that two files define is refused, and both files are named. With --same a class that is the same text in all of
 them is taken once. With --replace a class of a later file takes the place of the one before: `dexasm-merge --replace
 a.dex class.txt --output a.dex` puts back a class that `dexasm-query show` listed and that was edited. A later file that
-replaces nothing is an error. Cyclic inheritance is refused, with the names of the classes. What doesn't fit into one
+replaces nothing is an error. Cyclic inheritance is refused, with the names of the classes. What does not fit into one
 file is refused with the number of the limit, the class and its file, and what goes beyond: 80 and 81 are too many types
-and prototypes, 82 to 84 strings, fields and methods that an instruction doesn't reach.
+and prototypes, 82 to 84 strings, fields and methods that an instruction does not reach.
 
 With --fit longer instructions are used where 82 or 85 would be refused, that of one file too: const-string/jumbo for
-strings beyond the 65,536th, goto/16 and goto/32 for a goto that doesn't reach, and an `if` around a goto/32 for an `if`
-that doesn't; payloads are aligned again. (A listing that is refused for these has to be as `list` prints it.) A line
-says what was changed, and how often. Nothing else is, and what fits stays as it is.
+strings beyond the 65,536th, goto/16 and goto/32 for a goto that does not reach, and an `if` around a goto/32 for an
+`if` that does not; payloads are aligned again. (A listing that is refused for these has to be as `list` prints it.) A
+line says what was changed, and how often. Nothing else is, and what fits stays as it is.
 
 OUT is written by the command's own rules, once the whole answer is there. A refusal changes nothing, and OUT may be one
 of the files.
 
-Exit status: 0 done, 1 a file or the program of all is refused, 2 wrong words, 3 something can't be read or written, 4
-out of memory.
+Exit status: 0 done, 1 a file or the program of all is refused, 2 a usage error, 3 something cannot be read or written,
+4 out of memory.
 """
 from __future__ import annotations
 

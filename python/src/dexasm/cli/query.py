@@ -17,10 +17,10 @@ usage: dexasm-query classes|strings|calls|fields [FILE]
            name; m alone for those of all classes) alone, which can be assembled. In a NAME a * matches any characters
            and a ? one: com.x.*, LA;->get*
   uses     references to each NAME, with kind and count: who calls a method, reads or writes a field, names a class or
-           has it in another name. NAME is as for `show`, but that a member has its class, and it needn't be of the
+           has it in another name. NAME is as for `show`, but that a member has its class, and it need not be of the
            file; a member is also what the file's classes inherit from there. With --strings each NAME is a text: who
            has it
-  outside  each class that the file names and hasn't, with who names it, and its members with who names these; and of
+  outside  each class that the file names and has not, with who names it, and its members with who names these; and of
            the file's own classes the members that they inherit from such a class
   find     the classes, fields, methods and strings of the file, and those that it names, that contain PATTERN; with
            a * or a ? it is a pattern for all of the name or text. With --insns each PATTERN is a mnemonic (const-*) or
@@ -37,7 +37,7 @@ are one program; `tables` and addresses want one of them, app.apk!classes2.dex, 
 strings are decoded alike: what a listing writes as an escape is the character here, and JSON writes it as its own
 escape. `access` has the words for flags.
 
-Exit status: 0 done, 1 the file is refused, 2 wrong words, or a name that names nothing, 3 something can't be read or
+Exit status: 0 done, 1 the file is refused, 2 a usage error, or a name that names nothing, 3 something cannot be read or
 written, 4 out of memory.
 """
 from __future__ import annotations

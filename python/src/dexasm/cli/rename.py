@@ -8,23 +8,23 @@ usage: dexasm-rename [--quiet] FILE OLD=NEW .. --output OUT
   com.x.A->m=n      a member, of which the class has one alone of that name, or a whole one: LA;->m()V=n, LA;->f:I=n
 
 A virtual method is renamed with all that it overrides in this program and all that override it there, and a member
-wherever code names it by an heir too. What the program doesn't define keeps its name, so a method that overrides one of
-a class from outside should keep its own: a line says from which such classes a renamed method's class inherits.
+wherever code names it by an heir too. What the program does not define keeps its name, so a method that overrides one
+of a class from outside should keep its own: a line names such classes that a renamed method's class inherits from.
 A constructor keeps its name. A new name that a class, a member of the class or one above or below it already has is
 refused, and so is a class that the file only names.
 
 --mapping undoes the renaming of R8 or ProGuard: classes and members that are called as MAP has it on the right get the
-names on its left; with --forward it is the other way. What MAP has and FILE hasn't is left out, and a line says how
+names on its left; with --forward it is the other way. What MAP has and FILE has not is left out, and a line reports how
 much.
 
-Texts are left as they are. Where one has an old name as a word, as reflection would have it, a line says which.
+Texts are left as they are. Where one has an old name as a word, as reflection would have it, a line names it.
 
 Members and classes stay in their order, so what is renamed and renamed back is the same to the byte. OUT is the file as
-`dexasm assemble` writes it, without debug information and annotations (a line says how many are dropped, unless --quiet
-is given), by the command's own rules for OUT; FILE may be a listing too, `-` is standard input and output, and OUT may
-be FILE. A refusal changes nothing.
+`dexasm assemble` writes it, without debug information and annotations (a line reports how many are dropped, unless
+--quiet is given), by the command's own rules for OUT; FILE may be a listing too, `-` is standard input and output, and
+OUT may be FILE. A refusal changes nothing.
 
-Exit status: 0 done, 1 FILE is refused, or a name, 2 wrong words, or a name that names nothing, 3 something can't be
+Exit status: 0 done, 1 FILE is refused, or a name, 2 a usage error, or a name that names nothing, 3 something cannot be
 read or written, 4 out of memory.
 """
 from __future__ import annotations

@@ -15,7 +15,7 @@ column from code to unused, so all rows add up to the file.
            and its map
   values   initial values of static fields
   debug    debug information and annotations, as far as they can be followed: dexasm ignores them
-  unused   names that the program doesn't need, and bytes that nothing refers to
+  unused   names that the program does not need, and bytes that nothing refers to
   strip    what `dexasm strip` takes away: how many bytes fewer this row has in the stripped file
 
 A name belongs to the class that needs it, if only one does. What several classes need or share is the row (several
@@ -41,11 +41,11 @@ them, if only one does. With B the columns are what B has more, and the number o
 in B.
 
 --json and --csv have the rows that a table has, but for those that add others up. With --csv a cell that a spreadsheet
-could take for a formula has an apostrophe before it; --csv-raw is for programs that aren't spreadsheets. Strings are
+could take for a formula has an apostrophe before it; --csv-raw is for programs that are not spreadsheets. Strings are
 cut at 400 characters and the length follows, and in the name of a method 1,000 of the class, the name and the
 parameters; what is alike then is one row.
 
-Exit status: 0 done, 1 a file is refused, 2 wrong words, 3 something can't be read or written, 4 out of memory.
+Exit status: 0 done, 1 a file is refused, 2 a usage error, 3 something cannot be read or written, 4 out of memory.
 """
 from __future__ import annotations
 

@@ -18,11 +18,11 @@ another place, or that leads to one by a link: nothing outside FOLDER is read, w
 be edited, and keeps its mode and its owner when it is written again; one that may not be written changes nothing.
 
 All is written into FOLDER/.dexasm-split first, so that a full disk changes nothing, and then put in place; signals to
-end wait meanwhile. A run that is killed then leaves FOLDER/.dexasm-split/unfinished: such a folder isn't joined until
+end wait meanwhile. A run that is killed then leaves FOLDER/.dexasm-split/unfinished: such a folder is not joined until
 dexasm-split has run again.
 
-Exit status: 0 done, 1 the listing or the file is refused, 2 wrong words, 3 something can't be read or written, 4 out of
-memory.
+Exit status: 0 done, 1 the listing or the file is refused, 2 a usage error, 3 something cannot be read or written, 4 out
+of memory.
 """
 from __future__ import annotations
 

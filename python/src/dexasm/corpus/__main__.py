@@ -13,36 +13,37 @@ usage: dexasm-corpus add [--processes N] [--seconds N] [--memory SIZE] [--again]
   add        reads .dex files, and the classes*.dex of archives, and keeps what they have. In a folder these are
              the files that begin as one or are called *.dex; no link is followed there. `-` reads paths from standard
              input, each with a NUL after it. A known file (of the same SHA-256) only gets another path.
-             Where no such file is there, a line says so and the status is 3, unless --allow-empty is given
-  refused    the files that aren't accepted, by fault, and the paths that can't be read
+             Where no such file is there, a line reports it and the status is 3, unless --allow-empty is given
+  refused    the files that are not accepted, by fault, and the paths that cannot be read
   same       each path of a program that has several: the stripped bytes of these files are the same, and those
              of one SHA-256 in the column `file` are copies to the byte
   classes    classes that several programs have with the same text; of NAME where each of its texts is
   callers    who calls a method, LA;->m(I)V; with --pattern as GLOB of SQLite has it, as in 'Ljava/net/*'
   strings    who uses a string
   libraries  which programs of --known are in those of DATABASE: how many of their classes are the same, have the
-             same name and another text (changed), or aren't there; --classes tells each class
-  merge      takes databases into one, in whatever order, and believes what they say. With --verify it takes no more
+             same name and another text (changed), or are not there; --classes tells each class
+  merge      takes databases into one, in whatever order, and trusts them. With --verify it takes no more
              from them than where files are: those that are still there, with the same SHA-256, it reads itself as `add`
              does, and the others are counted and left out
-  sum        of each table its rows and a sum of what they say: equal where the content is, whatever the order of files
+  sum        of each table its rows and a checksum of its content: equal where the content is, whatever the order of
+             files
 
 Names and strings are printed as in a listing. With --csv a cell that a spreadsheet could take for a formula,
 since it begins with =, +, -, @ (or the wide form of one), a tab or a return, has an apostrophe before it; --csv-raw is
-for programs that aren't spreadsheets. The database is one of SQLite, and docs/CORPUS.md has its tables. One with other
+for programs that are not spreadsheets. The database is one of SQLite, and docs/CORPUS.md has its tables. One with other
 tables, views or triggers is refused; still, the content of a database is as true as its maker.
 
 Each file is read by one of --processes N workers (as many as there are processors) which may take --seconds N of its
 processor for it (60, or a fraction such as 0.5; ten times as much by the clock) and --memory SIZE (2G). A file at which
 it is stopped is a row with the status time, memory or killed, which --again reads again. After an interruption run the
 same command again: nothing is lost or duplicated. With --scheduler the workers are those of Dask, and --send sends them
-the bytes of the files, where they haven't got the folder. A process that replies at ADDRESS can run programs here and
+the bytes of the files, where they have not got the folder. A process that replies at ADDRESS can run programs here and
 there; so it is tls://, with the certificates of Dask's own configuration (distributed.comm.tls), or a tcp:// of this
 machine, 127.0.0.1 or localhost, at which another user of this machine could reply first. Any other one is taken with
 --trust only.
 
-Exit status: 0 done, 1 with --strict where a file isn't accepted or a path can't be read, or with --verify where a file
-is left out, 2 wrong words, 3 something can't be read or written, 4 out of memory.
+Exit status: 0 done, 1 with --strict where a file is not accepted or a path cannot be read, or with --verify where a
+file is left out, 2 a usage error, 3 something cannot be read or written, 4 out of memory.
 """
 from __future__ import annotations
 
