@@ -6,10 +6,10 @@ use Rattle.file_read.specs.declared.class_reader.ClassReader.{ClassReader}
 use Rattle.file_read.specs.inner.ByClass.{IsReader, HasRead}
 use Rattle.listing_lines.specs.declared.form.Form.TheVariants.{Two}
 use Rattle.listing_print.specs.Canon.{class_text, first_text}
-use Rattle.dexasm_run.specs.inner.Listed.{IsListed}
+use Rattle.dexasm_run.specs.inner.Listed.{HasPrinted}
 
 -- one class more
-pub listed_more : (text new : List ℕ) (old next : ClassReader) (c : Class) → IsListed text old → IsReader next → ((classes : List Class) → HasRead old classes → HasRead next (classes ++ c ∷ [])) → new ≡ text ++ class_text Two c → IsListed new next
+pub listed_more : (text new : List ℕ) (old next : ClassReader) (c : Class) → HasPrinted text old → IsReader next → ((classes : List Class) → HasRead old classes → HasRead next (classes ++ c ∷ [])) → new ≡ text ++ class_text Two c → HasPrinted new next
 listed_more text new old next c before reader more put = record {
   reader = reader;
   classes = before.classes ++ c ∷ [];

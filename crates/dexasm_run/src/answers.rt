@@ -8,7 +8,7 @@ ghost use Rattle.program_rules.specs.WellFormed.{WellFormed};
 ghost use Rattle.listing_lines.specs.declared.form.Form.TheVariants.{Two};
 ghost use Rattle.listing_print.specs.Canon.{class_text};
 ghost use Rattle.dexasm_run.specs.Answers.{Answer, Refusal, IsAssembled, IsUnassembled};
-ghost use Rattle.dexasm_run.specs.inner.Listed.{IsListed};
+ghost use Rattle.dexasm_run.specs.inner.Listed.{HasPrinted};
 
 use bumpalo::Bump;
 use code_align::align_all;
@@ -95,8 +95,10 @@ fn checked(alloc: Global, given: &[u8]) -> Result<Vec<u8>, Fault>
     Ok(Vec::from_slice(alloc, b"ok\n")?)
 }
 
-/// How many code items are held in memory while a file is listed, before the next class is read.
+/// How many code items, and how many bytes of them, may be in memory while a file is listed when the next class is read.
 const MANY_CODES: usize = 256;
+
+const MANY_BYTES: usize = 1 << 22;
 
 /// The listing of the file's program. It is read and printed class by class: the code of a few classes is held at a time.
 fn list(alloc: Global, given: &[u8]) -> Result<Vec<u8>, Fault>
@@ -116,7 +118,16 @@ fn list(alloc: Global, given: &[u8]) -> Result<Vec<u8>, Fault>
     Ok(text)
 }
 
-/// Appends the next classes of the listing, until many code items are in the arena; false after the last class.
+/// Whether the arena of code is emptied before the next class is read. (A chunk that is kept when it is emptied is free.)
+fn are_many(codes: &Codes<'_>) -> bool {
+    let used = codes
+        .arena
+        .allocated_bytes()
+        .saturating_sub(codes.arena.chunk_capacity());
+    codes.len() >= MANY_CODES || used >= MANY_BYTES
+}
+
+/// Appends the next classes of the listing, until much code is in the arena; false after the last class.
 fn put_some<'a, 'c>(
     alloc: Global,
     text: &mut Vec<u8>,
@@ -125,8 +136,8 @@ fn put_some<'a, 'c>(
 ) -> Result<bool, Fault>
 where
     'a: 'c,
-    requires listed { IsListed text.old.items reader.old }
-    ensures listed { OnOk result (IsListed text.new.items reader.new) }
+    requires listed { HasPrinted text.old.items reader.old }
+    ensures listed { OnOk result (HasPrinted text.new.items reader.new) }
     ensures bytes { reader.new.sections ≡ reader.old.sections }
     ensures fewer { IfOk result (λ more. IsTrue more → rows_left reader.new < rows_left reader.old) }
     ensures whole { IfOk result (λ more. ¬ IsTrue more → Answer Job.List reader.old.sections text.new.items) }
@@ -138,7 +149,7 @@ where
             return Ok(false);
         };
         put_listed(alloc, text, &class)?;
-        if codes.len() >= MANY_CODES {
+        if are_many(&codes) {
             return Ok(true);
         }
     }

@@ -10,7 +10,7 @@ ghost use Rattle.tables_rows.specs.Sorted.{RowsHold};
 ghost use Rattle.file_classes.specs.Classes.{SpellsClass};
 ghost use Rattle.file_classes.specs.ClassFaults.{BodyAt, BodyHolds, BodyFails, CodeHolds, RegistersFail, BodiesHold, BodiesBreak, RowRegistersHold, RowRegistersBreak};
 ghost use Rattle.file_classes.specs.inner.ClassFaults.{IsFirstClass};
-ghost use Rattle.std.specs.HashMap.{hash_map_len};
+ghost use Rattle.std.specs.HashMap.{IsEmpty, hash_map_len};
 ghost use Rattle.tables_rows.specs.inner.Cached.{AreCached};
 ghost use Rattle.file_classes.specs.inner.Reading.{IsHead, AreStatics, AreCodesOf, AreDone, FirstCodeBreaks, CodesUpTo, IsFound, SpellsBodies};
 
@@ -44,9 +44,18 @@ pub struct Codes<'a> {
 }
 
 impl<'a> Codes<'a> {
-    /// None yet.
+    /// None yet; those that are read go into this arena. Takes no memory.
+    ///
+    /// ```
+    /// use bumpalo::Bump;
+    /// use file_classes::Codes;
+    ///
+    /// let arena = Bump::new(alloc);
+    /// assert_eq!(rt; Codes::new(alloc, &arena).len(), 0);
+    /// ```
     pub fn new(alloc: Global, arena: &'a Bump) -> Self
-        ensures { (b : List ℕ) → AreCodesOf b result }
+        ensures none { IsEmpty result.found }
+        ensures codes { (b : List ℕ) → AreCodesOf b result }
     {
         Codes {
             alloc,
@@ -55,7 +64,7 @@ impl<'a> Codes<'a> {
         }
     }
 
-    /// How many code items were read.
+    /// How many offsets of code were read, 0 of a method without code among them.
     pub fn len(&self) -> usize
         ensures { result ≡ hash_map_len self.now.found }
     {

@@ -9,7 +9,7 @@ use Rattle.listing_lines.specs.declared.form.Form.TheVariants.{Two}
 use Rattle.listing_print.specs.Canon.{class_text, first_text}
 
 -- The text is the first line, and the lines of the classes that the reader has read.
-pub record IsListed (text : List ℕ) (r : ClassReader) : Type 0 where
+pub record HasPrinted (text : List ℕ) (r : ClassReader) : Type 0 where
   pub reader : IsReader r
   pub classes : List Class
   pub read : HasRead r classes

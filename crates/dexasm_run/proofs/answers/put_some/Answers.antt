@@ -21,6 +21,6 @@ pub returns-in_err-class-clause-refused : goal.returns-in_err-class-clause-refus
 returns-in_err-class-clause-refused c =
     passed _ _ _ c.from_residual.ensures.1 (λ ne. subst (λ (b : List ℕ). IsRefused b c.in_err-class.field-0.0) c.loop-codes.invariant.bytes (c.in_err-class.ensures.refused ne))
 
-pub returns-then-len-ge-MANY_CODES-clause-listed : goal.returns-then-len-ge-MANY_CODES-clause-listed
-returns-then-len-ge-MANY_CODES-clause-listed c =
+pub returns-then-are_many-clause-listed : goal.returns-then-are_many-clause-listed
+returns-then-are_many-clause-listed c =
     listed_more _ _ _ _ (class c.in-Some.class) c.loop-codes.invariant.listed c.in_ok-class.ensures.reader (rw c.in-Some.is at c.in_ok-class.ensures.next) c.in_ok-put_listed.ensures.ok
