@@ -75,4 +75,4 @@ class Vectors(TestCase):
         for one in refused:
             with self.subTest(one.name):
                 fault, _, place = one.expected.removeprefix("dexasm: refused ").partition(" at ")
-                self.assertIn(f"*Example*: [{one.name}](../tests/vectors/{one.name}) at {place}.", texts[fault])
+                self.assertIn(f"[Example](../tests/vectors/{one.name}): at {place}.", texts[fault])
