@@ -1,8 +1,10 @@
-"""Words of a private language in the pages and manuals (which are the help texts of the commands): each has a word of the
-field in its place, which the message names. Code is left out, and pages that are history (CHANGELOG, bench/LOG) or
-generated from names in the code.
+"""Words of a private language in the pages, the manuals, the help of the command and the messages of the helpers: each
+has a word of the field in its place, which the message names. Code is left out, and pages that are history (CHANGELOG,
+bench/LOG) or generated from names in the code.
 """
+import ast
 import glob
+import os
 import re
 from collections.abc import Iterator
 
@@ -32,6 +34,10 @@ GENERATED = {"docs/DEFINITIONS.md", "docs/FILES.md"}
 EXCEPTIONS = {
     "docs/READING-PROOFS.md": ("| spells |", "| stands |", "| holds, breaks |"),  # the table that defines them, for the specs
 }
+HELP, SOURCES = "crates/dexasm_plan/src/texts.rt", "python/src/dexasm/**/*.py"
+# Messages that still have such words, a line each: a line leaves with its message.
+OLD = "tools/data/old-messages.txt"
+VIEW = re.compile(r"\b(?:from|view) spelled\b")  # a name in SQL
 
 
 def plain(text: str) -> str:
@@ -47,11 +53,41 @@ def private_words(page: str) -> Iterator[str]:
     for number, line in enumerate(plain(text).split("\n"), 1):
         if any(part in lines[number - 1] for part in EXCEPTIONS.get(page, ())):
             continue
-        for words, instead in REFUSED.items():
-            for found in words.findall(line):
-                yield f"{page}:{number}: {found}: write {instead}"
+        for word, instead in found_in(line):
+            yield f"{page}:{number}: {word}: write {instead}"
+
+
+def found_in(text: str) -> Iterator[tuple[str, str]]:
+    """The private words of a text, each with what to write."""
+    return ((word, instead) for words, instead in REFUSED.items() for word in words.findall(plain(text)))
+
+
+def strings(path: str) -> Iterator[tuple[int, str]]:
+    """The strings of a module of Python with their lines, but for docstrings."""
+    nodes = [*ast.walk(ast.parse(read(path), path))]
+    alone = {id(node.value) for node in nodes if isinstance(node, ast.Expr)}
+    texts = (node for node in nodes if isinstance(node, ast.Constant) and id(node) not in alone)
+    return ((node.lineno, VIEW.sub("", node.value)) for node in texts if isinstance(node.value, str))
+
+
+def printed() -> Iterator[tuple[str, int, str]]:
+    """What the command and the helpers can print, with its place."""
+    for path in sorted(glob.glob(SOURCES, recursive=True)):
+        yield from ((path, number, text) for number, text in strings(path))
+    if os.path.exists(HELP):
+        lines = enumerate(read(HELP).split("\n"), 1)
+        yield from ((HELP, number, line) for number, line in lines if not line.startswith("//"))
+
+
+def private_messages() -> Iterator[str]:
+    """A line for each private word of a message, but for those that are known."""
+    known = {*read(OLD).split("\n")} if os.path.exists(OLD) else set()
+    for path, number, text in printed():
+        if " ".join(text.split()) not in known:
+            yield from (f"{path}:{number}: {word}: write {instead}" for word, instead in found_in(text))
 
 
 def look() -> Seen:
     looked = [*(page for page in pages() if page not in HISTORY | GENERATED), *sorted(glob.glob("docs/man/*"))]
-    return Seen([line for page in looked for line in private_words(page)], f"the words of {len(looked)} pages and manuals")
+    wrong = [*(line for page in looked for line in private_words(page)), *private_messages()]
+    return Seen(wrong, f"the words of {len(looked)} pages and manuals, of the help and the messages")
