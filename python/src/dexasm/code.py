@@ -129,9 +129,9 @@ def _form(mnemonic: object) -> Format:
 
 def takes(mnemonic: str) -> str:
     """What an instruction takes, as a listing has it."""
-    from dexasm.listing import syntax as faultform
+    from dexasm.listing import syntax
 
-    return faultform.takes(mnemonic, faultform.operands_of(mnemonic, _form(mnemonic)))
+    return syntax.takes(mnemonic, syntax.labels_of(_form(mnemonic)))
 
 
 class _Payload(Insn):

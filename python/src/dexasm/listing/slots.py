@@ -5,7 +5,7 @@ import re
 
 from dexasm.formats import format_of
 from dexasm.listing.hints import hint
-from dexasm.listing.source import KEYS, Class, Code, Diagnostic, Line, Listing, Slot, decoded, number_of, slots
+from dexasm.listing.source import KEYWORDS, Class, Diagnostic, Kind, Line, Listing, Slot, decoded, number_of, slots
 from dexasm.listing.syntax import FIRST_LINE, flag_words
 from dexasm.names import FieldRef, MethodRef, Name, Proto, Type, member as member_name
 
@@ -22,7 +22,8 @@ _WHAT = {
 _ESCAPED = re.compile(r"(?:[^\\]|\\u[0-9A-Fa-f]{4})*")
 _DIGITS = re.compile(r"-?(?:[0-9]+|0x[0-9A-Fa-f]+)")
 _DOTTED = re.compile(r"[A-Za-z_$][\w$]{0,99}(?:\.[A-Za-z_$][\w$]{0,99}){1,20}", re.ASCII)  # a class as Java writes it
-_LABEL = re.compile(":[A-Za-z0-9_]{1,32}")
+_LOOKS = {"label": ":[A-Za-z0-9_]{1,32}", "bytes": "(?:[0-9A-Fa-f]{2})+", "text": "(?s:.*)"}
+_BEFORE_NUMBER = {"register": "v", "@": "@", "number": ""}
 # Which instruction takes a greater register or literal than this one.
 _WIDER = (
     (r"(move(?:-wide|-object)?)", r"\1/from16 or \1/16"),
@@ -41,19 +42,17 @@ _WIDER = (
 def in_line(read: Listing, number: int, line: Line, before: Class | None) -> Diagnostic | None:
     """The word at fault of a line that has a fault of words, that says something twice or stands where it may not."""
     if number == _TWICE:
-        return _duplicate(line, before)
+        return _duplicate(line, before) if before else None
     if number == _ORDER:
         return _misplaced(read, line, before)
     if number == _NOT_ENDED:
         return _not_ended(line, before)
-    if number not in (_NAME, _NUMBER):
-        return None
-    for slot in slots(line):
-        if slot.kind == "target":
-            slot = Slot(slot.word, "@", 32) if read.is_first_form else Slot(slot.word, "label")
+    target = Kind("@", 32) if read.is_first_form else Kind("label")
+    code = before.members[-1].code if before and before.members else None
+    for slot in slots(line) if number in (_NAME, _NUMBER) else ():
+        slot = Slot(slot.word, target) if slot.kind.name == "target" else slot
         if not _fits(slot):
-            is_name = slot.kind in _WHAT
-            code = before.members[-1].code if before and before.members else None
+            is_name = slot.kind.name in _WHAT
             why = hint(line, slot, code) or _why(line, slot)
             return Diagnostic(line, slot.word, why) if is_name == (number == _NAME) else None
     return None
@@ -61,39 +60,35 @@ def in_line(read: Listing, number: int, line: Line, before: Class | None) -> Dia
 
 def _misplaced(read: Listing, line: Line, before: Class | None) -> Diagnostic:
     """Why a line may not stand there, by what is begun before it and isn't ended."""
+    word, code = line.words[0], before.members[-1].code if before and before.members else None
     if line.key == "dex":
-        return Diagnostic(line, line.words[0], "the first line stands once")
-    if not any(read.line(number).words for number in range(1, line.number)):
-        return Diagnostic(line, line.words[0], FIRST_LINE)
-    if before is None or before.end:
-        return Diagnostic(line, line.words[0], "`class TYPE FLAGS` has to begin a class before it")
-    code = before.members[-1].code if before.members else None
-    if code is None or code.end:
-        return Diagnostic(line, line.words[0], _misplaced_in_class(line.key, before))
-    if line.key not in KEYS and not code.tries and read.is_first_form:
+        why = "the first line stands once"
+    elif read.is_first(line.number):
+        why = FIRST_LINE
+    elif before is None or before.end:
+        why = "`class TYPE FLAGS` has to begin a class before it"
+    elif code is None or code.end:
+        why = _IN_CLASS.get(line.key, _IN_CLASS[""]).format(before.head.number)
+    elif line.key not in (*KEYWORDS, "end") and not code.tries and read.is_first_form:
+        word = read.words(line.number)[0]
         why = f"the number before it has to be {len(code.insns)}: instructions are numbered from 0"
-        return Diagnostic(line, read.word(line.number), why)
-    return Diagnostic(line, line.words[0], _misplaced_in_code(line.key, code))
+    elif line.key in ("catch", "catchall"):
+        why = "behind a `catchall` stands a `try` or `end code`" if code.tries else "a `try` has to stand before it"
+    elif line.key in (*KEYWORDS, "end"):
+        why = f"`end code` is missing before it: line {code.head.number} begins a code"
+    else:
+        why = "the instructions of a code stand before its first `try`"
+    return Diagnostic(line, word, why)
 
 
-def _misplaced_in_class(key: str, before: Class) -> str:
-    if key == "class":
-        return f"`end class` is missing before it: line {before.head.number} begins a class"
-    if key == "end":
-        return "no code is begun that it could end"
-    if key == "code":
-        return "it stands right behind the line of its method"
-    if key in ("super", "implements", "source"):
-        return "it stands before the members of its class"
-    return "it stands in a code: `code REGISTERS INS OUTS` begins one, right behind the line of its method"
-
-
-def _misplaced_in_code(key: str, code: Code) -> str:
-    if key in ("catch", "catchall"):
-        return "behind a `catchall` stands a `try` or `end code`" if code.tries else "a `try` has to stand before it"
-    if key in KEYS:
-        return f"`end code` is missing before it: line {code.head.number} begins a code"
-    return "the instructions of a code stand before its first `try`"
+# Why a line may not stand in a class, outside of a code; "" is any other.
+_IN_CLASS = {
+    "class": "`end class` is missing before it: line {} begins a class",
+    "end": "no code is begun that it could end",
+    "code": "it stands right behind the line of its method",
+    **dict.fromkeys(("super", "implements", "source"), "it stands before the members of its class"),
+    "": "it stands in a code: `code REGISTERS INS OUTS` begins one, right behind the line of its method",
+}
 
 
 def _not_ended(line: Line, before: Class | None) -> Diagnostic | None:
@@ -101,104 +96,87 @@ def _not_ended(line: Line, before: Class | None) -> Diagnostic | None:
     if before is None or before.end:
         return None
     code = before.members[-1].code if before.members else None
-    if code is not None and not code.end:
-        return Diagnostic(line, None, f"`end code` is missing behind it: line {code.head.number} begins a code")
-    return Diagnostic(line, None, f"`end class` is missing behind it: line {before.head.number} begins a class")
+    what, head = ("code", code.head) if code is not None and not code.end else ("class", before.head)
+    return Diagnostic(line, None, f"`end {what}` is missing behind it: line {head.number} begins a {what}")
 
 
 def target_missing(one: Class, line: Line) -> Diagnostic | None:
     """The first target of a line that leads to no instruction; what a try covers may end after the last one."""
     member = one.member_at(line.number)
-    code = member.code if member else None
-    if code is None:
+    if member is None or member.code is None:
         return None
-    for at, slot in enumerate(slots(line)):
-        if slot.kind == "target":
+    code = member.code
+    for at, (word, kind) in enumerate(slots(line)):
+        if kind.name == "target":
             most = len(code.insns) - (line.key != "try" or at == 0)
-            if slot.word.text[0] == ":" and slot.word.text not in code.labels:
-                return Diagnostic(line, slot.word, f"{slot.word.text} is no label of this code")
-            if code.place(slot.word) > most:
-                return Diagnostic(line, slot.word, f"{slot.word.text} is after the last instruction")
+            if word.text[0] == ":" and word.text not in code.labels:
+                return Diagnostic(line, word, f"{word.text} is no label of this code")
+            if code.place(word) > most:
+                return Diagnostic(line, word, f"{word.text} is after the last instruction")
     return None
 
 
 def _fits(slot: Slot) -> bool:
     """Whether a word is what its slot takes."""
-    text, kind = slot.word.text, slot.kind
-    if kind == "number":
-        return _is_number(text, slot)
-    if kind == "label":
-        return _LABEL.fullmatch(text) is not None
-    if kind == "bytes":
-        return re.fullmatch("(?:[0-9A-Fa-f]{2})+", text) is not None
-    if kind == "digits":
-        return re.fullmatch(f"[0-9A-Fa-f]{{{slot.size}}}", text) is not None
-    if kind in ("register", "@"):
-        return text[0] == ("v" if kind == "register" else "@") and _is_number(text[1:], slot)
-    return kind == "text" or _is_name(slot)
-
-
-def _is_number(text: str, slot: Slot) -> bool:
-    if not _DIGITS.fullmatch(text) or text[0] == "-" and not slot.is_signed:
-        return False
-    low, high = _range(slot)
+    text, (kind, size, _) = slot.word.text, slot.kind
+    if kind in _BEFORE_NUMBER:
+        return text.startswith(_BEFORE_NUMBER[kind]) and _is_number(text[len(_BEFORE_NUMBER[kind]) :], slot.kind)
+    if kind in _LOOKS or kind == "digits":
+        return re.fullmatch(_LOOKS.get(kind, f"[0-9A-Fa-f]{{{size}}}"), text) is not None
     try:
-        return low <= number_of(text) <= high
-    except ValueError:
-        return False  # (more digits than Python takes)
-
-
-def _range(slot: Slot) -> tuple[int, int]:
-    """The least and the greatest number of a slot."""
-    half = 1 << slot.size - 1
-    return (-half, half - 1) if slot.is_signed else (0, 2 * half - 1)
-
-
-def _is_name(slot: Slot) -> bool:
-    try:
-        name = decoded(slot.word) if _ESCAPED.fullmatch(slot.word.text) else ""
-        _NAMES[slot.kind](name) if slot.kind in _NAMES else member_name(name)
+        name = decoded(slot.word) if _ESCAPED.fullmatch(text) else ""
+        _NAMES[kind](name) if kind in _NAMES else member_name(name)
     except ValueError:
         return False
     return True
 
 
+def _is_number(text: str, kind: Kind) -> bool:
+    if not _DIGITS.fullmatch(text) or text[0] == "-" and not kind.is_signed:
+        return False
+    try:
+        return number_of(text) in _range(kind)
+    except ValueError:
+        return False  # (more digits than Python takes)
+
+
+def _range(kind: Kind) -> range:
+    """The numbers of a slot."""
+    half = 1 << kind.size - 1
+    return range(-half, half) if kind.is_signed else range(2 * half)
+
+
 def _why(line: Line, slot: Slot) -> str:
     """What the slot takes, and which instruction takes more."""
-    text = slot.word.text
+    text, (kind, size, is_signed) = slot.word.text, slot.kind
     if "," in text and text[0] != '"':
         return "it has a comma: words stand between spaces, as in `add-int v0 v1 v2`"
-    if slot.kind == "type" and _DOTTED.fullmatch(text):
+    if kind == "type" and _DOTTED.fullmatch(text):
         return f"it isn't a type: L{text.replace('.', '/')}; is"
-    if slot.kind in _WHAT:
-        return f"it isn't {_WHAT[slot.kind]}"
-    if slot.kind == "number":
+    if kind in _WHAT:
+        return f"it isn't {_WHAT[kind]}"
+    if kind == "number":
         flags = next(flag_words(" ".join(word.text for word in line.words)), None)
-        if flags is not None:
-            return flags[1]
-        low, high = _range(slot)
-        return f"a number from {low} to {high} stands here{_wider(line.key) if slot.is_signed else ''}"
-    if slot.kind == "register":
-        return f"v0 to v{_range(slot)[1]} here{_wider(line.key)}"
-    if slot.kind == "digits":
-        return f"{slot.size} hexadecimal digits stand here"
-    is_target = slot.kind == "@"
-    return "a target is @ and the number of an instruction" if is_target else "two hexadecimal digits for each byte"
+        numbers = _range(slot.kind)
+        more = _wider(line.key) if is_signed else ""
+        return flags[1] if flags else f"a number from {numbers[0]} to {numbers[-1]} stands here{more}"
+    if kind == "register":
+        return f"v0 to v{_range(slot.kind)[-1]} here{_wider(line.key)}"
+    if kind == "digits":
+        return f"{size} hexadecimal digits stand here"
+    return "a target is @ and the number of an instruction" if kind == "@" else "two hexadecimal digits for each byte"
 
 
 def _wider(mnemonic: str) -> str:
     form = format_of(mnemonic)
-    for narrow, wide in _WIDER:
-        found = re.fullmatch(narrow, mnemonic)
-        if form and found:
+    for narrow, wide in _WIDER if form else ():
+        if found := re.fullmatch(narrow, mnemonic):
             return f"; {found.expand(wide)} takes more"
     return "; a move/from16 before it brings a higher one there" if form and form.registers and not form.literal else ""
 
 
-def _duplicate(line: Line, before: Class | None) -> Diagnostic | None:
+def _duplicate(line: Line, before: Class) -> Diagnostic | None:
     """What was said before; a label may be another code's too."""
-    if before is None:
-        return None
     if line.key[:1] == ":":
         return Diagnostic(line, line.words[0], "the label stands in this code already")
     own = _unique_key(line)

@@ -6,14 +6,14 @@ refused; so nothing is judged here. A word keeps its column, and its quotes wher
 from __future__ import annotations
 
 import re
+from bisect import bisect_right
 from collections.abc import Iterable, Iterator
 from dataclasses import dataclass, field
 from typing import NamedTuple
 
-from dexasm.formats import format_of
+from dexasm.formats import Format, format_of
 from dexasm.names import spelled, unquoted, unspelled
 
-MEMBERS = ("static", "instance", "direct", "virtual")
 PAYLOADS = ("packed-switch-payload", "sparse-switch-payload", "array-payload")
 _WORD = re.compile(r'"(?:[^"\\]|\\.)*"|[^ ]+')
 
@@ -28,38 +28,24 @@ class Kind(NamedTuple):
     is_signed: bool = False
 
 
-_NAME, _TYPE, _PROTO, _TEXT, _TARGET = map(Kind, ("name", "type", "proto", "text", "target"))
-_FIELD, _METHOD, _LABEL, _BYTES = map(Kind, ("field", "method", "label", "bytes"))
-_FLAGS, _COUNT, _INT = Kind("number", 32), Kind("number", 16), Kind("number", 32, True)
-_LINES = {
-    "class": (_TYPE, _FLAGS),
-    "super": (_TYPE,),
-    "implements": (_TYPE,),
-    "source": (_TEXT,),
-    "static": (_NAME, _TYPE, _FLAGS),
-    "instance": (_NAME, _TYPE, _FLAGS),
-    "direct": (_NAME, _PROTO, _FLAGS),
-    "virtual": (_NAME, _PROTO, _FLAGS),
-    "code": (_COUNT, _COUNT, _COUNT),
-    "try": (_TARGET, _TARGET),
-    "catch": (_TYPE, _TARGET),
-    "catchall": (_TARGET,),
+_TARGET, _COUNT, _INT = Kind("target"), Kind("number", 16), Kind("number", 32, True)
+# What stands behind the first word of a line that is no instruction.
+MEMBERS = {
+    "static": ("NAME", "TYPE", "FLAGS"),
+    "instance": ("NAME", "TYPE", "FLAGS"),
+    "direct": ("NAME", "PROTOTYPE", "FLAGS"),
+    "virtual": ("NAME", "PROTOTYPE", "FLAGS"),
 }
-KEYS = (*_LINES, "end")  # of what is no instruction
-VALUES = {
-    "byte": Kind("number", 8, True),
-    "short": Kind("number", 16, True),
-    "char": Kind("number", 16),
-    "int": _INT,
-    "long": Kind("number", 64, True),
-    "float": Kind("digits", 8),
-    "double": Kind("digits", 16),
-    "string": _TEXT,
-    "type": _TYPE,
-    "field": _FIELD,
-    "enum": _FIELD,
-    "method": _METHOD,
-}
+KEYWORDS = {"class": ("TYPE", "FLAGS"), "super": ("TYPE",), "implements": ("TYPE",), "source": ("TEXT",), **MEMBERS}
+KEYWORDS |= {"code": ("REGISTERS", "INS", "OUTS"), "try": (":FROM", ":TO"), "catch": ("TYPE", ":LABEL")}
+KEYWORDS |= {"catchall": (":LABEL",)}
+_KINDS = {name.upper(): Kind(name) for name in ("name", "type", "text", "field", "method")}
+_KINDS |= {"PROTOTYPE": Kind("proto"), "FLAGS": Kind("number", 32)}
+_KINDS |= {**dict.fromkeys(KEYWORDS["code"], _COUNT), **dict.fromkeys((":FROM", ":TO", ":LABEL"), _TARGET)}
+VALUES = {"byte": Kind("number", 8, True), "short": Kind("number", 16, True), "char": _COUNT, "int": _INT}
+VALUES |= {"long": Kind("number", 64, True), "float": Kind("digits", 8), "double": Kind("digits", 16)}
+VALUES |= {name: Kind(name.replace("string", "text")) for name in ("string", "type", "field", "method")}
+VALUES |= {"enum": Kind("field")}
 
 
 class Word(NamedTuple):
@@ -85,12 +71,10 @@ class Diagnostic(NamedTuple):
 
 
 class Slot(NamedTuple):
-    """A word that says something, and what it has to be, as Kind has it."""
+    """A word that says something, and what it has to be."""
 
     word: Word
-    kind: str
-    size: int = 0
-    is_signed: bool = False
+    kind: Kind
 
 
 @dataclass
@@ -112,11 +96,10 @@ class Code:
             self.labels[line.key] = len(self.insns)
         elif line.key == "try":
             self.tries.append(Try(line))
-        elif line.key in ("catch", "catchall"):
-            if self.tries:
-                self.tries[-1].handlers.append(line)
-        else:
+        elif line.key not in ("catch", "catchall"):
             self.insns.append(line)
+        elif self.tries:
+            self.tries[-1].handlers.append(line)
 
     def place(self, word: Word) -> int:
         """The number of the instruction to which a target leads, that of the end is one more than the last's."""
@@ -131,10 +114,6 @@ class Member:
     line: Line
     code: Code | None = None
 
-    def __contains__(self, number: int) -> bool:
-        """Whether a line from its first on is one of its lines."""
-        return number == self.line.number or self.code is not None and not 0 < self.code.end < number
-
 
 @dataclass
 class Class:
@@ -148,19 +127,19 @@ class Class:
 
     def member_at(self, number: int) -> Member | None:
         """The member that has a line."""
-        found = [member for member in self.members if member.line.number <= number][-1:]
-        return next((member for member in found if number in member), None)
+        for member in [member for member in self.members if member.line.number <= number][-1:]:
+            if number == member.line.number or member.code is not None and not 0 < member.code.end < number:
+                return member
+        return None
 
     def lines(self) -> Iterator[Line]:
         """Each line that names something."""
-        yield self.head
-        yield from self.above
+        yield from (self.head, *self.above)
         for member in self.members:
             yield member.line
             if member.code is not None:
                 yield from member.code.insns
-                for one in member.code.tries:
-                    yield from one.handlers
+                yield from (handler for one in member.code.tries for handler in one.handlers)
 
 
 class Listing:
@@ -176,17 +155,23 @@ class Listing:
         """A line's characters; bytes that are none stand as surrogates."""
         return self.rows[number - 1].decode("utf8", "surrogateescape")
 
+    def words(self, number: int) -> list[Word]:
+        return [Word(word[0], word.start() + 1) for word in _WORD.finditer(self.text(number))]
+
     def line(self, number: int) -> Line:
-        words = [Word(word[0], word.start() + 1) for word in _WORD.finditer(self.text(number))]
+        words = self.words(number)
         if words and words[0].text[:1] == "#":
             words = []
         has_number = self.is_first_form and len(words) > 1 and words[0].text[-1] == ":"
         return Line(number, tuple(words[1:] if has_number else words))
 
-    def word(self, number: int) -> Word | None:
-        """The first word of a row, of an instruction of the first form its number."""
-        found = _WORD.search(self.text(number))
-        return None if found is None else Word(found[0], found.start() + 1)
+    def is_first(self, number: int) -> bool:
+        """Whether no line before this one has words."""
+        return not any(self.line(other).words for other in range(1, number))
+
+    def index_at(self, number: int) -> int:
+        """The number of the class that has a line, from 0."""
+        return bisect_right(self.heads, number) - 1
 
     def class_at(self, index: int, last: int | None = None) -> Class | None:
         """The class of this number from 0, up to its end or to a line."""
@@ -237,49 +222,49 @@ def short_name(name: str) -> str:
     return word if len(word) <= 60 else f"{word[:57]}..."
 
 
+def plural(count: int, noun: str) -> str:
+    return f"{count} {noun}" + "s" * (count != 1)
+
+
+def operands(form: Format) -> list[tuple[str, Kind]]:
+    """What stands behind a mnemonic, but for registers in braces, in the listing's order: each with its name in messages."""
+    found = [(f"v{'ABC'[at]}", Kind("register", bits)) for at, bits in enumerate(form.registers)]
+    found += [("count", Kind("number", 8))] * form.is_range
+    found += [("number", Kind("number", form.literal, True))] * (form.literal > 0)
+    found += [(":LABEL", _TARGET)] * (form.target > 0)
+    return found + [(form.name.upper(), Kind(form.name))] * (form.name != "")
+
+
 def slots(line: Line) -> list[Slot]:
     """What the words of a line have to be; those that are neither names, numbers nor texts are left out."""
-    words, key = line.words[1:], line.key
+    words, key, form = line.words[1:], line.key, format_of(line.key)
+    kinds: Iterable[Kind] = ()
     if key[:1] == ":":
-        return _slots(line.words[:1], (_LABEL,))
-    if key in _LINES:
-        return [*_slots(words, _LINES[key]), *_value_slots(words[4:])]
-    if key == "packed-switch-payload":
-        return _slots(words, (_INT, *[_TARGET] * len(words)))
-    if key == "sparse-switch-payload":
-        return _slots(words, (_INT, _TARGET) * len(words))
-    if key == "array-payload":
-        return _slots(words, (_COUNT, _BYTES))
-    return _insn_slots(words, key)
+        words, kinds = line.words[:1], (Kind("label"),)
+    elif key in KEYWORDS:
+        found = [Slot(word, _KINDS[label]) for word, label in zip(words, KEYWORDS[key])]
+        return found + [Slot(word, VALUES[kind.text]) for kind, word in _pairs(words[4:])]
+    elif key == "array-payload":
+        kinds = _COUNT, Kind("bytes")
+    elif key in PAYLOADS:
+        kinds = (_INT, *[_TARGET] * len(words)) if key == PAYLOADS[0] else (_INT, _TARGET) * len(words)
+    elif form is not None:
+        kinds = [kind for _, kind in operands(form)]
+        if form.is_list:
+            end = next((at for at, word in enumerate(words) if word.text == "}"), 0)
+            kinds = [Kind("register", 4)] * (end - 1) + [*kinds]
+            words = words[1:end] + words[end + 1 :]
+    return list(map(Slot, words, kinds))
 
 
-def _slots(words: tuple[Word, ...], kinds: Iterable[Kind]) -> list[Slot]:
-    return [Slot(word, *kind) for word, kind in zip(words, kinds)]
-
-
-def _insn_slots(words: tuple[Word, ...], key: str) -> list[Slot]:
-    form = format_of(key)
-    if form is None:
-        return []
-    kinds = [Kind("register", bits) for bits in form.registers]
-    if form.is_list:
-        end = next((at for at, word in enumerate(words) if word.text == "}"), 0)
-        kinds = [Kind("register", 4)] * (end - 1)
-        words = words[1:end] + words[end + 1 :]
-    kinds += [Kind("number", 8)] * form.is_range + [Kind("number", form.literal, True)] * (form.literal > 0)
-    kinds += [_TARGET] * (form.target > 0) + [Kind(form.name)] * (form.name != "")
-    return _slots(words, kinds)
-
-
-def _value_slots(words: tuple[Word, ...]) -> Iterator[Slot]:
+def _pairs(words: tuple[Word, ...]) -> Iterator[tuple[Word, Word]]:
+    """The kind and the operand of each value in these words."""
     rest = iter(words)
     for word in rest:
-        if word.text in VALUES:
-            operand = next(rest, None)
-            if operand is not None:
-                yield Slot(operand, *VALUES[word.text])
+        if word.text in VALUES and (operand := next(rest, None)) is not None:
+            yield word, operand
 
 
 def registers(line: Line) -> list[Word]:
     """The words of an instruction that name registers."""
-    return [slot.word for slot in slots(line) if slot.kind == "register"]
+    return [slot.word for slot in slots(line) if slot.kind.name == "register"]
