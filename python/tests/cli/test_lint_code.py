@@ -21,6 +21,7 @@ from dexasm.analysis.verifier import dataflow, lattice as kinds, method as verif
 from dexasm.analysis.verifier.hierarchy import Hierarchy
 from dexasm.analysis.verifier.operands import RegisterLine
 from dexasm.analysis.verifier.report import Finding
+from dexasm.analysis.verifier.rules import CODE_RULES
 from dexasm.analysis.verifier.transfer import step_of
 from dexasm.cli.errors import CliError
 from dexasm.cli.worker import REASONS as SAYS
@@ -31,6 +32,7 @@ from .support import ESC, HEAD, TOP, HelperTest, assembled, dexasm, get, library
 
 Row = tuple[Any, ...]  # rule, method, code, and of some the number of the instruction that is told of
 PUBLIC, STATIC, CONSTRUCTOR = 0x1, 0x8, 0x10001
+RULES = {rule: page for rule, (page, _) in CODE_RULES.items()}
 CASES = cases("lint_code")
 ROWS: tuple[Row, ...] = tuple((*row[:3], *map(int, row[3:])) for row in CASES["rows"])
 # Codes that a device takes, and of which something could be told; codes, and what is said of them, with types and
@@ -316,7 +318,7 @@ class LintCode(HelperTest):
         status, told, said = lint(listing(1, rows), at=at)
         self.check_equal("--code, right codes", (status, said, told[0]["status"]), (0, "", "ok"))
         tried = [row[0] for row in ROWS]
-        few = [rule for rule in lint_code.RULES if tried.count(rule) < 3]
+        few = [rule for rule in RULES if tried.count(rule) < 3]
         self.check_equal("--code, three codes of each rule", few, EMPTY)
 
     def test_loops(self) -> None:
@@ -429,7 +431,7 @@ class LintCode(HelperTest):
             f"a.txt:{one['line']}:{one['column']}: error: {one['why']} ({one['rule']}, {one['page']})" for one in told
         ]
         self.check_equal("--code, JSON and lines", plain, lines)
-        seen: list[Any] = [one for one in told if one["page"] != lint_code.RULES[one["rule"]] or not one["sentence"]]
+        seen: list[Any] = [one for one in told if one["page"] != RULES[one["rule"]] or not one["sentence"]]
         self.check_equal("--code, JSON's pages", (told, seen), (SOME, EMPTY))
         sarif = json.loads(tool("dexasm-lint", "--code", "--sarif", "a.txt", at=at)[1])["runs"][0]
         rules = [one["id"] for one in sarif["tool"]["driver"]["rules"]]
@@ -583,7 +585,7 @@ class LintCode(HelperTest):
         tried."""
         helped = re.findall(r"^  ([a-z][a-z-]+)  ", tool("dexasm-lint", "--help")[1].partition("With --code")[2], re.M)
         rows = re.findall(r"^\| ([AB]\d.*?|code_item) \| (`.*`) \|$", get(TOP, "docs/VERIFIERS.md").decode(), re.M)
-        rules = lint_code.RULES
+        rules = RULES
         self.check_equal("the help has each rule of code", helped, [*rules])
         numbers = {word: number for number, words in rows for word in re.findall("[a-z-]+", words)}
         self.check_equal("VERIFIERS has each rule of code", numbers, rules)

@@ -13,6 +13,7 @@ import re
 import sys
 import textwrap
 from collections.abc import Container
+from types import ModuleType
 from typing import NoReturn
 
 from .. import helpers as programs, sought
@@ -36,10 +37,6 @@ with open(LAUNCHER, encoding="utf8") as file:
 exec(launcher, {"__file__": LAUNCHER, "HELPER": "%s"})
 """
 JOBS = ("check", "list", "assemble", "strip")
-RULE_TABLE = """\
-\"\"\"What is wrong where a rule is broken, written by tools/generate from the manual of dexasm-lint.\"\"\"
-SENTENCES = {
-"""
 FAULT_TABLE = """\
 \"\"\"The faults, written by tools/generate from docs/FORMAT.md and docs/LISTING.md: the name of each number, the sentence
 of its row, and what its place is.
@@ -197,17 +194,6 @@ def fault_table() -> str:
     return FAULT_TABLE + "".join(f"    {line}\n" for line in lines).replace(FAST, " ") + "}  # fmt: skip\n"
 
 
-def rule_table() -> str:
-    """A module with the sentences of lint's rules, as its manual has them."""
-    rules = re.findall(r"^  ([a-z][a-z-]*)  (\S.*(?:\n {6}.*)*)", helpers()["dexasm-lint"], re.M)
-    lines = []
-    for rule, text in rules:
-        first, *more = re.findall(r".{1,80}(?:\s|$)", " ".join(text.split()))
-        lines += [f'    "{rule}": {json.dumps(first)}', *(f"    {json.dumps(part)}" for part in more)]
-        lines[-1] += ","
-    return RULE_TABLE + "\n".join(lines) + "\n}  # fmt: skip\n"
-
-
 def inline(text: str) -> str:
     """A line of a document as roff: code is bold, and of a link the words stay."""
     return re.sub(r"`([^`]*)`", r"\\fB\1\\fR", plain(re.sub(r"\[([^][]*)\]\([^()]*\)", r"\1", text)))
@@ -249,12 +235,18 @@ def table_row(line: str, is_head: bool) -> list[str]:
 
 
 def helpers() -> dict[str, str]:
-    """The docstrings of the helpers by their names."""
-    found = {}
-    for name, path in programs().items():
-        with open(path, encoding="ascii") as file:
-            found[name] = ast.get_docstring(ast.parse(file.read())) or ""
-    return found
+    """The manuals of the helpers by their names."""
+    modules = {name: module_of(name) for name in programs()}
+    from dexasm.cli.main import docstring
+
+    return {name: docstring(module).strip() for name, module in modules.items()}
+
+
+def module_of(name: str) -> ModuleType:
+    """The module of a helper, of this checkout."""
+    if "python/src" not in sys.path:
+        sys.path.insert(0, "python/src")
+    return importlib.import_module(programs()[name].removeprefix("python/src/").removesuffix(".py").replace("/", "."))
 
 
 def uses_of(doc: str) -> list[str]:
@@ -302,8 +294,7 @@ def helper_words(name: str) -> tuple[list[str], dict[str, list[str]]]:
 
 def declared(name: str) -> list[argparse.Action]:
     """The words that a helper declares, those of its jobs too."""
-    if "python/src" not in sys.path:
-        sys.path.insert(0, "python/src")
+    module = module_of(name)
     from dexasm.cli import main
 
     class Declared(Exception):
@@ -315,7 +306,6 @@ def declared(name: str) -> list[argparse.Action]:
 
         parse_intermixed_args = parse_args  # type: ignore[assignment]
 
-    module = importlib.import_module(programs()[name].removeprefix("python/src/").removesuffix(".py").replace("/", "."))
     parser = Recorder(module)
     with contextlib.suppress(Declared):
         main.declarations[module.__name__](parser)
@@ -460,7 +450,6 @@ def made() -> Made:
     pages |= {f"contrib/completion/{name}": words(said) for name, words in (("dexasm.bash", bash), ("_dexasm", zsh), ("dexasm.fish", fish))}
     pages |= {f"python/bin/{name}": Program(HELPER % (name, name)) for name in helpers() if name != LAUNCHER}
     pages["python/src/dexasm/cli/fault_table.py"] = fault_table()
-    pages["python/src/dexasm/analysis/verifier/rule_table.py"] = rule_table()
     if misnamed():
         raise Missing(f"{FORMAT} and {LISTING} don't name these faults as {NAMES} does: {', '.join(misnamed())}")
     look_at_version(said)

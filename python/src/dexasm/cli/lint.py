@@ -7,26 +7,7 @@ a program, of flags, lists of members, names, values and outs. For each member t
 the class or member, the rule's word, what is wrong and by what, and the page and its part that the rule belongs to. A
 file in which none is broken is `FILE: ok`. The rules:
 
-  class-flags  a class has flags above 0xffff
-  field-flags  a field has flags above 0xffff
-  one-of-public-protected-private  more than one of public, protected and private
-  volatile-and-final  a field of a class is volatile and final
-  method-flags  a method has flags above 0xffff that aren't constructor or declared-synchronized
-  constructor-flag  a method is flagged constructor, and isn't <init> or <clinit>
-  init-flags  <init> has flags other than public, protected, private, varargs, strict and synthetic
-  abstract-flags  an abstract method is private, static, final, synchronized, native or strict too
-  code-missing  a method has no code, and isn't native or abstract
-  code-unwanted  a method has code, and is native or abstract
-  field-list  a field is in the list of static fields, and isn't static, or the other way round
-  method-list  a method is in the list of direct methods, and isn't static, private, <init> or <clinit>, or the other
-               way round
-  in-both-lists  a method is direct and virtual
-  method-name  a method's name begins with <, and isn't <init> or <clinit>
-  constructor-signature  <init> returns something, or <clinit> isn't ()V
-  value-type  a static field's value is of another type
-  value-kind  a static field's value is an enum, a field, a method or an array
-  outs-size  outs are more than 5 and more than registers
-  superclass-missing  a class other than java.lang.Object has no superclass
+{FILE_RULES}
 
 They are those of ART 14 for version 035, which docs/VERIFIERS.md lists with all else that it asks.
 
@@ -42,40 +23,7 @@ A class that isn't in the file is assumed correct; one that is, is taken as the 
 also where a device has its own of that name (--skip-boot). Code behind a handler of a class that a device may not find
 isn't checked, as then on the device. The rules:
 
-  register-kind  a register holds another kind of value than the instruction takes
-  ways-differ  a register is read that holds one kind of value on one way and another one on another
-  register-unset  a register is read that isn't set on each way
-  pair-broken  a half of a pair of registers is read alone, or is no half of that pair any more
-  pair-outside  a pair begins at the last register of the code
-  uninitialized-use  an object is used before its constructor is called
-  constructor-call  a constructor is called on what is no new object
-  constructor-return  a constructor returns without having called another one
-  field-static  iget or iput names a static field, or sget or sput an instance field
-  field-type  a field's type isn't the instruction's
-  call-kind  a method is called by another kind of invoke than its own
-  call-init  <clinit> is called, or <init> by another invoke than invoke-direct
-  argument-count  a call is given more or fewer registers than its method takes
-  argument-type  an argument can't be of the parameter's type
-  receiver-type  an object can't be of the class whose method is called or whose field is named
-  stored-type  what is stored can't be of the type of the field or of the array's elements
-  result-place  a move-result isn't right behind a call, or something else leads to it
-  result-kind  a move-result takes another kind of value than its call answers
-  exception-place  a move-exception isn't the first instruction of a handler, or something else leads to it
-  catch-type  a handler is of a class of the file, an array or a primitive type that is no Throwable
-  falls-off  the flow runs past the last instruction
-  payload-reached  the flow runs into the data of a switch or of an array
-  switch-keys  the keys of a packed-switch run past the greatest int
-  return-kind  a return is of another kind than the method's type
-  return-type  what is returned can't be of the method's type
-  return-range  what is returned lies in a range that the method's type doesn't have
-  throw-type  what is thrown is no Throwable
-  array-kind  an instruction for arrays is given something else, or an array of other elements
-  array-data  data of an array is of another width than its elements, or these are references
-  array-type  new-array or filled-new-array names a type that is no array, or the latter one of long or double
-  new-type  new-instance names an array, a primitive type, an interface, an abstract class or java.lang.Class
-  cast-type  check-cast or instance-of names a primitive type
-  ins-count  the ins of a code aren't as many as the method's parameters take
-  outs-short  the outs of a code aren't enough for a call
+{CODE_RULES}
 
   --json    a line of JSON for each: file, uri, kind (dex, listing), status, rule, page, line, column, class, member,
             instruction, address, register, sentence, why; what isn't known is null. The status is broken, ok (of a
@@ -101,7 +49,7 @@ import os
 import sys
 
 from dexasm.analysis.verifier.report import code_findings, format_line, kind_by, member_of, structure_findings
-from dexasm.analysis.verifier.structure_rules import RULES
+from dexasm.analysis.verifier.rules import CODE_RULES, FILE_RULES, manual
 from dexasm.cli.core import as_dex, is_listing, read_program
 from dexasm.cli.errors import FAILED, MEMORY, REFUSED, CliError
 from dexasm.cli.inputs import read_inputs, split_entry
@@ -120,6 +68,7 @@ if TYPE_CHECKING:
     from dexasm.cli.inputs import Input
     from dexasm.cli.main import Parser
 
+PARTS = {"{FILE_RULES}": manual(FILE_RULES), "{CODE_RULES}": manual(CODE_RULES)}  # of the manual above
 ENDS = {REFUSED: "refused", MEMORY: "memory"}
 
 
@@ -133,7 +82,7 @@ class Lines(Text):
             return [f"{name}: ok"]
         if verdict.class_ is None:
             return []  # (which standard error has)
-        if verdict.rule in RULES:
+        if verdict.rule in FILE_RULES:
             return [f"{name}: {'->'.join(member_of(verdict))}: {verdict.rule}: {verdict.why} ({verdict.page})"]
         return [format_line(name, verdict)]
 

@@ -138,12 +138,15 @@ def seconds(word: str) -> float:
 
 
 def docstring(program: ModuleType) -> str:
-    """The docstring of a helper; out of its file where Python was told to keep none (-OO)."""
-    if program.__doc__:
-        return program.__doc__
-    import ast
+    """The docstring of a helper with its parts; out of its file where Python was told to keep none (-OO)."""
+    doc = program.__doc__
+    if not doc:
+        import ast
 
-    return ast.get_docstring(ast.parse(read_file(program.__file__)), clean=False) or ""
+        doc = ast.get_docstring(ast.parse(read_file(program.__file__)), clean=False) or ""
+    for name, part in getattr(program, "PARTS", {}).items():
+        doc = doc.replace(name, part)
+    return doc
 
 
 def print_error(line: str) -> None:

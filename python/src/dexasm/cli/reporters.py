@@ -55,7 +55,7 @@ def uri_of(path: bytes) -> str:
 def sentence_of(verdict: Verdict) -> str | None:
     """What is wrong, as the pages and the help have it, or why it wasn't looked at."""
     if verdict.rule is not None:
-        from dexasm.analysis.verifier.rule_table import SENTENCES as RULES
+        from dexasm.analysis.verifier.rules import SENTENCES as RULES
 
         return RULES.get(verdict.rule)
     if verdict.number is None:
@@ -313,7 +313,7 @@ class Sarif(Text):
             return SENTENCES.get(int(rule), ("Unknown", "", ""))[:2]
         if rule in UNREAD:
             return rule, UNREAD[rule]
-        from dexasm.analysis.verifier.rule_table import SENTENCES as RULES
+        from dexasm.analysis.verifier.rules import SENTENCES as RULES
 
         return rule, RULES.get(rule, "")
 

@@ -13,8 +13,8 @@ from dexasm.analysis.verifier.dataflow import TooMuch
 from dexasm.analysis.verifier.hierarchy import BOOT, Hierarchy
 from dexasm.analysis.verifier.lattice import NO_ARRAY, Lattice, RegType
 from dexasm.analysis.verifier.method import MOST_REPORTED, Method, Violation
-from dexasm.analysis.verifier.rule_table import SENTENCES
-from dexasm.analysis.verifier.structure_rules import PAGE, RULES as FILE_RULES, STATIC, classes_of, violations
+from dexasm.analysis.verifier.rules import PAGES, SENTENCES
+from dexasm.analysis.verifier.structure_rules import STATIC, violations
 from dexasm.analysis.xref import reread
 from dexasm.cli.sanitize import LONGEST
 from dexasm.cli.verdict import Verdict
@@ -25,44 +25,6 @@ if TYPE_CHECKING:
     from dexasm.listing import source as listed
     from dexasm.program import Program
 
-# Each rule's word, and its numbers on the page "Dalvik bytecode constraints"; `code_item` is a part of the page
-# "Dalvik Executable format". What is wrong where one is broken stands in the help of dexasm-lint.
-RULES = {
-    "register-kind": "B1",
-    "ways-differ": "B1, B7",
-    "register-unset": "B3",
-    "pair-broken": "B2, B18",
-    "pair-outside": "A23",
-    "uninitialized-use": "B6, B8",
-    "constructor-call": "B5",
-    "constructor-return": "B8",
-    "field-static": "A10, A11",
-    "field-type": "B1",
-    "call-kind": "A12 to A16, B4",
-    "call-init": "A14",
-    "argument-count": "B1",
-    "argument-type": "B9",
-    "receiver-type": "B10",
-    "stored-type": "B13 to B15",
-    "result-place": "B19, B20",
-    "result-kind": "B20",
-    "exception-place": "B21",
-    "catch-type": "code_item",
-    "falls-off": "B17",
-    "payload-reached": "B22",
-    "switch-keys": "A7",
-    "return-kind": "B11",
-    "return-type": "B11",
-    "return-range": "B11",
-    "throw-type": "B16",
-    "array-kind": "B1",
-    "array-data": "B1",
-    "array-type": "A21, B1",
-    "new-type": "A20",
-    "cast-type": "A17, A18",
-    "ins-count": "code_item",
-    "outs-short": "code_item",
-}
 UNREAD = "unread"  # in place of a rule: the method wasn't looked at to its end
 TOO_MUCH = "it has too many registers and ways to be looked at"
 MARKED = re.compile(r"`(=?)([^`]*)`")
@@ -274,7 +236,7 @@ class Places:
             instruction=finding.place if finding.place >= 0 else None,
             why=MARKED.sub(lambda found: self.named(found, lines), finding.text),
             rule=None if finding.rule == UNREAD else finding.rule,
-            page=RULES.get(finding.rule),
+            page=PAGES.get(finding.rule),
             register=finding.register if finding.register >= 0 else None,
             address=address,
         )
@@ -320,19 +282,13 @@ def code_findings(
 
 def structure_findings(path: bytes, is_text: bool, program: Program) -> Iterator[Verdict]:
     """Which rules of files a program breaks: each as the help of dexasm-lint has it, and by what."""
-    for one in classes_of(program):
-        for where, rule, by in violations(one):
-            yield Verdict(
-                path,
-                "",
-                kind_by(is_text),
-                "broken",
-                class_=one.name,
-                member=where.partition("->")[2] or None,
-                why=f"{SENTENCES[rule]}: {by}",
-                rule=rule,
-                page=f"{PAGE}, {FILE_RULES[rule]}",
-            )
+    from dexasm.names import spelled
+
+    for one in program.classes:
+        for member, rule, by in violations(one):
+            known = Verdict(path, "", kind_by(is_text), "broken", rule=rule, page=PAGES[rule])
+            name, why = member and spelled(member), f"{SENTENCES[rule]}: {by}"
+            yield known._replace(class_=spelled(one.name), member=name, why=why)
 
 
 def kind_by(is_text: bool) -> str:
