@@ -110,7 +110,11 @@ class Findings:
             rule = RULES[kind.base]
         elif kind.base.endswith(("low", "high")):
             rule = "pair-broken"
-        self.report(place, rule, wanted, register, kind)
+        self.wrong_as(line, register, place, rule, wanted)
+
+    def wrong_as(self, line: list[RegType], register: int, place: int, rule: str, wanted: str) -> None:
+        """The same, by this rule."""
+        self.report(place, rule, wanted, register, line[register])
         line[register] = ANY
 
     def wrong_pair(self, line: list[RegType], register: int, place: int, wanted: str) -> None:
@@ -129,12 +133,7 @@ class Findings:
 
     def wrong_type(self, line: list[RegType], register: int, place: int, type_: str, rule: str) -> None:
         """A reference isn't of the class or the array that is wanted."""
-        self.report(place, rule, "an array" if type_ == "[" else f"`{type_}`", register, line[register])
-        line[register] = ANY
-
-    def wrong_range(self, line: list[RegType], register: int, place: int, wanted: str) -> None:
-        self.report(place, "return-range", f"a {wanted}", register, line[register])
-        line[register] = ANY
+        self.wrong_as(line, register, place, rule, "an array" if type_ == "[" else f"`{type_}`")
 
 
 class Method(Findings):
@@ -261,12 +260,12 @@ class Method(Findings):
         if not any(wrong.register >= 0 for wrong in found[:MOST_REPORTED]):
             return found
         origins = Origins(flow)
-        return [self.with_origins(wrong, origins) for wrong in found[:MOST_REPORTED]] + found[MOST_REPORTED:]
-
-    def with_origins(self, wrong: Violation, origins: Origins) -> Violation:
-        if wrong.register < 0:
-            return wrong
-        return wrong._replace(ways=tuple(origins.ways(wrong.place, wrong.register, wrong.kind)))
+        return [
+            wrong._replace(ways=tuple(origins.ways(wrong.place, wrong.register, wrong.kind)))
+            if at < MOST_REPORTED and wrong.register >= 0
+            else wrong
+            for at, wrong in enumerate(found)
+        ]
 
     def states(self) -> Iterator[tuple[int, list[RegType]]]:
         """The kinds of the registers before each instruction that a way leads to."""

@@ -30,7 +30,6 @@ if TYPE_CHECKING:
 
 # The elements, or the fields, that an instruction of this ending takes.
 ELEMENTS = {"": "IF", "-wide": "JD", "-object": "L[", "-boolean": "Z", "-byte": "B", "-char": "C", "-short": "S"}
-FIELDS = ELEMENTS
 # What an instruction of this ending gives of an array that is null: its elements can be ints or floats, but no objects.
 EMPTY: dict[str, Sequence[kinds.RegType]] = {"": (CONSTANTS["boolean"],), "-wide": WIDE, "-object": (kinds.NULL,)}
 EMPTY |= {ending: (NUMBERS[types],) for ending, types in ELEMENTS.items() if types in NUMBERS}
@@ -185,8 +184,8 @@ def field_of(method: Method, insn: Named, place: int, is_static: bool) -> tuple[
     if listed and (listed == "static") != is_static:
         text, first = ("a static", "s") if listed == "static" else ("an instance", "i")
         method.report(place, "field-static", f"the field is {text} one: {first}{insn.mnemonic[1:]} is for that")
-    if type_[0] not in FIELDS[ending]:
-        right = next(right for right, types in FIELDS.items() if type_[0] in types)
+    if type_[0] not in ELEMENTS[ending]:
+        right = next(right for right, types in ELEMENTS.items() if type_[0] in types)
         method.report(place, "field-type", f"the field is `{type_}`: {insn.mnemonic[:4]}{right} is for that")
         return owner, ""
     return owner, type_
@@ -201,35 +200,19 @@ def object_of(method: Method, insn: Named, line: RegisterLine, place: int, owner
     require_type(method, line, register, place, owner, "receiver-type")
 
 
-def got(method: Method, insn: Insn, line: RegisterLine, place: int, type_: str) -> None:
-    to = insn.registers[0]
-    if type_:
-        put(method, line, to, place, type_)
+def field(method: Method, insn: Insn, line: RegisterLine, place: int) -> None:
+    """A get or a put."""
+    register, is_static = insn.registers[0], insn.mnemonic[0] == "s"
+    owner, type_ = field_of(method, insn, place, is_static)
+    if not is_static:
+        object_of(method, insn, line, place, owner)
+    if insn.mnemonic[1] == "p":
+        if type_:
+            require_type(method, line, register, place, type_, "stored-type")
+    elif type_:
+        put(method, line, register, place, type_)
     else:
-        put_some(method, line, to, place, (ANY, ANY) if insn.mnemonic.endswith("-wide") else (ANY,))
-
-
-def iget(method: Method, insn: Insn, line: RegisterLine, place: int) -> None:
-    owner, type_ = field_of(method, insn, place, False)
-    object_of(method, insn, line, place, owner)
-    got(method, insn, line, place, type_)
-
-
-def iput(method: Method, insn: Insn, line: RegisterLine, place: int) -> None:
-    owner, type_ = field_of(method, insn, place, False)
-    object_of(method, insn, line, place, owner)
-    if type_:
-        require_type(method, line, insn.registers[0], place, type_, "stored-type")
-
-
-def sget(method: Method, insn: Insn, line: RegisterLine, place: int) -> None:
-    got(method, insn, line, place, field_of(method, insn, place, True)[1])
-
-
-def sput(method: Method, insn: Insn, line: RegisterLine, place: int) -> None:
-    type_ = field_of(method, insn, place, True)[1]
-    if type_:
-        require_type(method, line, insn.registers[0], place, type_, "stored-type")
+        put_some(method, line, register, place, (ANY, ANY) if insn.mnemonic.endswith("-wide") else (ANY,))
 
 
 # ---- calls

@@ -3,6 +3,9 @@
 `line` has the kinds of the registers, and the method is told what is wrong (method.py has both)."""
 from __future__ import annotations
 
+from collections.abc import Callable
+from operator import attrgetter
+
 from dexasm.analysis.verifier.lattice import ANY, NUMBERS, PAIRS, RegType
 
 TYPE_CHECKING = False  # (as in typing)
@@ -14,47 +17,38 @@ if TYPE_CHECKING:
 RegisterLine = list[RegType]
 
 
-def require_int(method: Method, line: RegisterLine, register: int, place: int) -> None:
-    if not line[register].is_int:
-        method.wrong(line, register, place, "an int")
+Require = Callable[["Method", RegisterLine, int, int], None]
 
 
-def require_float(method: Method, line: RegisterLine, register: int, place: int) -> None:
-    if not line[register].is_float:
-        method.wrong(line, register, place, "a float")
+def single(attribute: str, wanted: str) -> Require:
+    """Asks that a register has such a kind."""
+    is_one: Callable[[RegType], bool] = attrgetter(attribute)
+
+    def require(method: Method, line: RegisterLine, register: int, place: int) -> None:
+        if not is_one(line[register]):
+            method.wrong(line, register, place, wanted)
+
+    return require
 
 
-def require_reference(method: Method, line: RegisterLine, register: int, place: int) -> None:
-    if not line[register].is_ref:
-        method.wrong(line, register, place, "a reference")
+def pair(attribute: str, wanted: str) -> Require:
+    """Asks that two registers have the halves of such a pair."""
+    is_one: Callable[[RegType], bool] = attrgetter(attribute)
+
+    def require(method: Method, line: RegisterLine, register: int, place: int) -> None:
+        kind = line[register]
+        if not is_one(kind) or line[register + 1] is not kind.other:
+            method.wrong_pair(line, register, place, wanted)
+
+    return require
 
 
-def require_object(method: Method, line: RegisterLine, register: int, place: int) -> None:
-    """A reference, or a new object whose constructor wasn't called."""
-    if not line[register].is_object:
-        method.wrong(line, register, place, "a reference")
-
-
-def require_long(method: Method, line: RegisterLine, register: int, place: int) -> None:
-    kind = line[register]
-    if not kind.is_long or line[register + 1] is not kind.other:
-        method.wrong_pair(line, register, place, "a long")
-
-
-def require_double(method: Method, line: RegisterLine, register: int, place: int) -> None:
-    kind = line[register]
-    if not kind.is_double or line[register + 1] is not kind.other:
-        method.wrong_pair(line, register, place, "a double")
-
-
-def require_wide(method: Method, line: RegisterLine, register: int, place: int) -> None:
-    kind = line[register]
-    if not kind.is_wide or line[register + 1] is not kind.other:
-        method.wrong_pair(line, register, place, "a long or a double")
-
-
+require_int, require_reference = single("is_int", "an int"), single("is_ref", "a reference")
+require_wide = pair("is_wide", "a long or a double")
 REQUIRE = dict.fromkeys("ZBSCI", require_int)
-REQUIRE |= {"F": require_float, "J": require_long, "D": require_double, "R": require_reference, "O": require_object}
+REQUIRE |= {"F": single("is_float", "a float"), "J": pair("is_long", "a long"), "D": pair("is_double", "a double")}
+# R: a reference; O: also a new object whose constructor wasn't called.
+REQUIRE |= {"R": require_reference, "O": single("is_object", "a reference")}
 
 
 def require_type(method: Method, line: RegisterLine, register: int, place: int, type_: str, rule: str) -> None:

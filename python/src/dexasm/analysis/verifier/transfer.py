@@ -8,19 +8,15 @@ from __future__ import annotations
 import functools
 import re
 from collections.abc import Callable
+from itertools import permutations
 from typing import TYPE_CHECKING, NamedTuple
 
 from dexasm.analysis.verifier import lattice as kinds, object_transfer as objects
 from dexasm.analysis.verifier.lattice import ANY, CONFLICT, INT, NUMBERS, PAIRS, THROWABLE, WIDE
+
 from dexasm.analysis.verifier.operands import (
-    REQUIRE,
-    RegisterLine,
-    put,
-    put_pair,
-    require_int,
-    require_type,
-    require_wide,
-)
+    REQUIRE, RegisterLine, put, put_pair, require_int, require_type, require_wide,
+)  # fmt: skip
 
 if TYPE_CHECKING:
     from typing import Any
@@ -29,9 +25,26 @@ if TYPE_CHECKING:
     from dexasm.code import Insn
 
 ADD = r"(?:add|sub|mul|div|rem)"
+SHIFT = r"(?:sh[lr]|ushr)"
+TYPES = {"int": "I", "long": "J", "float": "F", "double": "D"}
 # The instructions of which no more is asked than kinds: the register that is written and its type, and each that is
 # read with the type (O is any object, also one whose constructor wasn't called; R a reference). One row a family.
+ARITHMETIC = (
+    (rf"(?:{ADD}|{SHIFT})-int", "0=I 1I 2I"),
+    (rf"(?:{ADD}|and|or|xor)-long", "0=J 1J 2J"),
+    (rf"{SHIFT}-long", "0=J 1J 2I"),
+    (rf"{ADD}-float", "0=F 1F 2F"),
+    (rf"{ADD}-double", "0=D 1D 2D"),
+)
 ROWS = (
+    *ARITHMETIC,
+    *((f"{names}/2addr", row[:4] + f"0{row[5]} 1{row[8]}") for names, row in ARITHMETIC),
+    *((f"{one}-to-{other}", f"0={TYPES[other]} 1{TYPES[one]}") for one, other in permutations(TYPES, 2)),
+    *((f"int-to-{narrow}", f"0={narrow[0].upper()} 1I") for narrow in ("byte", "char", "short")),
+    *((f"neg-{of}", f"0={TYPES[of]} 1{TYPES[of]}") for of in TYPES),
+    (r"not-int", "0=I 1I"),
+    (r"not-long", "0=J 1J"),
+    (rf"(?:(?:add|mul|div|rem)|{SHIFT})-int/lit(?:8|16)|rsub-int(?:/lit8)?", "0=I 1I"),
     (r"nop|goto(?:/16|/32)?", ""),
     (r"const-string(?:/jumbo)?", "0=Ljava/lang/String;"),
     (r"const-class", "0=Ljava/lang/Class;"),
@@ -42,36 +55,6 @@ ROWS = (
     (r"cmp-long", "0=I 1J 2J"),
     (r"if-(?:lt|ge|gt|le)", "0I 1I"),
     (r"if-(?:lt|ge|gt|le)z", "0I"),
-    (r"(?:neg|not)-int", "0=I 1I"),
-    (r"(?:neg|not)-long", "0=J 1J"),
-    (r"neg-float", "0=F 1F"),
-    (r"neg-double", "0=D 1D"),
-    (r"(?:add|sub|mul|div|rem|sh[lr]|ushr)-int", "0=I 1I 2I"),
-    (r"(?:add|sub|mul|div|rem|sh[lr]|ushr)-int/2addr", "0=I 0I 1I"),
-    (r"(?:add|mul|div|rem|sh[lr]|ushr)-int/lit(?:8|16)|rsub-int(?:/lit8)?", "0=I 1I"),
-    (r"(?:add|sub|mul|div|rem|and|or|xor)-long", "0=J 1J 2J"),
-    (r"(?:add|sub|mul|div|rem|and|or|xor)-long/2addr", "0=J 0J 1J"),
-    (r"(?:sh[lr]|ushr)-long", "0=J 1J 2I"),
-    (r"(?:sh[lr]|ushr)-long/2addr", "0=J 0J 1I"),
-    (rf"{ADD}-float", "0=F 1F 2F"),
-    (rf"{ADD}-float/2addr", "0=F 0F 1F"),
-    (rf"{ADD}-double", "0=D 1D 2D"),
-    (rf"{ADD}-double/2addr", "0=D 0D 1D"),
-    (r"int-to-long", "0=J 1I"),
-    (r"int-to-float", "0=F 1I"),
-    (r"int-to-double", "0=D 1I"),
-    (r"int-to-byte", "0=B 1I"),
-    (r"int-to-char", "0=C 1I"),
-    (r"int-to-short", "0=S 1I"),
-    (r"long-to-int", "0=I 1J"),
-    (r"long-to-float", "0=F 1J"),
-    (r"long-to-double", "0=D 1J"),
-    (r"float-to-int", "0=I 1F"),
-    (r"float-to-long", "0=J 1F"),
-    (r"float-to-double", "0=D 1F"),
-    (r"double-to-int", "0=I 1D"),
-    (r"double-to-long", "0=J 1D"),
-    (r"double-to-float", "0=F 1D"),
 )
 ANSWERS = {"": "ZBSCIF", "-wide": "JD", "-object": "L[", "-void": "V"}
 # Which can throw: only from these does a way lead to a handler.
@@ -133,18 +116,11 @@ def by_row(row: str) -> tuple[Callable[..., None], str]:
 
 
 def move(method: Method, insn: Insn, line: RegisterLine, place: int) -> None:
+    """An int, a float or a reference, whichever the mnemonic says."""
     to, source = insn.registers
-    kind = line[source]
-    if not kind.is_single and kind is not CONFLICT:
-        method.wrong(line, source, place, "an int or a float")
-    line[to] = line[source]
-
-
-def move_object(method: Method, insn: Insn, line: RegisterLine, place: int) -> None:
-    to, source = insn.registers
-    kind = line[source]
-    if not kind.is_object and kind is not CONFLICT:
-        method.wrong(line, source, place, "a reference")
+    kind, is_object = line[source], insn.mnemonic[4:5] == "-"
+    if not (kind.is_object if is_object else kind.is_single) and kind is not CONFLICT:
+        method.wrong(line, source, place, "a reference" if is_object else "an int or a float")
     line[to] = line[source]
 
 
@@ -188,11 +164,8 @@ def move_exception(method: Method, insn: Insn, line: RegisterLine, place: int) -
 
 
 def const(method: Method, insn: Insn, line: RegisterLine, place: int) -> None:
-    line[insn.registers[0]] = kinds.constant(insn.literal)  # type: ignore[arg-type]
-
-
-def const_high(method: Method, insn: Insn, line: RegisterLine, place: int) -> None:
-    line[insn.registers[0]] = kinds.constant(insn.literal << 16)  # type: ignore[operator]
+    number: Any = insn.literal  # (which each has)
+    line[insn.registers[0]] = kinds.constant(number << 16 if insn.mnemonic == "const/high16" else number)
 
 
 def const_wide(method: Method, insn: Insn, line: RegisterLine, place: int) -> None:
@@ -228,32 +201,19 @@ def leave(method: Method, line: RegisterLine, place: int, insn: Insn, types: str
     return True
 
 
-def return_void(method: Method, insn: Insn, line: RegisterLine, place: int) -> None:
-    leave(method, line, place, insn, "V")
-
-
-def return_single(method: Method, insn: Insn, line: RegisterLine, place: int) -> None:
-    if not leave(method, line, place, insn, ANSWERS[""]):
+def return_(method: Method, insn: Insn, line: RegisterLine, place: int) -> None:
+    types, type_ = ANSWERS[insn.mnemonic[6:]], method.returns
+    if not leave(method, line, place, insn, types) or type_ == "V":
         return
-    register, type_ = insn.registers[0], method.returns
-    REQUIRE[type_](method, line, register, place)
+    register = insn.registers[0]
+    require_type(method, line, register, place, type_, "return-type")
     kind = line[register]
     if type_ in "ZBSC" and kind.range and not (kind.base == "int" and kind.range == "int"):
         wanted = NUMBERS[type_].range
         # (compilers write methods that answer a byte as a boolean; a constant has to be one)
         is_byte = type_ == "Z" and kind.base == "int" and kinds.common_range(kind.range, "byte") == "byte"
         if kinds.common_range(kind.range, wanted) != wanted and not is_byte:
-            method.wrong_range(line, register, place, wanted)
-
-
-def return_wide(method: Method, insn: Insn, line: RegisterLine, place: int) -> None:
-    if leave(method, line, place, insn, "JD"):
-        REQUIRE[method.returns](method, line, insn.registers[0], place)
-
-
-def return_object(method: Method, insn: Insn, line: RegisterLine, place: int) -> None:
-    if leave(method, line, place, insn, "L["):
-        require_type(method, line, insn.registers[0], place, method.returns, "return-type")
+            method.wrong_as(line, register, place, "return-range", f"a {wanted}")
 
 
 def throw(method: Method, insn: Insn, line: RegisterLine, place: int) -> None:
@@ -300,19 +260,14 @@ def payload(method: Method, insn: Insn, line: RegisterLine, place: int) -> None:
 # ---- the table
 
 SPECIAL = (
-    (r"move(?:/from16|/16)?", move),
-    (r"move-object(?:/from16|/16)?", move_object),
+    (r"move(?:-object)?(?:/from16|/16)?", move),
     (r"move-wide(?:/from16|/16)?", move_wide),
     (r"move-result(?:-wide|-object)?", move_result),
     (r"move-exception", move_exception),
-    (r"const(?:/4|/16)?", const),
-    (r"const/high16", const_high),
+    (r"const(?:/4|/16|/high16)?", const),
     (r"const-wide(?:/16|/32|/high16)?", const_wide),
     (r"(?:and|or|xor)-int(?:/2addr|/lit8|/lit16)?", bits),
-    (r"return-void", return_void),
-    (r"return", return_single),
-    (r"return-wide", return_wide),
-    (r"return-object", return_object),
+    (r"return(?:-\w+)?", return_),
     (r"throw", throw),
     (r"packed-switch", packed_switch),
     (r"if-(?:eq|ne)", if_equal),
@@ -326,10 +281,7 @@ SPECIAL = (
     (r"fill-array-data", objects.fill_array),
     (r"aget(?:-\w+)?", objects.aget),
     (r"aput(?:-\w+)?", objects.aput),
-    (r"iget(?:-\w+)?", objects.iget),
-    (r"iput(?:-\w+)?", objects.iput),
-    (r"sget(?:-\w+)?", objects.sget),
-    (r"sput(?:-\w+)?", objects.sput),
+    (r"[is](?:get|put)(?:-\w+)?", objects.field),
     (r"invoke-\w+(?:/range)?", objects.invoke),
     (r"[a-z]+(?:-switch)?-payload", payload),
 )
