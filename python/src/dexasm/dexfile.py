@@ -8,22 +8,19 @@ from __future__ import annotations
 import functools
 import re
 import struct
+from collections.abc import Callable, Iterable, Iterator, Sequence
 from itertools import accumulate
 from operator import itemgetter
+from typing import Any, TypeVar
 
 from dexasm.opcodes import ROWS
 
-TYPE_CHECKING = False  # (as in typing)
-if TYPE_CHECKING:
-    from collections.abc import Callable, Iterable, Iterator, Sequence
-    from typing import Any, TypeVar
-
-    Parsed = TypeVar("Parsed")
-    Kind = TypeVar("Kind", int, str)
-    Owner = TypeVar("Owner")
-    Claim = tuple[int, int, int]  # begin, end and kind
-    Links = Sequence[tuple["Read", int]]  # what an item that isn't needed leads to, and how that is read
-    Read = Callable[["Reader"], Links]
+Parsed = TypeVar("Parsed")
+Kind = TypeVar("Kind", int, str)
+Owner = TypeVar("Owner")
+Claim = tuple[int, int, int]  # begin, end and kind
+Links = Sequence[tuple["Read", int]]  # what an item that isn't needed leads to, and how that is read
+Read = Callable[["Reader"], Links]
 
 HEADER, MAP_OFF = 112, 52
 LONGEST_CHARACTER = 6  # bytes in MUTF-8: two surrogates

@@ -8,16 +8,14 @@ import shutil
 import subprocess
 import xml.etree.ElementTree as xml
 from bisect import bisect_left
+from collections.abc import Iterator
+from typing import TYPE_CHECKING, Any
 
 from dexasm.analysis.xref import Xref, method_of, reread
 from dexasm.cli.errors import CliError
 from dexasm.names import spelled
 
-TYPE_CHECKING = False  # (as in typing)
 if TYPE_CHECKING:
-    from collections.abc import Iterator
-    from typing import Any
-
     from dexasm.code import Code, Insn, Label
 
     Callee = int | str

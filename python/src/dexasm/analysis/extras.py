@@ -1,15 +1,12 @@
 """Annotations and debug information of .dex files, which dexasm never writes: counts, and what is dropped."""
 from __future__ import annotations
 
-from typing import TYPE_CHECKING, NamedTuple
+from collections.abc import Iterable
+from typing import NamedTuple
 
 from dexasm.cli.filetypes import DEX
-from dexasm.dexfile import Malformed, Reader, Tables, read_annotation, read_directory, unpack
+from dexasm.dexfile import Malformed, Read, Reader, Tables, read_annotation, read_directory, unpack
 
-if TYPE_CHECKING:
-    from collections.abc import Iterable
-
-    from dexasm.dexfile import Read
 
 DEBUG_INFO_OFF = 8  # in a code_item
 

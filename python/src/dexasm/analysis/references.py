@@ -5,7 +5,7 @@ import functools
 import re
 from collections import Counter
 from collections.abc import Callable, Iterator
-from typing import TYPE_CHECKING, NamedTuple
+from typing import TYPE_CHECKING, Any, NamedTuple
 
 from dexasm.analysis.xref import Xref, classes_in, descriptor_of, unescaped
 from dexasm.cli.errors import USAGE, CliError
@@ -13,8 +13,6 @@ from dexasm.cli.sanitize import escaped
 from dexasm.cli.show import PATTERN, pattern
 
 if TYPE_CHECKING:
-    from typing import Any
-
     from dexasm.classes import Reference
     from dexasm.program import Program
 

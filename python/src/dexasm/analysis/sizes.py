@@ -2,14 +2,11 @@
 from __future__ import annotations
 
 from collections.abc import Callable, Iterable, Iterator
-from typing import TYPE_CHECKING, NamedTuple
+from typing import NamedTuple, TypeVar
 
 from dexasm.dexfile import FILE, KINDS, NOBODY, SEVERAL, Dex, sizes
 
-if TYPE_CHECKING:
-    from typing import TypeVar
-
-    Number = TypeVar("Number", int, "int | None")
+Number = TypeVar("Number", int, "int | None")
 
 COLUMNS = ("total", *KINDS, "strip")
 OTHERS = {SEVERAL: "(several classes)", NOBODY: "(no class)", FILE: "(the file)"}

@@ -6,15 +6,14 @@ from __future__ import annotations
 
 import re
 from bisect import bisect_right
+from collections.abc import Iterator
+from typing import TYPE_CHECKING
 
 from dexasm.cli.errors import USAGE, CliError
 from dexasm.cli.sanitize import escaped
 from dexasm.flags import FIELD_FLAGS, METHOD_FLAGS
 
-TYPE_CHECKING = False  # (as in typing)
 if TYPE_CHECKING:
-    from collections.abc import Iterator
-
     from dexasm.classes import Class, Field, Method
     from dexasm.code import Code
     from dexasm.names import Type

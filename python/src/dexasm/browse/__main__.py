@@ -24,11 +24,7 @@ from __future__ import annotations
 import os
 
 from dexasm.cli.inputs import read_inputs
-from dexasm.cli.main import command
-
-TYPE_CHECKING = False  # (as in typing)
-if TYPE_CHECKING:
-    from dexasm.cli.main import Parser
+from dexasm.cli.main import Parser, command
 
 
 @command()
@@ -49,7 +45,3 @@ def main(parser: Parser) -> int:
         pages.write(folder)
         folder.finish()
     return 0
-
-
-if __name__ == "__main__":
-    main()

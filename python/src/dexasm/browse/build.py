@@ -3,6 +3,7 @@ from __future__ import annotations
 
 import zlib
 from collections.abc import Iterable, Iterator
+from typing import TYPE_CHECKING, Any
 
 from dexasm.analysis.cfg import MOST_DRAWN, as_dot, embeddable_svg, flow, graphviz, render_svg
 from dexasm.analysis.xref import Xref, method_of
@@ -17,10 +18,7 @@ from dexasm.cli.errors import CliError
 from dexasm.pages.markup import plain, text
 from dexasm.pages.templates import Markup, part, read
 
-TYPE_CHECKING = False  # (as in typing)
 if TYPE_CHECKING:
-    from typing import Any
-
     from dexasm.cli.inputs import Input
 
 TOO_LARGE = "it is too large"

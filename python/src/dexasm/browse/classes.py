@@ -4,6 +4,7 @@ from __future__ import annotations
 from array import array
 from collections import Counter
 from collections.abc import Callable, Iterator
+from typing import TYPE_CHECKING
 
 from dexasm.analysis.xref import Xref, flag_words, heading, title
 from dexasm.browse.code import CodeRenderer
@@ -13,7 +14,6 @@ from dexasm.flags import CLASS_FLAGS
 from dexasm.pages.markup import text
 from dexasm.pages.templates import Markup, joined, part
 
-TYPE_CHECKING = False  # (as in typing)
 if TYPE_CHECKING:
     from dexasm.browse.files import Files
     from dexasm.names import Type

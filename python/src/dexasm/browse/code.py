@@ -6,18 +6,15 @@ from __future__ import annotations
 
 import functools
 from array import array
-from collections.abc import Iterator
+from collections.abc import Callable, Iterator
+from typing import TYPE_CHECKING, Any
 
 from dexasm import names
 from dexasm.analysis.xref import CLASS_IN, Xref, reread
 from dexasm.pages.markup import as_html
 from dexasm.pages.templates import Markup, joined, part
 
-TYPE_CHECKING = False  # (as in typing)
 if TYPE_CHECKING:
-    from collections.abc import Callable
-    from typing import Any
-
     from dexasm.classes import Field, Method, Value
     from dexasm.code import Insn, Label, Try
 

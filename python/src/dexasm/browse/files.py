@@ -3,6 +3,7 @@ from __future__ import annotations
 
 from bisect import bisect_right
 from collections.abc import Iterable, Iterator
+from typing import TYPE_CHECKING
 
 from dexasm.analysis.sizes import rows_of
 from dexasm.cli.core import as_dex, concatenate, read_program, run_job
@@ -10,7 +11,6 @@ from dexasm.cli.errors import FAILED, CliError
 from dexasm.cli.main import print_error
 from dexasm.dexfile import KINDS, Tables, addresses, code_sizes
 
-TYPE_CHECKING = False  # (as in typing)
 if TYPE_CHECKING:
     from dexasm.cli.inputs import Input
     from dexasm.program import Program

@@ -3,7 +3,7 @@ from __future__ import annotations
 
 import json
 from collections.abc import Callable, Iterable, Iterator
-from typing import TYPE_CHECKING, NamedTuple
+from typing import TYPE_CHECKING, Any, NamedTuple
 
 from dexasm.analysis.sizes import COLUMNS
 from dexasm.analysis.xref import Xref, title
@@ -16,8 +16,6 @@ from dexasm.pages.size_page import Node, picture, tree_of
 from dexasm.pages.templates import Markup, joined, page, part
 
 if TYPE_CHECKING:
-    from typing import Any
-
     from dexasm.browse.files import Files
 
 LARGEST = 50  # classes, methods and packages that the overview shows

@@ -36,21 +36,19 @@ import contextlib
 import os
 import stat
 import sys
+from argparse import Namespace
+from typing import TYPE_CHECKING
 
 from dexasm.checksums import header_problem, mismatches, with_checksums
 from dexasm.cli.core import run_job, run_or_fail
 from dexasm.cli.errors import FAILED, USAGE, CliError, reason
 from dexasm.cli.io import read_file, write_file
-from dexasm.cli.main import command, print_error
+from dexasm.cli.main import Parser, command, print_error
 from dexasm.cli.sanitize import escaped
 from dexasm.cli.zip_read import NAME, dex_entries, open_archive, read_entry
 
-TYPE_CHECKING = False  # (as in typing)
 if TYPE_CHECKING:
-    from argparse import Namespace
     from zipfile import ZipFile, ZipInfo
-
-    from dexasm.cli.main import Parser
 
 
 def output_path(job: str, folder: str | None, name: str) -> str | None:
@@ -105,40 +103,6 @@ def run_entry_job(
     return result.status
 
 
-@command(unread=FAILED)
-def main(parser: Parser) -> int:
-    parser.add_argument("--close", action="store_true")
-    parser.add_argument("--allow-empty", action="store_true")
-    parser.add_argument("--quiet", "-q", action="store_true")
-    parser.add_argument("--output", "-o", metavar="OUT")
-    parser.add_argument("job", choices=("check", "list", "strip", "extract", "replace"))
-    parser.add_argument("archive")
-    parser.add_argument("rest", nargs="*")
-    args = parser.parse_intermixed_args()  # (an option may stand behind the files)
-    if args.job == "replace":
-        return replace(parser, args)
-    if args.output is not None or args.quiet:
-        parser.error("--output and --quiet are of replace alone")
-    if len(args.rest) > 1:
-        parser.error("too many words")
-    args.folder = args.rest[0] if args.rest else None
-    if args.job in ("strip", "extract") and args.folder is None:
-        parser.error(f"{args.job} wants a FOLDER")
-    if args.job == "check" and args.folder is not None:
-        parser.error("check takes one ARCHIVE and no FOLDER: dexasm-check looks at many")
-    with open_archive(args.archive) as archive:
-        entries = dex_entries(archive)
-        if not entries and not args.allow_empty:
-            raise CliError(f"{escaped(args.archive)}: no classes*.dex in it")
-        if args.folder is not None:
-            try:
-                os.makedirs(args.folder, exist_ok=True)
-            except OSError as error:
-                raise CliError(f"{escaped(args.folder)}: {reason(error)}", FAILED) from None
-        ends = (run_entry_job(args.job, archive, args.folder, name, found, args.close) for name, found in entries)
-        return max(ends, default=0)
-
-
 def replace(parser: Parser, args: Namespace) -> int:
     """Writes the archive with these files in it."""
     if args.output is None or not args.rest:
@@ -174,5 +138,35 @@ def drop_lines(path: str, files: dict[str, bytes]) -> list[str]:
     return [line for line in found if line is not None]
 
 
-if __name__ == "__main__":
-    main()
+@command(unread=FAILED)
+def main(parser: Parser) -> int:
+    parser.add_argument("--close", action="store_true")
+    parser.add_argument("--allow-empty", action="store_true")
+    parser.add_argument("--quiet", "-q", action="store_true")
+    parser.add_argument("--output", "-o", metavar="OUT")
+    parser.add_argument("job", choices=("check", "list", "strip", "extract", "replace"))
+    parser.add_argument("archive")
+    parser.add_argument("rest", nargs="*")
+    args = parser.parse_intermixed_args()  # (an option may stand behind the files)
+    if args.job == "replace":
+        return replace(parser, args)
+    if args.output is not None or args.quiet:
+        parser.error("--output and --quiet are of replace alone")
+    if len(args.rest) > 1:
+        parser.error("too many words")
+    args.folder = args.rest[0] if args.rest else None
+    if args.job in ("strip", "extract") and args.folder is None:
+        parser.error(f"{args.job} wants a FOLDER")
+    if args.job == "check" and args.folder is not None:
+        parser.error("check takes one ARCHIVE and no FOLDER: dexasm-check looks at many")
+    with open_archive(args.archive) as archive:
+        entries = dex_entries(archive)
+        if not entries and not args.allow_empty:
+            raise CliError(f"{escaped(args.archive)}: no classes*.dex in it")
+        if args.folder is not None:
+            try:
+                os.makedirs(args.folder, exist_ok=True)
+            except OSError as error:
+                raise CliError(f"{escaped(args.folder)}: {reason(error)}", FAILED) from None
+        ends = (run_entry_job(args.job, archive, args.folder, name, found, args.close) for name, found in entries)
+        return max(ends, default=0)

@@ -64,23 +64,20 @@ from __future__ import annotations
 
 import os
 import sys
+from argparse import Namespace
+from collections.abc import Callable
+from typing import IO, TYPE_CHECKING
 
 from dexasm.cli.core import core_build
 from dexasm.cli.discovery import excluding, read_paths
 from dexasm.cli.errors import FAILED, MEMORY, CliError
 from dexasm.cli.faults import PAGE, page_path
-from dexasm.cli.main import Version, byte_count, command, positive_number, print_error, seconds
+from dexasm.cli.main import Parser, Version, byte_count, command, positive_number, print_error, seconds
 from dexasm.cli.reporters import ACCEPTED, GitHub, JUnit, Json, Sarif, Text, exit_status, is_of_member
 from dexasm.cli.scheduler import check_all, find_inputs
 from dexasm.cli.terminal import StatusLine, is_colored
 
-TYPE_CHECKING = False  # (as in typing)
 if TYPE_CHECKING:
-    from argparse import Namespace
-    from collections.abc import Callable
-    from typing import IO
-
-    from dexasm.cli.main import Parser
     from dexasm.cli.verdict import Verdict
 
 NOTHING = "nothing was looked at: no .dex file, archive or listing is there (--allow-empty takes that)"
@@ -252,7 +249,3 @@ def main(parser: Parser) -> int:
         sys.stdout.flush()
         print_error(f"dexasm-check: {page_path() or PAGE} has what each number means; --explain prints more")
     return status
-
-
-if __name__ == "__main__":
-    main()

@@ -27,11 +27,7 @@ from dexasm.checksums import header_problem, mismatches, with_checksums
 from dexasm.cli.errors import FAILED, REFUSED, USAGE, CliError
 from dexasm.cli.inputs import read_input
 from dexasm.cli.io import write_file
-from dexasm.cli.main import command, print_error
-
-TYPE_CHECKING = False  # (as in typing)
-if TYPE_CHECKING:
-    from dexasm.cli.main import Parser
+from dexasm.cli.main import Parser, command, print_error
 
 
 def require_header(data: bytes, name: str) -> bytes:
@@ -70,7 +66,3 @@ def main(parser: Parser) -> int:
     for line in [] if args.quiet else mismatches(data):
         print_error(f"dexasm-close: {found.name}: {line}")
     return 0
-
-
-if __name__ == "__main__":
-    main()

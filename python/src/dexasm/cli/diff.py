@@ -27,21 +27,18 @@ import difflib
 import hashlib
 import re
 import sys
+from collections.abc import Iterable, Iterator
+from typing import TYPE_CHECKING
 
 from dexasm.cli.core import program_of, run_job
 from dexasm.cli.errors import REFUSED, CliError
-from dexasm.cli.inputs import read_inputs
-from dexasm.cli.main import command
+from dexasm.cli.inputs import Input, read_inputs
+from dexasm.cli.main import Parser, command
 from dexasm.cli.sanitize import escaped
 from dexasm.cli.terminal import is_colored
 
-TYPE_CHECKING = False  # (as in typing)
 if TYPE_CHECKING:
-    from collections.abc import Iterable, Iterator
-
     from dexasm.classes import Class as ProgramClass
-    from dexasm.cli.inputs import Input
-    from dexasm.cli.main import Parser
     from dexasm.program import Program
 
     Marked = tuple[str, str]  # a mark and a line
@@ -225,7 +222,3 @@ def main(parser: Parser) -> int:
     if args.json:
         return compare_as_json(a, b, args.names)
     return compare(a, b, args.names, is_colored(args.color))
-
-
-if __name__ == "__main__":
-    main()

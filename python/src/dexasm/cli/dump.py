@@ -8,6 +8,7 @@ from __future__ import annotations
 import heapq
 from collections.abc import Callable, Iterable, Iterator
 from functools import partial
+from typing import TYPE_CHECKING
 
 from dexasm.analysis.xref import flag_words
 from dexasm.cli.core import read_program
@@ -24,6 +25,7 @@ from dexasm.dexfile import (
     VALUE_INDEX,
     Code,
     Malformed,
+    Read,
     Reader,
     Tables,
     between,
@@ -42,10 +44,8 @@ from dexasm.dexfile import (
 )
 from dexasm.flags import CLASS_FLAGS, FIELD_FLAGS, METHOD_FLAGS
 
-TYPE_CHECKING = False  # (as in typing)
 if TYPE_CHECKING:
     import dexasm.code
-    from dexasm.dexfile import Read
     from dexasm.program import Program
 
 WIDTH = 8  # bytes a line

@@ -23,6 +23,8 @@ from __future__ import annotations
 import json
 import re
 import sys
+from collections.abc import Iterator
+from typing import TYPE_CHECKING, Any
 
 from dexasm.cli.core import REFUSAL, run_job
 from dexasm.cli.errors import CliError
@@ -31,16 +33,11 @@ from dexasm.cli.file_hints import file_hints
 from dexasm.cli.filetypes import DEX
 from dexasm.cli.inputs import Input, read_inputs, split_entry
 from dexasm.cli.io import display_name, read_file
-from dexasm.cli.main import command
+from dexasm.cli.main import Parser, command
 from dexasm.cli.sanitize import escaped, shortened
 from dexasm.dexfile import Malformed, Tables
 
-TYPE_CHECKING = False  # (as in typing)
 if TYPE_CHECKING:
-    from collections.abc import Iterator
-    from typing import Any
-
-    from dexasm.cli.main import Parser
     from dexasm.listing.diagnostics import Place
 
     Row = tuple[str, str, str]  # of a fault: its name, its sentence, and what its place is
@@ -311,7 +308,3 @@ def main(parser: Parser) -> int:
         for line in one.lines() if one else ():
             print(line)
     return 0
-
-
-if __name__ == "__main__":
-    main()

@@ -4,14 +4,12 @@ from __future__ import annotations
 import re
 import struct
 import zlib
+from collections.abc import Iterator
 
 from dexasm.checksums import signature_of, signature_origin
 from dexasm.cli.discovery import LISTING
 from dexasm.cli.sanitize import escaped
 
-TYPE_CHECKING = False  # (as in typing, which takes a while to read)
-if TYPE_CHECKING:
-    from collections.abc import Iterator
 
 HEADS = (
     (b"PK", "it is a zip archive (an .apk or a .jar): dexasm-apk looks at the .dex files in it"),

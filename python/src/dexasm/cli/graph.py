@@ -24,11 +24,7 @@ import json
 
 from dexasm.cli.core import program_of
 from dexasm.cli.errors import USAGE
-from dexasm.cli.main import UsageError, command
-
-TYPE_CHECKING = False  # (as in typing)
-if TYPE_CHECKING:
-    from dexasm.cli.main import Parser
+from dexasm.cli.main import Parser, UsageError, command
 
 
 @command()
@@ -66,7 +62,3 @@ def main(parser: Parser) -> int:
         dot = "\n".join(as_dot(graph)) + "\n"
         print(dot if args.format == "dot" else render_svg(dot), end="")
     return 0
-
-
-if __name__ == "__main__":
-    main()

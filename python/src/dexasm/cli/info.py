@@ -35,25 +35,20 @@ from __future__ import annotations
 import json
 import re
 import sys
+from argparse import Namespace
+from collections.abc import Iterable, Iterator
+from typing import Any
 
 from dexasm.analysis.extras import extras_of
 from dexasm.cli.core import run_job
 from dexasm.cli.dump import dump
 from dexasm.cli.errors import REFUSED, CliError
 from dexasm.cli.filetypes import ZIP
-from dexasm.cli.inputs import read_inputs
-from dexasm.cli.main import command, print_error
+from dexasm.cli.inputs import Input, read_inputs
+from dexasm.cli.main import Parser, command, print_error
 from dexasm.cli.tables import ROWS, as_text, hashes, header, line_of, map_entries, rows_read, sections, tables
 from dexasm.dexfile import KINDS, Dex, sizes
 
-TYPE_CHECKING = False  # (as in typing)
-if TYPE_CHECKING:
-    from argparse import Namespace
-    from collections.abc import Iterable, Iterator
-    from typing import Any
-
-    from dexasm.cli.inputs import Input
-    from dexasm.cli.main import Parser
 
 RANGE = re.compile(r"(0x[0-9A-Fa-f]{1,16}|[0-9]{1,19})?\.\.(0x[0-9A-Fa-f]{1,16}|[0-9]{1,19})?")
 
@@ -150,22 +145,6 @@ def parse_range(parser: Parser, args: Namespace) -> tuple[int, int | None]:
     return low, high
 
 
-@command()
-def main(parser: Parser) -> int:
-    kinds = parser.add_mutually_exclusive_group()
-    kinds.add_argument("--json", action="store_true")
-    kinds.add_argument("--hex", nargs="?", const="..", metavar="FROM..TO")
-    parser.add_argument("file", nargs="?")
-    args = parser.parse_args()
-    low, high = parse_range(parser, args) if args.hex is not None else (0, None)
-    path, statuses = None if args.file == "-" else args.file, [0]
-    for data in read_inputs(path):
-        if data.entry and not args.json:
-            print(data.name)
-        statuses.append(report(args, data, parser.prog, low, high))
-    return max(statuses)
-
-
 def report(args: Namespace, source: Input, prog: str, low: int, high: int | None) -> int:
     """Prints what is in one file, and answers the status."""
     data, name = source.data, source.name
@@ -191,5 +170,17 @@ def report(args: Namespace, source: Input, prog: str, low: int, high: int | None
     return 0
 
 
-if __name__ == "__main__":
-    main()
+@command()
+def main(parser: Parser) -> int:
+    kinds = parser.add_mutually_exclusive_group()
+    kinds.add_argument("--json", action="store_true")
+    kinds.add_argument("--hex", nargs="?", const="..", metavar="FROM..TO")
+    parser.add_argument("file", nargs="?")
+    args = parser.parse_args()
+    low, high = parse_range(parser, args) if args.hex is not None else (0, None)
+    path, statuses = None if args.file == "-" else args.file, [0]
+    for data in read_inputs(path):
+        if data.entry and not args.json:
+            print(data.name)
+        statuses.append(report(args, data, parser.prog, low, high))
+    return max(statuses)

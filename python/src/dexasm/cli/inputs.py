@@ -3,17 +3,15 @@ from __future__ import annotations
 
 import os
 import stat
-from typing import TYPE_CHECKING, NamedTuple
+from collections.abc import Iterator
+from typing import NamedTuple
 
 from dexasm.cli.errors import USAGE, CliError
 from dexasm.cli.filetypes import ARCHIVES_BEGIN, DEX, is_dex_name
 from dexasm.cli.io import display_name, read_file
 from dexasm.cli.sanitize import escaped
 
-if TYPE_CHECKING:
-    from collections.abc import Iterator
-
-    Path = str | bytes | None
+Path = str | bytes | None
 
 
 class Input(NamedTuple):

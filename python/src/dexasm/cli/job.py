@@ -4,16 +4,16 @@ It is started at each run, and mostly checks .dex files alone: what these don't 
 """
 from __future__ import annotations
 
+from collections.abc import Iterator
+from typing import IO, TYPE_CHECKING, Any
+
 from dexasm.cli.errors import CliError, reason
 from dexasm.cli.filetypes import ZIP, is_archive_name, is_dex_name
 from dexasm.cli.worker import opened_file
 
-TYPE_CHECKING = False  # (as in typing, which takes as long to read as all else here)
 if TYPE_CHECKING:
     import io
     import zipfile
-    from collections.abc import Iterator
-    from typing import IO, Any
 
     Result = dict[str, Any]
     Entries = dict[str, list[zipfile.ZipInfo]]

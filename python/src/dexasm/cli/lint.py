@@ -47,26 +47,21 @@ from __future__ import annotations
 
 import os
 import sys
+from argparse import Namespace
+from collections.abc import Iterator
+from typing import Any
 
 from dexasm.analysis.verifier.report import code_findings, format_line, kind_by, member_of, structure_findings
 from dexasm.analysis.verifier.rules import CODE_RULES, FILE_RULES, manual
 from dexasm.cli.core import as_dex, is_listing, read_program
 from dexasm.cli.errors import FAILED, MEMORY, REFUSED, CliError
-from dexasm.cli.inputs import read_inputs, split_entry
+from dexasm.cli.inputs import Input, read_inputs, split_entry
 from dexasm.cli.io import display_name
-from dexasm.cli.main import command, positive_number, print_error, seconds as in_seconds
+from dexasm.cli.main import Parser, command, positive_number, print_error, seconds as in_seconds
 from dexasm.cli.reporters import Json, Sarif, Text, exit_status, sentence_of
 from dexasm.cli.sanitize import escaped
 from dexasm.cli.verdict import Verdict
 
-TYPE_CHECKING = False  # (as in typing)
-if TYPE_CHECKING:
-    from argparse import Namespace
-    from collections.abc import Iterator
-    from typing import Any
-
-    from dexasm.cli.inputs import Input
-    from dexasm.cli.main import Parser
 
 PARTS = {"{FILE_RULES}": manual(FILE_RULES), "{CODE_RULES}": manual(CODE_RULES)}  # of the manual above
 ENDS = {REFUSED: "refused", MEMORY: "memory"}
@@ -161,7 +156,3 @@ def main(parser: Parser) -> int:
             form.print(form.lines(Verdict(os.fsencode(path), "", None, end, why=failed.line)))
     form.print(form.end(status))
     return status
-
-
-if __name__ == "__main__":
-    main()

@@ -10,16 +10,14 @@ import gc
 import os
 import sys
 from collections.abc import Callable
+from types import ModuleType
+from typing import Any, NoReturn
 
 from dexasm.canonical import NoListing
 from dexasm.cli.errors import FAILED, MEMORY, USAGE, CliError, reason
 from dexasm.cli.io import read_file
 from dexasm.cli.sanitize import escaped, without_commands
 
-TYPE_CHECKING = False  # (as in typing, which takes a while to read)
-if TYPE_CHECKING:
-    from types import ModuleType
-    from typing import Any, NoReturn
 
 # (what only some helpers call is imported where it is: that takes longer than most of what they do)
 UNITS = {"K": 1 << 10, "M": 1 << 20, "G": 1 << 30}
@@ -161,7 +159,8 @@ def print_error(line: str) -> None:
 def command(trouble: int | None = None, unread: int = 0) -> Callable[[Callable[[Parser], int]], Callable[[], NoReturn]]:
     """Makes the `main` of a helper of a function that takes a parser of its words and answers the status. It ends with
     a status whatever happens, and with one line on standard error where something went wrong. `trouble` is the status
-    of that, where it isn't told apart; `unread` is that of a run whose output nobody read to the end.
+    of that, where it isn't told apart; `unread` is that of a run whose output nobody read to the end. A module that is
+    itself the program (`python3 -m dexasm.cli.check`) runs at once, so this is its last function.
     """
 
     def decorate(does: Callable[[Parser], int]) -> Callable[[], NoReturn]:
@@ -170,6 +169,8 @@ def command(trouble: int | None = None, unread: int = 0) -> Callable[[Callable[[
         def main() -> NoReturn:
             run(does, trouble, unread)
 
+        if does.__module__ == "__main__":
+            main()
         return main
 
     return decorate

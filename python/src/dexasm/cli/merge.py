@@ -30,22 +30,19 @@ Exit status: 0 done, 1 a file or the program of all is refused, 2 a usage error,
 from __future__ import annotations
 
 import sys
+from argparse import Namespace
+from typing import TYPE_CHECKING
 
 from dexasm.analysis.extras import drop_line
 from dexasm.cli.core import as_dex, is_listing, read_program, run_job
 from dexasm.cli.errors import FAILED, USAGE, CliError
-from dexasm.cli.inputs import read_inputs
+from dexasm.cli.inputs import Input, read_inputs
 from dexasm.cli.io import write_file
-from dexasm.cli.main import command, print_error
+from dexasm.cli.main import Parser, command, print_error
 from dexasm.cli.merger import FAR_BRANCH, FAR_STRING, Merger
 
-TYPE_CHECKING = False  # (as in typing)
 if TYPE_CHECKING:
-    from argparse import Namespace
     from collections import Counter
-
-    from dexasm.cli.inputs import Input
-    from dexasm.cli.main import Parser
     from dexasm.program import Program
 
 
@@ -110,7 +107,3 @@ def main(parser: Parser) -> int:
     else:
         write_file(args.output, output)
     return 0
-
-
-if __name__ == "__main__":
-    main()

@@ -43,24 +43,21 @@ written, 4 out of memory.
 from __future__ import annotations
 
 import json
+from argparse import Namespace
+from collections.abc import Callable, Iterable, Iterator
+from typing import TYPE_CHECKING, Any
 
 from dexasm.analysis import references as mentions
 from dexasm.analysis.xref import flag_words
 from dexasm.cli.core import as_dex, program_of, read_program, run_or_fail
 from dexasm.cli.inputs import read_input
-from dexasm.cli.main import command
+from dexasm.cli.main import Parser, command
 from dexasm.cli.show import show
 from dexasm.cli.tables import line_of, row_of
 from dexasm.dexfile import Tables
 from dexasm.flags import CLASS_FLAGS
 
-TYPE_CHECKING = False  # (as in typing)
 if TYPE_CHECKING:
-    from argparse import Namespace
-    from collections.abc import Callable, Iterable, Iterator
-    from typing import Any
-
-    from dexasm.cli.main import Parser
     from dexasm.program import Program
 
     Query = Callable[[Program], dict[str, Any]]
@@ -140,28 +137,6 @@ NAMED = {"show": "names of classes or members", "uses": "names, or texts with --
 OPTIONS = {"addresses": "show", "kinds": "show", "lines": "tables", "strings": "uses", "insns": "find"}  # of what
 
 
-@command()
-def main(parser: Parser) -> int:
-    for option in OPTIONS:
-        parser.add_argument(f"--{option}", action="store_true")
-    parser.add_argument("query", choices=[*QUERIES, "tables", *NAMED])
-    parser.add_argument("rest", nargs="*")
-    args = parser.parse_intermixed_args()  # (an option may stand behind the query)
-    file, names = args.rest[0] if args.rest else None, args.rest[1:]
-    for option, query in OPTIONS.items():
-        if getattr(args, option) and args.query != query:
-            parser.error(f"--{option} is of {query} alone")
-    if args.query in QUERIES and names:
-        parser.error(f"{args.query} takes one FILE")
-    if args.query == "tables" and not set(names) <= set(TABLES):
-        parser.error(f"a table is one of: {', '.join(TABLES)}")
-    if args.query in NAMED and not names:
-        parser.error(f"{args.query} takes a FILE, and {NAMED[args.query]}")
-    for line in output_lines(args, file, names):
-        print(line)
-    return 0
-
-
 def output_lines(args: Namespace, file: str | None, names: list[str]) -> Iterable[str]:
     """The lines of the answer."""
     if args.query == "show" and args.addresses:
@@ -188,5 +163,23 @@ def run_query(args: Namespace, file: str | None, names: list[str]) -> dict[str, 
     return QUERIES[args.query](program_of(file))
 
 
-if __name__ == "__main__":
-    main()
+@command()
+def main(parser: Parser) -> int:
+    for option in OPTIONS:
+        parser.add_argument(f"--{option}", action="store_true")
+    parser.add_argument("query", choices=[*QUERIES, "tables", *NAMED])
+    parser.add_argument("rest", nargs="*")
+    args = parser.parse_intermixed_args()  # (an option may stand behind the query)
+    file, names = args.rest[0] if args.rest else None, args.rest[1:]
+    for option, query in OPTIONS.items():
+        if getattr(args, option) and args.query != query:
+            parser.error(f"--{option} is of {query} alone")
+    if args.query in QUERIES and names:
+        parser.error(f"{args.query} takes one FILE")
+    if args.query == "tables" and not set(names) <= set(TABLES):
+        parser.error(f"a table is one of: {', '.join(TABLES)}")
+    if args.query in NAMED and not names:
+        parser.error(f"{args.query} takes a FILE, and {NAMED[args.query]}")
+    for line in output_lines(args, file, names):
+        print(line)
+    return 0

@@ -1,13 +1,14 @@
 """The kinds of registers before each instruction, as dexasm-lint --code follows them: for dexasm-query show --kinds."""
 from __future__ import annotations
 
+from typing import TYPE_CHECKING
+
 from dexasm.analysis.verifier.dataflow import TooMuch
 from dexasm.analysis.verifier.hierarchy import Hierarchy
 from dexasm.analysis.verifier.lattice import UNSET, Lattice, RegType
 from dexasm.analysis.verifier.method import Method
 from dexasm.names import spelled
 
-TYPE_CHECKING = False  # (as in typing)
 if TYPE_CHECKING:
     from dexasm import classes as members
     from dexasm.program import Program

@@ -31,6 +31,8 @@ from __future__ import annotations
 
 import re
 import sys
+from argparse import Namespace
+from collections.abc import Iterable
 from typing import TYPE_CHECKING
 
 from dexasm.analysis.extras import drop_line
@@ -39,16 +41,12 @@ from dexasm.cli.core import as_dex, read_program, run_or_fail
 from dexasm.cli.errors import FAILED
 from dexasm.cli.inputs import read_input
 from dexasm.cli.io import display_name, read_file, write_file
-from dexasm.cli.main import command, print_error
+from dexasm.cli.main import Parser, command, print_error
 from dexasm.cli.mapping import inverted, parse_mapping
 from dexasm.cli.renaming import Names, rename
 from dexasm.cli.sanitize import escaped
 
 if TYPE_CHECKING:
-    from argparse import Namespace
-    from collections.abc import Iterable
-
-    from dexasm.cli.main import Parser
     from dexasm.program import Program
 
 WORD = re.compile(r"[\w$/.;-]+")
@@ -139,7 +137,3 @@ def main(parser: Parser) -> int:
     else:
         write_file(args.output, result)
     return 0
-
-
-if __name__ == "__main__":
-    main()

@@ -5,13 +5,13 @@ import fnmatch
 import functools
 import re
 from collections.abc import Callable, Iterable, Iterator
+from typing import TYPE_CHECKING
 
 from dexasm.analysis.xref import descriptor_of, unescaped
 from dexasm.cli.errors import USAGE, CliError
 from dexasm.cli.sanitize import escaped
 from dexasm.dexfile import Tables, addresses
 
-TYPE_CHECKING = False  # (as in typing)
 if TYPE_CHECKING:
     from dexasm.classes import Class, Field, Method
     from dexasm.program import Program

@@ -51,28 +51,33 @@ from __future__ import annotations
 
 import json
 import os
+from argparse import Namespace
+from collections.abc import Callable, Iterable, Iterator, Sequence
+from typing import Any
 
-from dexasm.analysis.sizes import BY, COLUMNS, COUNTED, HEADS, Changes, added, by_package, bytes_of, counts_of, rows_of
+from dexasm.analysis.sizes import (
+    BY,
+    COLUMNS,
+    COUNTED,
+    HEADS,
+    Change,
+    Changes,
+    added,
+    by_package,
+    bytes_of,
+    counts_of,
+    rows_of,
+)
 from dexasm.cli.core import run_job, run_or_fail
-from dexasm.cli.inputs import read_inputs
+from dexasm.cli.inputs import Input, read_inputs
 from dexasm.cli.io import write_file
-from dexasm.cli.main import command, print_error
+from dexasm.cli.main import Parser, command, print_error
 from dexasm.cli.sanitize import escaped, shortened
 from dexasm.cli.tabular import add_forms, write_csv
 from dexasm.dexfile import Dex
 
-TYPE_CHECKING = False  # (as in typing)
-if TYPE_CHECKING:
-    from argparse import Namespace
-    from collections.abc import Callable, Iterable, Iterator, Sequence
-    from typing import Any
-
-    from dexasm.analysis.sizes import Change
-    from dexasm.cli.inputs import Input
-    from dexasm.cli.main import Parser
-
-    Numbers = list[int | None]  # in the order of COLUMNS
-    Row = tuple[str, Numbers]
+Numbers = list[int | None]  # in the order of COLUMNS
+Row = tuple[str, Numbers]
 
 TABLES = {"Packages": "package", "Classes": "class", "Methods": "method", "Strings": "string"}  # of a page for two
 
@@ -232,7 +237,3 @@ def main(parser: Parser) -> int:
         old, new = args.files
         two_files(old, new, args)
     return 0
-
-
-if __name__ == "__main__":
-    main()

@@ -34,6 +34,7 @@ import os
 import re
 import stat
 import sys
+from collections.abc import Iterator
 
 from dexasm.analysis.extras import drop_line
 from dexasm.canonical import NoListing
@@ -41,14 +42,9 @@ from dexasm.cli.core import run_job, run_or_fail, unescape
 from dexasm.cli.errors import CliError, reason
 from dexasm.cli.filetypes import DEX
 from dexasm.cli.inputs import read_input
-from dexasm.cli.main import command, print_error
+from dexasm.cli.main import Parser, command, print_error
 from dexasm.cli.sanitize import escaped
 
-TYPE_CHECKING = False  # (as in typing)
-if TYPE_CHECKING:
-    from collections.abc import Iterator
-
-    from dexasm.cli.main import Parser
 
 OWN = ("order", "head", "tail")
 ASIDE = ".dexasm-split"  # where files are made, by numbers, before they are put in place
@@ -374,7 +370,3 @@ def main(parser: Parser) -> int:
     if line:
         print_error(f"dexasm-split: {line}")
     return 0
-
-
-if __name__ == "__main__":
-    main()

@@ -6,15 +6,13 @@ from __future__ import annotations
 
 import hashlib
 from collections.abc import Iterator
+from typing import Any
 
 from dexasm.analysis.xref import flag_words
 from dexasm.cli.filetypes import DEX
 from dexasm.dexfile import ABSENT, HEADER, MAP_OFF, TABLES, Malformed, Reader, Tables, unpack
 from dexasm.flags import CLASS_FLAGS
 
-TYPE_CHECKING = False  # (as in typing)
-if TYPE_CHECKING:
-    from typing import Any
 
 # The header's fields and their bytes ("Dalvik Executable format", header_item).
 FIELDS = (

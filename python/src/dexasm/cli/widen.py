@@ -4,12 +4,12 @@ reach goes further.
 from __future__ import annotations
 
 from collections import Counter
+from typing import TYPE_CHECKING
 
 from dexasm.code import Code, Insn, Label
 from dexasm.dexfile import Tables
 from dexasm.formats import format_of
 
-TYPE_CHECKING = False  # (as in typing)
 if TYPE_CHECKING:
     from dexasm.program import Program
 

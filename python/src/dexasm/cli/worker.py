@@ -7,13 +7,12 @@ import resource
 import signal
 import stat
 import sys
+from typing import TYPE_CHECKING, Any
 
 from dexasm.cli.errors import MEMORY
 
-TYPE_CHECKING = False  # (as in typing, which takes as long to read as all else here)
 if TYPE_CHECKING:
     import io
-    from typing import Any
 
 CLOCK = 10  # a job may take so many times its processor seconds by the clock
 WATCHING = 1 << 18  # bytes of stack for the thread that waits for the end of its parent

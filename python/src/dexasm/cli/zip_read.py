@@ -5,15 +5,13 @@ import re
 import struct
 import zipfile
 import zlib
+from collections.abc import Callable
+from typing import IO
 
 from dexasm.cli.errors import CliError, reason
 from dexasm.cli.filetypes import ARCHIVES_BEGIN, DEX, is_archive_name, is_dex_name
 from dexasm.cli.sanitize import escaped
 
-TYPE_CHECKING = False  # (as in typing)
-if TYPE_CHECKING:
-    from collections.abc import Callable
-    from typing import IO
 
 NamedEntries = tuple[str, list[zipfile.ZipInfo]]  # a name, and the entries that have it
 

@@ -8,14 +8,13 @@ from __future__ import annotations
 import re
 import struct
 import zlib
-from typing import TYPE_CHECKING, NamedTuple
+from typing import IO, TYPE_CHECKING, NamedTuple
 
 from dexasm.cli.errors import CliError
 from dexasm.cli.sanitize import escaped
 from dexasm.cli.zip_read import ENCRYPTED, END, END_BEGINS, READ_ERRORS, open_archive
 
 if TYPE_CHECKING:
-    from typing import IO
     from zipfile import ZipFile, ZipInfo
 
 LOCAL, ROW = struct.Struct("<4s5H3I2H"), struct.Struct("<4s6H3I5H2I")

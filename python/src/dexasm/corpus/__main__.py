@@ -49,9 +49,10 @@ from __future__ import annotations
 
 import os
 import re
+from argparse import Namespace
 
 from dexasm.cli.errors import REFUSED, CliError
-from dexasm.cli.main import byte_count, command, positive_number, seconds
+from dexasm.cli.main import Parser, byte_count, command, positive_number, seconds
 from dexasm.cli.sanitize import escaped
 from dexasm.cli.tabular import add_forms, print_rows
 from dexasm.corpus import queries
@@ -59,11 +60,6 @@ from dexasm.corpus.database import WRONG, Corpus, connected, total, why
 from dexasm.corpus.ingest import add
 from dexasm.corpus.verify import verify
 
-TYPE_CHECKING = False  # (as in typing)
-if TYPE_CHECKING:
-    from argparse import Namespace
-
-    from dexasm.cli.main import Parser
 
 # Addresses of Dask at which nobody from elsewhere can answer: with certificates, or on this machine.
 SAFE = re.compile(r"tls://.+|(?:tcp://)?(?:127(?:\.[0-9]{1,3}){3}|localhost|\[::1\]):[0-9]{1,5}")
@@ -147,7 +143,3 @@ def main(parser: Parser) -> int:
         return {"merge": merge, "sum": print_sums}.get(args.job, run_query)(args)
     except WRONG as error:
         raise CliError(f"{escaped(args.database)}: {why(error)}") from None
-
-
-if __name__ == "__main__":
-    main()

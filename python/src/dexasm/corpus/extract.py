@@ -8,16 +8,15 @@ import json
 import os
 import re
 from collections.abc import Iterator
+from typing import TYPE_CHECKING, Any
 
 from dexasm.cli.errors import CliError, reason
 from dexasm.cli.filetypes import DEX, ZIP
 from dexasm.cli.pool import Lost, Worker
 from dexasm.cli.worker import REASONS, opened_file
 
-TYPE_CHECKING = False  # (as in typing)
 if TYPE_CHECKING:
     import zipfile
-    from typing import Any
 
 KEY = 16  # bytes of a SHA-256 by which a worker knows the files that are in
 CALL = re.compile(r"^invoke-.* (\S+)$", re.M)

@@ -3,14 +3,13 @@ from __future__ import annotations
 
 import re
 import struct
+from collections.abc import Callable
 from typing import TYPE_CHECKING
 
 from dexasm.formats import MNEMONICS
 from dexasm.names import Proto, Type
 
 if TYPE_CHECKING:
-    from collections.abc import Callable
-
     from dexasm.listing.source import Code, Line, Slot
 
 PRIMITIVES = {

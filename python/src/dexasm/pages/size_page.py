@@ -3,16 +3,13 @@ from __future__ import annotations
 
 import unicodedata
 from collections.abc import Callable, Iterable, Iterator
+from typing import Any
 
 from dexasm.analysis.sizes import HEADS, Change, Changes, total_change
 from dexasm.pages.markup import table, text, visible
 from dexasm.pages.templates import Markup, joined, page, part, read
 
-TYPE_CHECKING = False  # (as in typing)
-if TYPE_CHECKING:
-    from typing import Any
-
-    Place = tuple[float, float, float, float]  # left, top, width and height
+Place = tuple[float, float, float, float]  # left, top, width and height
 
 WIDTH, HEIGHT = 1200, 720
 DEEPEST = 8  # levels of packages: what lies deeper is drawn in the deepest one, by its whole name

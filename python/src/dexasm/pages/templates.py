@@ -5,13 +5,11 @@ from __future__ import annotations
 
 import functools
 import os
+from collections.abc import Callable, Iterable
+from typing import Any
 
 from dexasm.cli.errors import CliError
 
-TYPE_CHECKING = False  # (as in typing)
-if TYPE_CHECKING:
-    from collections.abc import Callable, Iterable
-    from typing import Any
 
 try:
     from jinja2 import Environment, FileSystemLoader, StrictUndefined

@@ -2,13 +2,12 @@
 from __future__ import annotations
 
 from bisect import bisect_right
+from collections.abc import Iterator
 from typing import TYPE_CHECKING
 
 from dexasm.analysis.verifier.lattice import THROWABLE
 
 if TYPE_CHECKING:
-    from collections.abc import Iterator
-
     from dexasm.analysis.verifier.transfer import Step
     from dexasm.code import Code, Insn, Label, Try
 

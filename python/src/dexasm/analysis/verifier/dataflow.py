@@ -5,13 +5,12 @@ An edge leads to a handler from before each covered instruction that can throw.
 from __future__ import annotations
 
 import heapq
+from collections.abc import Iterator
 from typing import TYPE_CHECKING
 
 from dexasm.analysis.verifier.lattice import ANY, REFERENCE, RegType
 
 if TYPE_CHECKING:
-    from collections.abc import Iterator
-
     from dexasm.analysis.verifier.blocks import Graph
     from dexasm.analysis.verifier.method import Method
 

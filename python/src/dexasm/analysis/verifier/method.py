@@ -8,6 +8,7 @@ once: after that it has the kind ANY.
 from __future__ import annotations
 
 import contextlib
+from collections.abc import Iterator
 from typing import TYPE_CHECKING, NamedTuple
 
 from dexasm.analysis.verifier.blocks import Graph
@@ -20,8 +21,6 @@ from dexasm.analysis.verifier.structure_rules import STATIC
 from dexasm.analysis.verifier.transfer import step_of
 
 if TYPE_CHECKING:
-    from collections.abc import Iterator
-
     from dexasm import classes as members
     from dexasm.code import Code
 

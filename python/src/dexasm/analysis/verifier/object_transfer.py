@@ -2,8 +2,11 @@
 steps of dexasm-lint --code, as transfer.py has them."""
 from __future__ import annotations
 
+from collections.abc import Sequence
+from typing import TYPE_CHECKING, Any
+
 from dexasm.analysis.verifier import lattice as kinds
-from dexasm.analysis.verifier.hierarchy import DIRECT
+from dexasm.analysis.verifier.hierarchy import DIRECT, Call
 from dexasm.analysis.verifier.lattice import ANY, CLASS, CONSTANTS, INT, NO_ARRAY, NUMBERS, OBJECT, REFERENCES, WIDE
 from dexasm.analysis.verifier.operands import (
     REQUIRE,
@@ -17,12 +20,7 @@ from dexasm.analysis.verifier.operands import (
 )
 from dexasm.analysis.verifier.structure_rules import PRIVATE, STATIC
 
-TYPE_CHECKING = False  # (as in typing)
 if TYPE_CHECKING:
-    from collections.abc import Sequence
-    from typing import Any
-
-    from dexasm.analysis.verifier.hierarchy import Call
     from dexasm.analysis.verifier.method import Method
     from dexasm.code import Insn
 

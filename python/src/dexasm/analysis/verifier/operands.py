@@ -3,15 +3,13 @@
 `line` has the kinds of the registers, and the method is told what is wrong (method.py has both)."""
 from __future__ import annotations
 
-from collections.abc import Callable
+from collections.abc import Callable, Sequence
 from operator import attrgetter
+from typing import TYPE_CHECKING
 
 from dexasm.analysis.verifier.lattice import ANY, NUMBERS, PAIRS, RegType
 
-TYPE_CHECKING = False  # (as in typing)
 if TYPE_CHECKING:
-    from collections.abc import Sequence
-
     from dexasm.analysis.verifier.method import Method
 
 RegisterLine = list[RegType]

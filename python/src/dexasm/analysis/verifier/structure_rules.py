@@ -7,14 +7,13 @@ none of them.
 """
 from __future__ import annotations
 
+from collections.abc import Iterator
 from typing import TYPE_CHECKING
 
 from dexasm.analysis.verifier.lattice import OBJECT
 from dexasm.names import spelled
 
 if TYPE_CHECKING:
-    from collections.abc import Iterator
-
     from dexasm.classes import Class, Field, Method
 
     Violation = tuple[str | None, str, str]  # the signature of a member, None of the class itself; a rule; and by what

@@ -9,7 +9,7 @@ import functools
 import re
 from collections.abc import Callable
 from itertools import permutations
-from typing import TYPE_CHECKING, NamedTuple
+from typing import TYPE_CHECKING, Any, NamedTuple
 
 from dexasm.analysis.verifier import lattice as kinds, object_transfer as objects
 from dexasm.analysis.verifier.lattice import ANY, CONFLICT, INT, NUMBERS, PAIRS, THROWABLE, WIDE
@@ -19,8 +19,6 @@ from dexasm.analysis.verifier.operands import (
 )  # fmt: skip
 
 if TYPE_CHECKING:
-    from typing import Any
-
     from dexasm.analysis.verifier.method import Method
     from dexasm.code import Insn
 
