@@ -5,6 +5,7 @@ from collections.abc import Iterable
 from typing import NamedTuple
 
 from dexasm.cli.filetypes import DEX
+from dexasm.cli.main import print_error
 from dexasm.dexfile import Malformed, Read, Reader, Tables, read_annotation, read_directory, unpack
 
 
@@ -81,8 +82,8 @@ def extras_of(data: bytes) -> Extras:
         return Extras()
 
 
-def drop_line(name: str, before: Iterable[bytes], after: bytes) -> str | None:
-    """A line on what files have and the one made from them does not, or None."""
-    had = Extras(*map(sum, zip(Extras(), *map(extras_of, before))))
-    lost = had.lost(extras_of(after))
-    return f"{name}: {lost} dropped" if any(lost) else None
+def report_dropped(prog: str, name: str, before: bytes, after: bytes = b"") -> None:
+    """Print a line on what a file has and the one made from it does not, if that is anything."""
+    lost = extras_of(before).lost(extras_of(after))
+    if any(lost):
+        print_error(f"{prog}: {name}: {lost} dropped")

@@ -37,6 +37,7 @@ import os
 import stat
 import sys
 from argparse import Namespace
+from collections.abc import Container
 from typing import TYPE_CHECKING
 
 from dexasm.checksums import header_problem, mismatches, with_checksums
@@ -107,6 +108,7 @@ def replace(parser: Parser, args: Namespace) -> int:
     """Writes the archive with these files in it."""
     if args.output is None or not args.rest:
         parser.error("replace wants FILEs, and --output OUT")
+    from dexasm.analysis.extras import report_dropped
     from dexasm.cli.zip_write import replace_entries
 
     files: dict[str, bytes] = {}
@@ -117,25 +119,21 @@ def replace(parser: Parser, args: Namespace) -> int:
             raise CliError(f"{escaped(path)}: {why}: name it as the entry that it replaces, as in classes.dex", USAGE)
         files[entry] = fix_checksums(data, escaped(path)) if args.close else data
         run_or_fail("check", data=files[entry], name=escaped(path))
-    lines = [] if args.quiet else drop_lines(args.archive, files)
+    replaced = {} if args.quiet else entries_called(args.archive, files)
     write_file(args.output, replace_entries(args.archive, files))
-    for line in lines:
-        print_error(f"dexasm-apk: {line}")
+    for name, data in replaced.items():
+        report_dropped(parser.prog, name, data, files[name])
     return 0
 
 
-def drop_lines(path: str, files: dict[str, bytes]) -> list[str]:
-    """A line for each file that has less annotations or debug information than the entry that it replaces."""
-    from dexasm.analysis.extras import drop_line
-
+def entries_called(path: str, names: Container[str]) -> dict[str, bytes]:
+    """The .dex files of an archive that have such a name and can be read."""
+    found: dict[str, bytes] = {}
     with open_archive(path) as archive:
-        old: dict[str, bytes] = {}
         for name, entries in dex_entries(archive):
-            if name in files:
-                with contextlib.suppress(CliError):  # (what can't be read of an entry is reported as it is replaced)
-                    old[name] = read_entry(archive, entries)
-    found = [drop_line(name, [data], files[name]) for name, data in old.items()]
-    return [line for line in found if line is not None]
+            with contextlib.suppress(CliError):  # (what can't be read of an entry is reported as it is replaced)
+                found |= {name: read_entry(archive, entries)} if name in names else {}
+    return found
 
 
 @command(unread=FAILED)

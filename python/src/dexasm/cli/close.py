@@ -21,21 +21,12 @@ words; 3 reading or writing failed; 4 out of memory.
 """
 from __future__ import annotations
 
-import sys
 
 from dexasm.checksums import header_problem, mismatches, with_checksums
 from dexasm.cli.errors import FAILED, REFUSED, USAGE, CliError
 from dexasm.cli.inputs import read_input
-from dexasm.cli.io import write_file
+from dexasm.cli.io import write_file, write_output
 from dexasm.cli.main import Parser, command, print_error
-
-
-def require_header(data: bytes, name: str) -> bytes:
-    """The bytes, if they have a header and its length."""
-    why = header_problem(data)
-    if why:
-        raise CliError(f"{name}: {why}", REFUSED)
-    return data
 
 
 @command(unread=FAILED)
@@ -50,7 +41,9 @@ def main(parser: Parser) -> int:
         parser.error("give one of --output OUT, --in-place and --check")
     path = None if args.file == "-" else args.file
     found = read_input(path)
-    data = require_header(found.data, found.name)
+    data = found.data
+    if why := header_problem(data):
+        raise CliError(f"{found.name}: {why}", REFUSED)
     if args.check:
         lines = mismatches(data)
         for line in lines or ["both sums hold"]:
@@ -58,11 +51,10 @@ def main(parser: Parser) -> int:
         return REFUSED if lines else 0
     if found.entry and args.in_place:
         raise CliError(f"{found.name}: an archive is not changed in place: use --output", USAGE)
-    out = args.file if args.in_place else args.output
-    if out == "-":
-        sys.stdout.buffer.write(with_checksums(data))
+    if args.in_place:
+        write_file(args.file, with_checksums(data))
     else:
-        write_file(out, with_checksums(data))
+        write_output(args.output, with_checksums(data))
     for line in [] if args.quiet else mismatches(data):
         print_error(f"dexasm-close: {found.name}: {line}")
     return 0

@@ -9,7 +9,7 @@ from typing import TYPE_CHECKING, NamedTuple
 import dexasm
 from dexasm.cli.errors import FAILED, MEMORY, REFUSED, CliError
 from dexasm.cli.filetypes import DEX, ZIP
-from dexasm.cli.inputs import read_inputs
+from dexasm.cli.inputs import Input, read_inputs
 from dexasm.cli.sanitize import escaped
 
 if TYPE_CHECKING:
@@ -114,7 +114,11 @@ def unescape(word: str) -> str:
 
 def program_of(path: str | bytes | None) -> Program:
     """The program of a file, of a listing, or of all .dex files of an archive, as an object of the module for Python."""
-    return concatenate([read_program(as_dex(file.data, file.name), file.name) for file in read_inputs(path)])
+    return concatenate([program_of_input(file) for file in read_inputs(path)])
+
+
+def program_of_input(source: Input) -> Program:
+    return read_program(as_dex(source.data, source.name), source.name)
 
 
 def concatenate(programs: list[Program]) -> Program:

@@ -20,6 +20,7 @@ Exit status: 0 done, 2 a usage error, 3 something cannot be read or written.
 """
 from __future__ import annotations
 
+import contextlib
 import json
 import re
 import sys
@@ -40,7 +41,6 @@ from dexasm.dexfile import Malformed, Tables
 if TYPE_CHECKING:
     from dexasm.listing.diagnostics import Place
 
-    Row = tuple[str, str, str]  # of a fault: its name, its sentence, and what its place is
 
 AROUND = 16  # bytes a row
 OF_ROWS, OF_CODES = range(40, 50), range(60, 80)  # faults whose place is a class row's, or in a code
@@ -80,38 +80,23 @@ def character_hint(name: str, others: str) -> str | None:
     return f"the name {shortened(escaped(name))} has U+{ord(name[at]):04X} at its character {at + 1}, which {since}"
 
 
-# ---- listings
-
-
-def line_hints(text: bytes, is_first: bool) -> Iterator[str]:
-    """What is often the reason why this line isn't of the listing's form."""
-    from dexasm.listing.syntax import common_mistakes
-
-    return (why for _, why in common_mistakes(text.decode("utf8", "surrogateescape"), is_first))
-
-
-def words_of(line: bytes) -> list[bytes]:
-    return line.strip(b" ").split()
-
-
 class Explanation:
     """What is known of one refusal."""
 
-    line: int | None
-    column: int | None
-    class_: str | None
-    member: str | None
-    insn: int | None
-    word: str | None
-    found: list[str]
-    hints: list[str]
-
-    def __init__(self, number: int, name: str, place: int, row: Row) -> None:
+    def __init__(self, number: int, name: str, place: int) -> None:
+        """(The attributes are in the order of the JSON.)"""
+        own_name, sentence, place_is = SENTENCES[number]
         self.number, self.name, self.place = number, name, place
-        self.page = (page_path() or PAGE) + section(number, row[0])
-        _, self.sentence, self.place_is = row
-        self.line = self.column = self.class_ = self.member = self.insn = self.word = None
-        self.found, self.hints = [], []
+        self.sentence, self.place_is = sentence, place_is
+        self.found: list[str] = []
+        self.hints: list[str] = []
+        self.page = (page_path() or PAGE) + section(number, own_name)
+        self.line: int | None = None
+        self.column: int | None = None
+        self.class_: str | None = None
+        self.member: str | None = None
+        self.instruction: int | None = None
+        self.word: str | None = None
 
     def at_line(self, data: bytes) -> None:
         rows = data.split(b"\n")
@@ -119,8 +104,11 @@ class Explanation:
             return
         self.line = self.place
         if self.number in (101, 102):
-            is_first = not any(words_of(row) and words_of(row)[0][:1] != b"#" for row in rows[: self.place - 1])
-            self.hints += line_hints(rows[self.place - 1], is_first)
+            from dexasm.listing.syntax import common_mistakes
+
+            is_first = not any(row.split() and row.split()[0][:1] != b"#" for row in rows[: self.place - 1])
+            text = rows[self.place - 1].decode("utf8", "surrogateescape")
+            self.hints += (why for _, why in common_mistakes(text, is_first))
         self.found.append(f"{self.line}: {cut(rows[self.line - 1])}")
         self.set_location(locate(self.number, self.place, data))
 
@@ -139,7 +127,8 @@ class Explanation:
         else:
             return
         rows = data.split(b"\n")
-        self.line, self.class_ = numbers[-1], class_of_line(rows[numbers[0] - 1])
+        name = (rows[numbers[0] - 1].split()[1:2] or [b"?"])[0].decode("latin1")
+        self.line, self.class_ = numbers[-1], escaped(name)
         self.found += [("" if is_file else f"{number}: ") + cut(rows[number - 1]) for number in numbers]
         self.set_location(where)
         if is_file:
@@ -151,7 +140,7 @@ class Explanation:
             return
         self.class_ = where.class_name and where.class_name.spelled
         self.member = where.member and where.member.spelled.partition("->")[2]
-        self.column, self.insn, self.word = where.column, where.insn, where.word and escaped(where.word)
+        self.column, self.instruction, self.word = where.column, where.insn, where.word and escaped(where.word)
         if where.why:
             # (of a line that isn't of the form what is wrong is often no word)
             self.hints = [hint for hint in self.hints if hint != where.why]
@@ -162,27 +151,21 @@ class Explanation:
         try:
             tables = Tables(data)
             if self.number in OF_NAMES:
-                self.in_name(tables, *OF_NAMES[self.number])
-                return
-            if self.number in OF_ROWS:
+                table, others = OF_NAMES[self.number]
+                row = (self.place - tables.at[table]) // tables.row[table]
+                string = tables.numbers(table, row, "<I" if table == "type" else "<HHI")[-1]
+                hint = character_hint(tables.text(string), others)
+                self.hints += [hint] if hint else []
+            elif self.number in OF_ROWS:
                 self.in_row(tables, (self.place - tables.at["class"]) // 32, [4 * len(data)])
-                return
-            left, rows = [4 * len(data)], range(tables.count["class"])
-            codes = ((code, index, row) for row in rows for code, index in tables.codes_of(row, left))
-            found = max((one for one in codes if one[0] <= self.place), default=None)
-            if found is None:
-                return
-            _, index, row = found
-            self.class_, self.member = escaped(tables.class_name(row)), escaped(tables.method_name(index))
+            else:
+                left, rows = [4 * len(data)], range(tables.count["class"])
+                codes = ((code, index, row) for row in rows for code, index in tables.codes_of(row, left))
+                if found := max((one for one in codes if one[0] <= self.place), default=None):
+                    _, index, row = found
+                    self.class_, self.member = escaped(tables.class_name(row)), escaped(tables.method_name(index))
         except (Malformed, MemoryError):
             self.class_ = self.member = None
-
-    def in_name(self, tables: Tables, table: str, others: str) -> None:
-        """The character of a type's, a field's or a method's name that isn't one of names."""
-        row = (self.place - tables.at[table]) // tables.row[table]
-        string = tables.numbers(table, row, "<I" if table == "type" else "<HHI")[-1]
-        hint = character_hint(tables.text(string), others)
-        self.hints += [hint] if hint else []
 
     def in_row(self, tables: Tables, row: int, left: list[int]) -> None:
         """The class of a row, the member that it has twice, and the number that is spelled too far."""
@@ -218,26 +201,7 @@ class Explanation:
         yield f"  More: {self.page}"
 
     def json(self) -> dict[str, Any]:
-        return {
-            "number": self.number,
-            "name": self.name,
-            "place": self.place,
-            "sentence": self.sentence,
-            "place_is": self.place_is,
-            "found": self.found,
-            "hints": self.hints,
-            "page": self.page,
-            "line": self.line,
-            "column": self.column,
-            "class": self.class_,
-            "member": self.member,
-            "instruction": self.insn,
-            "word": self.word,
-        }
-
-
-def class_of_line(line: bytes) -> str:
-    return escaped((words_of(line)[1:2] or [b"?"])[0].decode("latin1"))
+        return {name.rstrip("_"): value for name, value in vars(self).items()}
 
 
 def locate(number: int, place: int, listing: bytes) -> Place | None:
@@ -251,16 +215,9 @@ def cut(line: bytes) -> str:
     return shortened(escaped(line))
 
 
-def explain_line(line: str, inputs: list[Input]) -> Explanation | None:
-    found = REFUSAL.match(line)
-    if found is None or int(found[1]) not in SENTENCES:
-        return None
-    return explain_refusal(int(found[1]), found[2], int(found[3]), data_of(inputs, line[: found.start(1)]))
-
-
 def explain_refusal(number: int, name: str, place: int, data: bytes | None) -> Explanation:
     """What is known of a refusal, maybe of these bytes."""
-    one = Explanation(number, name, place, SENTENCES[number])
+    one = Explanation(number, name, place)
     if data is not None:
         one.inspect(data)
     if one.number in REMEDIES and not one.hints:
@@ -268,24 +225,26 @@ def explain_refusal(number: int, name: str, place: int, data: bytes | None) -> E
     return one
 
 
-def data_of(inputs: list[Input], before: str) -> bytes | None:
-    """The file that was refused: of several the one whose entry of the archive stands before the refusal."""
+def explain_line(line: str, inputs: list[Input]) -> Explanation | None:
+    """What is known of the refusal that a line has: of several files that whose entry of the archive stands before it."""
+    found = REFUSAL.match(line)
+    if found is None or int(found[1]) not in SENTENCES:
+        return None
+    before = line[: found.start(1)]
     named = [one.data for one in inputs[1:] if re.search(rf"(?:^|!|\s){re.escape(one.entry)}:", before)]
-    return named[0] if len(named) == 1 else inputs[0].data if inputs else None
+    data = named[0] if len(named) == 1 else inputs[0].data if inputs else None
+    return explain_refusal(int(found[1]), found[2], int(found[3]), data)
 
 
 def inputs_with_archive(path: str | None) -> list[Input]:
     """The file, and the .dex files that it has as an archive, where these can be read."""
-    if path is None:
-        return []
     archive, entry = split_entry(path)
-    if archive is None or entry is not None:
-        return [*read_inputs(path)]
-    whole = Input(display_name(path), "", read_file(path))
-    try:
-        return [whole, *read_inputs(path)]
-    except CliError:
-        return [whole]
+    if path is None or archive is None or entry is not None:
+        return [*read_inputs(path)] if path is not None else []
+    found = [Input(display_name(path), "", read_file(path))]
+    with contextlib.suppress(CliError):
+        found += read_inputs(path)
+    return found
 
 
 @command()

@@ -36,6 +36,15 @@ def display_name(path: str | bytes | None) -> str:
     return "standard input" if path in STDIN else escaped(path or "")
 
 
+def write_output(path: str, data: bytes) -> None:
+    """Write an answer to a file, or to standard output if the path is `-`."""
+    if path != "-":
+        write_file(path, data)
+        return
+    sys.stdout.buffer.write(data)
+    sys.stdout.buffer.flush()
+
+
 def write_file(path: str | bytes, data: bytes, through: bool = True, name: str | None = None) -> None:
     """Brings an answer to a file by the command's rules (dexasm/deliver.py has them); with through=False only where
     nothing is or a file of one name, so that nothing else is written through it. `name` is the file's in messages.

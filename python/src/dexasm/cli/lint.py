@@ -53,7 +53,7 @@ from typing import Any
 
 from dexasm.analysis.verifier.report import code_findings, format_line, kind_by, member_of, structure_findings
 from dexasm.analysis.verifier.rules import CODE_RULES, FILE_RULES, manual
-from dexasm.cli.core import as_dex, is_listing, read_program
+from dexasm.cli.core import is_listing, program_of_input
 from dexasm.cli.errors import FAILED, MEMORY, REFUSED, CliError
 from dexasm.cli.inputs import Input, read_inputs, split_entry
 from dexasm.cli.io import display_name
@@ -112,7 +112,7 @@ def check_input(file: bytes, source: Input, args: Namespace) -> Iterator[Verdict
     """The rules that a file breaks, or an entry of an archive."""
     data, name = source.data, source.name
     is_text = is_listing(data)
-    program = read_program(as_dex(data, name), name)
+    program = program_of_input(source)
     yield from structure_findings(file, is_text, program)
     if not args.code:
         return

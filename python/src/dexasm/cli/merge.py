@@ -29,20 +29,18 @@ Exit status: 0 done, 1 a file or the program of all is refused, 2 a usage error,
 """
 from __future__ import annotations
 
-import sys
 from argparse import Namespace
 from typing import TYPE_CHECKING
 
-from dexasm.analysis.extras import drop_line
-from dexasm.cli.core import as_dex, is_listing, read_program, run_job
+from dexasm.analysis.extras import report_dropped
+from dexasm.cli.core import is_listing, program_of_input, run_job
 from dexasm.cli.errors import FAILED, USAGE, CliError
 from dexasm.cli.inputs import Input, read_inputs
-from dexasm.cli.io import write_file
+from dexasm.cli.io import write_output
 from dexasm.cli.main import Parser, command, print_error
 from dexasm.cli.merger import FAR_BRANCH, FAR_STRING, Merger
 
 if TYPE_CHECKING:
-    from collections import Counter
     from dexasm.program import Program
 
 
@@ -51,21 +49,17 @@ def merge(args: Namespace, paths: list[str | None], prog: str) -> bytes:
     whole = Merger(args.same, args.replace)
     inputs = [(number, source) for number, path in enumerate(paths) for source in read_inputs(path)]
     for number, source in inputs:
-        program = far_listing(source) if args.fit and is_listing(source.data) else program_of(source)
+        program = far_listing(source) if args.fit and is_listing(source.data) else program_of_input(source)
         if args.replace and number and whole.classes.keys().isdisjoint(program.classes.names()):
             raise CliError(f"{source.name}: no class of it is in a file before it, so it replaces nothing", USAGE)
         whole.add(source.name, program)
     file = whole.file(args.fit)
-    lines = [] if args.quiet else [drop_line(source.name, [source.data], b"") for _, source in inputs]
-    for line in filter(None, lines):
-        print_error(f"{prog}: {line}")
+    for _, source in () if args.quiet else inputs:
+        report_dropped(prog, source.name, source.data)
     if whole.done:
-        print_error(f"{prog}: made to fit: {', '.join(counts_text(whole.done))}")
+        done = (f"{what} ({count:,})" for what, count in sorted(whole.done.items()))
+        print_error(f"{prog}: made to fit: {', '.join(done)}")
     return file
-
-
-def program_of(source: Input) -> Program:
-    return read_program(as_dex(source.data, source.name), source.name)
 
 
 def far_listing(source: Input) -> Program:
@@ -79,12 +73,7 @@ def far_listing(source: Input) -> Program:
             return Program.of_listing(source.data.decode("ascii"))
         except ValueError:
             pass  # (what is refused is told as of any listing)
-    return program_of(source)
-
-
-def counts_text(done: Counter[str]) -> list[str]:
-    """What was done, in words."""
-    return [f"{what} ({count:,})" for what, count in sorted(done.items())]
+    return program_of_input(source)
 
 
 @command(unread=FAILED)
@@ -101,9 +90,5 @@ def main(parser: Parser) -> int:
     if paths.count(None) > 1:
         parser.error("standard input can only be read once")
     output = merge(args, paths, parser.prog)
-    if args.output == "-":
-        sys.stdout.buffer.write(output)
-        sys.stdout.buffer.flush()
-    else:
-        write_file(args.output, output)
+    write_output(args.output, output)
     return 0

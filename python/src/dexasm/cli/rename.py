@@ -30,17 +30,16 @@ read or written, 4 out of memory.
 from __future__ import annotations
 
 import re
-import sys
 from argparse import Namespace
 from collections.abc import Iterable
 from typing import TYPE_CHECKING
 
-from dexasm.analysis.extras import drop_line
+from dexasm.analysis.extras import report_dropped
 from dexasm.analysis.xref import classes_in
-from dexasm.cli.core import as_dex, read_program, run_or_fail
+from dexasm.cli.core import program_of_input, run_or_fail
 from dexasm.cli.errors import FAILED
 from dexasm.cli.inputs import read_input
-from dexasm.cli.io import display_name, read_file, write_file
+from dexasm.cli.io import display_name, read_file, write_output
 from dexasm.cli.main import Parser, command, print_error
 from dexasm.cli.mapping import inverted, parse_mapping
 from dexasm.cli.renaming import Names, rename
@@ -122,18 +121,13 @@ def main(parser: Parser) -> int:
     if len(pairs) < len(args.names) or args.mapping is None and not pairs:
         parser.error("names are given as OLD=NEW")
     source = read_input(args.file)
-    program = read_program(as_dex(source.data, source.name), source.name)
+    program = program_of_input(source)
     names = requested_names(program, args, pairs)
     named, texts = mentioned(program)
     names.check(named)
     print_warnings(texts, names)
     result = run_or_fail("assemble", data=str(rename(program, names)).encode("ascii"), name=source.name)
-    line = None if args.quiet else drop_line(source.name, [source.data], result)
-    if line:
-        print_error(f"dexasm-rename: {line}")
-    if args.output == "-":
-        sys.stdout.buffer.write(result)
-        sys.stdout.buffer.flush()
-    else:
-        write_file(args.output, result)
+    if not args.quiet:
+        report_dropped(parser.prog, source.name, source.data, result)
+    write_output(args.output, result)
     return 0

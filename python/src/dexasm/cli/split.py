@@ -33,16 +33,16 @@ import hashlib
 import os
 import re
 import stat
-import sys
 from collections.abc import Iterator
 
-from dexasm.analysis.extras import drop_line
+from dexasm.analysis.extras import report_dropped
 from dexasm.canonical import NoListing
 from dexasm.cli.core import run_job, run_or_fail, unescape
 from dexasm.cli.errors import CliError, reason
 from dexasm.cli.filetypes import DEX
 from dexasm.cli.inputs import read_input
-from dexasm.cli.main import Parser, command, print_error
+from dexasm.cli.io import write_output
+from dexasm.cli.main import Parser, command
 from dexasm.cli.sanitize import escaped
 
 
@@ -360,13 +360,11 @@ def main(parser: Parser) -> int:
     if not args.join and len(args.paths) == 1 and os.path.isfile(folder):
         raise CliError(f"{escaped(folder)}: it is a file, and the FOLDER to write is missing")
     if args.join:
-        sys.stdout.buffer.write(b"".join(join(folder)))
-        sys.stdout.buffer.flush()
+        write_output("-", b"".join(join(folder)))
         return 0
     file = args.paths[0] if len(args.paths) == 2 else None
     source = read_input(file)
     split(as_listing(source.data, source.name), folder)
-    line = None if args.quiet else drop_line(source.name, [source.data], b"")
-    if line:
-        print_error(f"dexasm-split: {line}")
+    if not args.quiet:
+        report_dropped(parser.prog, source.name, source.data)
     return 0
