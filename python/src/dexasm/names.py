@@ -16,17 +16,8 @@ _MEMBER = rf"(?:{_SIMPLE}|<{_SIMPLE}>)"
 _TYPE = rf"(?:V|\[{{0,255}}(?:[ZBSCIJFD]|L{_SIMPLE}(?:/{_SIMPLE})*;))"
 _PROTO = rf"\((?:{_TYPE})*\){_TYPE}"
 _PLAIN_MEMBER = re.compile(r"[A-Za-z0-9_$]+|<init>|<clinit>")
-_PRIMITIVES = {
-    "V": "void",
-    "Z": "boolean",
-    "B": "byte",
-    "S": "short",
-    "C": "char",
-    "I": "int",
-    "J": "long",
-    "F": "float",
-    "D": "double",
-}
+_JAVA = "void boolean byte short char int long float double"
+PRIMITIVES = dict(zip("VZBSCIJFD", _JAVA.split()))  # as Java names them
 
 NameT = TypeVar("NameT", bound="Name")
 
@@ -74,7 +65,7 @@ class Type(Name):
     def pretty(self) -> str:
         """As Java has it: `java.lang.String[]`."""
         inner = self.lstrip("[")
-        name = inner[1:-1].replace("/", ".") if inner[0] == "L" else _PRIMITIVES[inner]
+        name = inner[1:-1].replace("/", ".") if inner[0] == "L" else PRIMITIVES[inner]
         return name + "[]" * (len(self) - len(inner))
 
     @property
@@ -98,46 +89,45 @@ class Proto(Name):
         return _unchecked(Type, self[self.index(")") + 1 :])
 
 
-class FieldRef(Name):
+class MemberRef(Name):
+    """What names of fields and methods have in common; none is of this kind itself."""
+
+    __slots__ = ()
+    behind: str  # what stands behind the member's own name
+
+    @property
+    def owner(self) -> Type:
+        return _unchecked(Type, self.partition("->")[0])
+
+    @property
+    def name(self) -> str:
+        return self.partition("->")[2].partition(self.behind)[0]
+
+
+class FieldRef(MemberRef):
     """A field: `LA;->count:I`."""
 
     __slots__ = ()
-    form = rf"{_TYPE}->{_MEMBER}:{_TYPE}"
+    form, behind = rf"{_TYPE}->{_MEMBER}:{_TYPE}", ":"
 
     @classmethod
     def of(cls, owner: str, name: str, type: str) -> FieldRef:
         return _unchecked(cls, f"{Type(owner)}->{member(name)}:{Type(type)}")
 
     @property
-    def owner(self) -> Type:
-        return _unchecked(Type, self.partition("->")[0])
-
-    @property
-    def name(self) -> str:
-        return self.partition("->")[2].partition(":")[0]
-
-    @property
     def type(self) -> Type:
         return _unchecked(Type, self.partition(":")[2])
 
 
-class MethodRef(Name):
+class MethodRef(MemberRef):
     """A method: `LA;->show(I)V`."""
 
     __slots__ = ()
-    form = rf"{_TYPE}->{_MEMBER}{_PROTO}"
+    form, behind = rf"{_TYPE}->{_MEMBER}{_PROTO}", "("
 
     @classmethod
     def of(cls, owner: str, name: str, proto: str) -> MethodRef:
         return _unchecked(cls, f"{Type(owner)}->{member(name)}{Proto(proto)}")
-
-    @property
-    def owner(self) -> Type:
-        return _unchecked(Type, self.partition("->")[0])
-
-    @property
-    def name(self) -> str:
-        return self.partition("->")[2].partition("(")[0]
 
     @property
     def proto(self) -> Proto:
@@ -185,13 +175,13 @@ def _units(found: re.Match[str]) -> str:
     return "".join(f"\\u{digits[at : at + 4]}" for at in range(0, len(digits), 4))
 
 
-def _hidden(found: re.Match[str]) -> str:
-    return "\\u005c" if found[0] == "\\" else _units(found)
-
-
 def spelled(name: str) -> str:
     """A name as a word: none of its characters ends the word or the line."""
-    return _STRANGE.sub(_hidden, name) if _STRANGE.search(name) else str(name)
+    return (
+        _STRANGE.sub(lambda found: "\\u005c" if found[0] == "\\" else _units(found), name)
+        if _STRANGE.search(name)
+        else str(name)
+    )
 
 
 def quoted(text: str) -> str:

@@ -5,6 +5,7 @@ import re
 from collections.abc import Iterator
 from typing import NamedTuple
 
+from dexasm import names
 from dexasm.cli.errors import CliError
 from dexasm.cli.sanitize import escaped
 
@@ -13,9 +14,7 @@ FIELD = re.compile(r"\s+(\S+) ([^\s().]+) -> (\S+)\s*")
 METHOD = re.compile(r"\s+(?:\d+:\d+:)?(\S+) ([^\s().]+)\(([^\s()]*)\)(?::\d+)?(?::\d+)? -> (\S+)\s*")
 # (a method of another class, which was inlined, has that class before its name)
 INLINED = re.compile(r"\s+(?:\d+:\d+:)?\S+ [^\s()]+\.[^\s().]+\([^\s()]*\)(?::\d+)?(?::\d+)? -> \S+\s*")
-PRIMITIVES = {
-    "void": "V", "boolean": "Z", "byte": "B", "short": "S", "char": "C", "int": "I", "long": "J", "float": "F", "double": "D",
-}  # fmt: skip
+PRIMITIVES = {java: letter for letter, java in names.PRIMITIVES.items()}
 
 
 class MemberMapping(NamedTuple):

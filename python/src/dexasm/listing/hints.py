@@ -6,16 +6,15 @@ import struct
 from collections.abc import Callable
 from typing import TYPE_CHECKING
 
+from dexasm import names
 from dexasm.formats import MNEMONICS
 from dexasm.names import Proto, Type
 
 if TYPE_CHECKING:
     from dexasm.listing.source import Code, Line, Slot
 
-PRIMITIVES = {
-    "boolean": "Z", "byte": "B", "short": "S", "char": "C", "int": "I", "long": "J", "float": "F", "double": "D",
-    "void": "V", "String": "Ljava/lang/String;", "Object": "Ljava/lang/Object;",
-}  # fmt: skip
+PRIMITIVES = {java: letter for letter, java in names.PRIMITIVES.items()}
+PRIMITIVES |= {"String": "Ljava/lang/String;", "Object": "Ljava/lang/Object;"}
 _JAVA = re.compile(rf"(?<![\w/$])(?:{'|'.join(PRIMITIVES)})(?![\w/$])", re.ASCII)
 _LONGEST = 200  # characters of a word that is rewritten
 _FLOAT = re.compile(r"-?[0-9]{1,40}(?:\.[0-9]{1,40}(?:[eE][-+]?[0-9]{1,3})?[fFdD]?|[fFdD])")

@@ -10,8 +10,6 @@ import itertools
 from collections.abc import Callable, Iterator
 
 OBJECT, THROWABLE, CLASS = "Ljava/lang/Object;", "Ljava/lang/Throwable;", "Ljava/lang/Class;"
-PRIMITIVES = {"V": "void", "Z": "boolean", "B": "byte", "S": "short", "C": "char", "I": "int", "J": "long"}
-PRIMITIVES |= {"F": "float", "D": "double"}
 # The ranges that are told apart, each in those that have it; of two the join is the first that has both.
 RANGES = {
     "boolean": (0, 1),
