@@ -59,6 +59,14 @@ class Refused(ValueError):
     asked for, and of a Program it is a place in `str` of it.
     """
 
+    line: int | None
+    column: int | None
+    class_name: Type | None
+    member: FieldRef | MethodRef | None
+    insn: int | None
+    word: str | None
+    why: str | None
+
     def __init__(self, number: int, name: str, place: int, where: Place | None = None) -> None:
         super().__init__(f"refused {number} {name} at {place}")  # (the line of the command)
         self.number, self.name, self.place, self._where = number, name, place, where
@@ -72,33 +80,11 @@ class Refused(ValueError):
             self._where, self._listing = of(self._listing[0], self.number, self.place, self._listing[1]), None
         return self._where
 
-    @property
-    def line(self) -> int | None:
-        return self.where.line if self.where else None
-
-    @property
-    def column(self) -> int | None:
-        return self.where.column if self.where else None
-
-    @property
-    def class_name(self) -> Type | None:
-        return self.where.class_name if self.where else None
-
-    @property
-    def member(self) -> FieldRef | MethodRef | None:
-        return self.where.member if self.where else None
-
-    @property
-    def insn(self) -> int | None:
-        return self.where.insn if self.where else None
-
-    @property
-    def word(self) -> str | None:
-        return self.where.word if self.where else None
-
-    @property
-    def why(self) -> str | None:
-        return self.where.why if self.where else None
+    def __getattr__(self, name: str) -> Any:
+        """What the place says, None where it isn't known."""
+        if name not in Refused.__annotations__:
+            raise AttributeError(f"{type(self).__name__!r} object has no attribute {name!r}")
+        return getattr(self.where, name) if self.where else None
 
     def __str__(self) -> str:
         where, parts = self.where, [str(self.args[0])]
@@ -133,20 +119,20 @@ def _bytes(data: Data) -> bytes:
 def check(data: Data) -> None:
     """Returns if the bytes are a file that keeps every rule of the format."""
     content = _bytes(data)
-    core().check(content)
+    core().run("check", content)
 
 
 def list(data: Data) -> str:
     """The listing of a file's program."""
     content = _bytes(data)
-    return core().list(content).decode("ascii")
+    return core().run("list", content).decode("ascii")
 
 
 def assemble(text: str | Data, align: bool = False) -> bytes:
     """The file of a listed program; with align a nop is put before each payload that would stand at an odd address."""
     content = text.encode("utf8", "surrogatepass") if isinstance(text, str) else _bytes(text)
     try:
-        return core().assemble(content, align)
+        return core().run("assemble", content, align)
     except Refused as refused:
         refused._listing = content, align
         raise
@@ -155,7 +141,7 @@ def assemble(text: str | Data, align: bool = False) -> bytes:
 def strip(data: Data) -> bytes:
     """A file's program, written again without what it doesn't need."""
     content = _bytes(data)
-    return core().strip(content)
+    return core().run("strip", content)
 
 
 def fault_name(number: int) -> str:

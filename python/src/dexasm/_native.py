@@ -105,34 +105,28 @@ class Library:
         if status == MEMORY:
             raise MemoryError("dexasm: out of memory")
 
-    def output(self, call: Any, data: bytes, capacity: int, *arguments: bool) -> bytes:
-        """The answer to a job. If it is longer than was guessed the job is done again, and where there isn't even room
+    def run(self, job: str, data: bytes, align: bool = False) -> bytes:
+        """The output of a job. If it is longer than was guessed the job is done again, and where there isn't even room
         for the guess: what is refused is refused then too.
         """
+        call, fault = getattr(self.calls, f"dexasm_{job}"), Fault()
+        if job == "check":
+            self.raise_for_status(call(data, len(data), ctypes.byref(fault)), fault)
+            return b"ok\n"
+        guess = {"list": 6 * len(data), "assemble": len(data) + 4096}.get(
+            job, len(data)
+        ) + 64  # (real files take up to 5)
         try:
-            out = output_buffer(capacity)
+            out = output_buffer(guess)
         except MemoryError:
             out = output_buffer(1)
         while True:
-            needed, fault = ctypes.c_size_t(), Fault()
-            status = call(data, len(data), *arguments, out, len(out), ctypes.byref(needed), ctypes.byref(fault))
+            needed, words = ctypes.c_size_t(), (align,) if job == "assemble" else ()
+            status = call(data, len(data), *words, out, len(out), ctypes.byref(needed), ctypes.byref(fault))
             self.raise_for_status(status, fault)
             if status == DONE:
                 return ctypes.string_at(out, needed.value)
             out = output_buffer(needed.value)
-
-    def check(self, data: bytes) -> None:
-        fault = Fault()
-        self.raise_for_status(self.calls.dexasm_check(data, len(data), ctypes.byref(fault)), fault)
-
-    def list(self, data: bytes) -> bytes:
-        return self.output(self.calls.dexasm_list, data, 6 * len(data) + 64)  # (real files take up to 5)
-
-    def assemble(self, data: bytes, align: bool) -> bytes:
-        return self.output(self.calls.dexasm_assemble, data, len(data) + 4096, align)
-
-    def strip(self, data: bytes) -> bytes:
-        return self.output(self.calls.dexasm_strip, data, len(data) + 64)
 
     def fault_name(self, number: int) -> str:
         # (ctypes would cut one that is longer, to the number of another fault)
@@ -148,12 +142,12 @@ class Command:
     def __init__(self, path: str) -> None:
         self.path = path
 
-    def run(self, job: str, data: bytes, *arguments: str) -> bytes:
+    def run(self, job: str, data: bytes, align: bool = False) -> bytes:
         """The command's output of a job."""
         import subprocess
 
         try:
-            done = subprocess.run([self.path, job, *arguments], input=data, capture_output=True)
+            done = subprocess.run([self.path, job, *["--align"] * align], input=data, capture_output=True)
         except OSError as error:
             raise OSError(f"{self.path} doesn't run: {error.strerror}") from None
         line = done.stderr.decode("utf8", "replace").strip().rpartition("\n")[2]
@@ -171,18 +165,6 @@ class Command:
         if not is_output(job, done.stdout):
             raise OSError(f"{self.path}: unexpected output of `{job}`")
         return done.stdout
-
-    def check(self, data: bytes) -> None:
-        self.run("check", data)
-
-    def list(self, data: bytes) -> bytes:
-        return self.run("list", data)
-
-    def assemble(self, data: bytes, align: bool) -> bytes:
-        return self.run("assemble", data, *["--align"] * align)
-
-    def strip(self, data: bytes) -> bytes:
-        return self.run("strip", data)
 
     def fault_name(self, number: int) -> str:
         raise NotImplementedError("fault_name asks libdexasm, which isn't here")

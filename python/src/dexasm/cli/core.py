@@ -43,7 +43,7 @@ class JobResult(NamedTuple):
 def run_job(job: str, *words: str, data: bytes = b"") -> JobResult:
     """Runs a job over these bytes, `assemble` maybe with --align."""
     try:
-        return JobResult(0, job_output(job, "--align" in words, data))
+        return JobResult(0, dexasm.core().run(job, data, "--align" in words))
     except dexasm.Refused as refused:
         return JobResult(REFUSED, line=refused.args[0], refused=refused)
     except MemoryError:
@@ -52,15 +52,6 @@ def run_job(job: str, *words: str, data: bytes = b"") -> JobResult:
         raise CliError(escaped(str(error))) from None
     except OSError as error:
         return JobResult(FAILED, line=str(error))
-
-
-def job_output(job: str, is_aligned: bool, data: bytes) -> bytes:
-    if job == "check":
-        dexasm.check(data)
-        return b"ok\n"
-    if job == "list":
-        return dexasm.list(data).encode("ascii")
-    return dexasm.assemble(data, is_aligned) if job == "assemble" else dexasm.strip(data)
 
 
 def run_or_fail(job: str, *words: str, data: bytes, name: str) -> bytes:
