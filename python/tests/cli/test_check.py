@@ -126,7 +126,7 @@ client.worker.start = lambda: setattr(client.worker, "process", 1)
 client.worker.send = lambda job: None
 client.worker.receive = lambda: says.pop(0)
 client.worker.wait_status = lambda: setattr(client.worker, "process", None)
-print(*[one.status for one in client.check([b"a", b"b", b"c", b"d"])])
+print(*[one.status for path in (b"a", b"b", b"c", b"d") for one in client.check_file(path)])
 """
 
 

@@ -27,6 +27,7 @@ class Job:
     # What archives and listings need, and the rules of dexasm-lint, read before the time of a job begins.
     more = "dexasm.cli.zip_read", "dexasm.cli.faults", "dexasm.listing.diagnostics"
     rules = "dexasm.program", "dexasm.analysis.verifier.report"
+    entries = "checkable_entries"  # of zip_read: those of an archive
 
     def __init__(self, known: dict[str, bool]) -> None:
         self.is_hashed, self.is_linted = known["program"], known["lint"]
@@ -56,9 +57,9 @@ class Job:
             with self.file:
                 return self.check(self.file.read(), kind)
         except CliError as failed:
-            return {"verdict": unreadable(failed.line.removeprefix(": "), kind)}
+            return {"verdict": {"kind": kind, "status": "failed", "why": failed.line.removeprefix(": ")}}
         except OSError as error:
-            return {"verdict": unreadable(reason(error), kind)}
+            return {"verdict": {"kind": kind, "status": "failed", "why": reason(error)}}
 
     def close(self) -> None:
         self.archives.clear()
@@ -67,10 +68,10 @@ class Job:
 
     def open(self, file: IO[bytes], *key: str) -> Result:
         """Open an archive, and return the names of its entries with their sizes, as its directory has them."""
-        from dexasm.cli.zip_read import checkable_entries, open_archive
+        from dexasm.cli import zip_read
 
-        archive = open_archive("", file)
-        entries = dict(checkable_entries(archive))
+        archive = zip_read.open_archive("", file)
+        entries = dict(getattr(zip_read, self.entries)(archive))
         self.archives[key] = archive, entries
         return {"entries": [[name, found[0].file_size] for name, found in entries.items()]}
 
@@ -102,7 +103,7 @@ class Job:
         result: Result = {"verdict": verdict, "findings": []}
         if dex is not None and self.is_linted:
             more = {"program": verdict["program"]}
-            result["findings"] = [found | more for found in lint_findings(data, dex, verdict["kind"] == "listing")]
+            result["findings"] = [found | more for found in lint_findings(data, dex, str(verdict["kind"]))]
         return result
 
 
@@ -130,36 +131,29 @@ def check_bytes(data: bytes, kind: str | None, is_hashed: bool) -> tuple[bytes |
             dex = data
     except dexasm.Refused as refused:
         fault = {"number": refused.number, "name": refused.name, "place": refused.place}
-        known = listing_location(data, refused) if kind == "listing" else file_summary(refused.number, data)
-        return None, verdict_fields(kind, "refused", **fault, **known)
-    return dex, verdict_fields(kind, "ok", **(program_fields(dex) if is_hashed else {"program": None}))
+        known = listing_location(data, refused) if kind == "listing" else {}
+        if kind != "listing":
+            from dexasm.cli.file_hints import IN_SUMMARY, summary
+
+            known = {"why": summary(refused.number, data)} if refused.number in IN_SUMMARY else {}
+        return None, {"kind": kind, "status": "refused", **fault, **known}
+    verdict: dict[str, object] = {"kind": kind, "status": "ok", "program": None}
+    if is_hashed:
+        from dexasm.analysis.extras import extras_of
+
+        verdict |= {"program": program_hash(dex), "extras": extras_of(dex)._asdict()}
+    return dex, verdict
 
 
-def lint_findings(data: bytes, dex: bytes, is_text: bool) -> Iterator[dict[str, object]]:
+def lint_findings(data: bytes, dex: bytes, kind: str) -> Iterator[dict[str, object]]:
     """Which rules of dexasm-lint a program breaks, and where."""
     import dexasm
     from dexasm.analysis.verifier.report import code_findings, structure_findings
 
     program = dexasm.Program.read(dex)
-    for found in (structure_findings(b"", is_text, program), code_findings(b"", data, is_text, program)):
+    for found in (structure_findings(b"", kind, program), code_findings(b"", kind, data, program)):
         for verdict in found:
             yield {name: known for name, known in verdict._asdict().items() if name not in ("path", "entry")}
-
-
-def verdict_fields(kind: str | None, status: str, **more: object) -> dict[str, object]:
-    """What is known of a verdict (verdicts.Verdict), without its path and entry."""
-    return {"kind": kind, "status": status, **more}
-
-
-def unreadable(why: str, kind: str | None = None) -> dict[str, object]:
-    return verdict_fields(kind, "failed", why=why)
-
-
-def program_fields(dex: bytes) -> dict[str, object]:
-    """What is known of an accepted file's program, and what the file has beside it."""
-    from dexasm.analysis.extras import extras_of
-
-    return {"program": program_hash(dex), "extras": extras_of(dex)._asdict()}
 
 
 def program_hash(data: bytes) -> str | None:
@@ -172,13 +166,6 @@ def program_hash(data: bytes) -> str | None:
         return hashlib.sha256(dexasm.strip(data)).hexdigest()
     except dexasm.Refused:
         return None
-
-
-def file_summary(number: int, data: bytes) -> dict[str, object]:
-    """What a refused file is, as far as its bytes say it."""
-    from dexasm.cli.file_hints import IN_SUMMARY, summary
-
-    return {"why": summary(number, data)} if number in IN_SUMMARY else {}
 
 
 def listing_location(data: bytes, refused: Any) -> dict[str, object]:

@@ -51,7 +51,7 @@ from argparse import Namespace
 from collections.abc import Iterator
 from typing import Any
 
-from dexasm.analysis.verifier.report import code_findings, format_line, kind_by, member_of, structure_findings
+from dexasm.analysis.verifier.report import code_findings, format_line, member_of, structure_findings
 from dexasm.analysis.verifier.rules import CODE_RULES, FILE_RULES, manual
 from dexasm.cli.core import is_listing, program_of_input
 from dexasm.cli.errors import FAILED, MEMORY, REFUSED, CliError
@@ -105,22 +105,25 @@ def check_file(path: str, args: Namespace) -> Iterator[Verdict]:
             is_ok = False
             yield verdict._replace(entry=source.entry)
         if is_ok:
-            yield Verdict(file, source.entry, kind_by(is_listing(source.data)), "ok")
+            yield Verdict(file, source.entry, kind_of(source), "ok")
+
+
+def kind_of(source: Input) -> str:
+    return "listing" if is_listing(source.data) else "dex"
 
 
 def check_input(file: bytes, source: Input, args: Namespace) -> Iterator[Verdict]:
     """The rules that a file breaks, or an entry of an archive."""
     data, name = source.data, source.name
-    is_text = is_listing(data)
     program = program_of_input(source)
-    yield from structure_findings(file, is_text, program)
+    yield from structure_findings(file, kind_of(source), program)
     if not args.code:
         return
     from dexasm.analysis.verifier.pool import check_by_workers
 
     try:
         found = check_by_workers(program, args.jobs, args.skip_boot, args.seconds)
-        yield from code_findings(file, data, is_text, program, found)
+        yield from code_findings(file, kind_of(source), data, program, found)
     except CliError as failed:
         raise CliError(f"{name}: {failed.line}", failed.status) from None
 

@@ -37,13 +37,6 @@ class Archive:
         self.job: dict[str, Any] = {}
         self.started = 0.0
 
-    def has_room(self, size: int) -> bool:
-        """Whether an entry of this size, as its directory has it, fits into what is left, which it is taken from."""
-        if size > self.memory:
-            return False
-        self.memory -= size
-        return True
-
     def is_spent(self, status: str | None) -> bool:
         """Whether nothing is left after a worker ended at an entry."""
         self.workers += 1
@@ -58,11 +51,6 @@ class CheckClient:
     def __init__(self, options: Any) -> None:
         known = {"program": options.program, "lint": options.lint}
         self.memory, self.worker = options.memory, Worker("dexasm.cli.job:Job", options.seconds, options.memory, known)
-
-    def check(self, paths: list[bytes]) -> Iterator[Verdict]:
-        """Verdicts of the paths, in their order."""
-        for path in paths:
-            yield from self.check_file(path)
 
     def check_file(self, path: bytes) -> Iterator[Verdict]:
         try:
@@ -94,9 +82,10 @@ class CheckClient:
             if kind == "archive" and within:
                 yield Verdict(path, entry, kind, "skipped", why="an archive two archives deep")
                 continue
-            if not archive.has_room(size):
+            if size > archive.memory:  # (an entry's size as the directory has it)
                 yield Verdict(path, entry, kind, "memory", why=REASONS["memory"])
                 continue
+            archive.memory -= size
             try:
                 result = self.run(path, archive, names)
             except Lost as lost:
@@ -156,7 +145,11 @@ def find_inputs(
 
     for path in paths:
         for file, is_named, size in walk(path, wrong, other):
-            is_one = is_named or is_checked(file, wrong)
+            is_one: bool | None = is_named or has_known_name(file)
+            try:
+                is_one = is_one or sniff(file)  # (None if it only looks like a listing)
+            except OSError as error:
+                wrong(file, error)
             pattern = excluded_by(file) if is_one else None
             if pattern is not None:
                 verdicts.append(Verdict(file, "", None, "skipped", why=f"excluded by --exclude {escaped(pattern)}"))
@@ -169,15 +162,6 @@ def find_inputs(
                 yield file, size
         while verdicts:
             yield verdicts.pop(0)
-
-
-def is_checked(path: bytes, wrong: Callable[[bytes, OSError], None]) -> bool | None:
-    """Whether a file below a folder is checked; None if it only looks like a listing."""
-    try:
-        return has_known_name(path) or sniff(path)
-    except OSError as error:
-        wrong(path, error)
-        return False
 
 
 def batches(found: Iterable[tuple[bytes, int] | Verdict], is_linted: bool) -> Iterator[list[bytes] | Verdict]:
@@ -221,7 +205,7 @@ def check_in_turn(
             if isinstance(one, Verdict):
                 yield one
             else:
-                yield from checker.check(one)
+                yield from (verdict for path in one for verdict in checker.check_file(path))
     finally:
         checker.stop()
 
@@ -237,7 +221,7 @@ def check_in_parallel(
     def check(paths: list[bytes]) -> list[Verdict]:
         checker = idle.pop() if idle else CheckClient(options)
         try:
-            verdicts = [*checker.check(paths)]
+            verdicts = [verdict for path in paths for verdict in checker.check_file(path)]
         except BaseException:
             checker.stop()
             raise

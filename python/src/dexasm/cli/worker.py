@@ -54,10 +54,6 @@ def set_timers(processor: float, clock: float) -> None:
     signal.setitimer(signal.ITIMER_REAL, clock)
 
 
-def time_left() -> tuple[float, float]:
-    return signal.getitimer(signal.ITIMER_PROF)[0], signal.getitimer(signal.ITIMER_REAL)[0]
-
-
 def work() -> None:
     """Read jobs until the input ends or memory runs out. What all jobs need is read before the first, whose time and
     memory it doesn't count in.
@@ -97,6 +93,6 @@ def timed(runner: Any, job: dict[str, Any], seconds: float) -> dict[str, Any]:
     runner.prepare(job)
     set_timers(*job.get("left", (seconds, CLOCK * seconds)))
     result: dict[str, Any] = runner.run(job)
-    left = time_left()
+    left = signal.getitimer(signal.ITIMER_PROF)[0], signal.getitimer(signal.ITIMER_REAL)[0]
     set_timers(0, 0)
     return {**result, "left": left}

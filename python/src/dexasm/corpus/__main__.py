@@ -76,15 +76,13 @@ def merge(args: Namespace) -> int:
     return 0
 
 
-def print_sums(args: Namespace) -> int:
-    rows, whole = total(connected(args.database))
-    print_rows(args, ["table", "rows", "sum"], [*rows, ("all", sum(row[1] for row in rows), whole)])
-    return 0
-
-
 def run_query(args: Namespace) -> int:
     db = connected(args.database)
-    print_rows(args, *queries.QUERIES[args.job](db, args))
+    if args.job == "sum":
+        rows, whole = total(db)
+        print_rows(args, ["table", "rows", "sum"], [*rows, ("all", sum(row[1] for row in rows), whole)])
+    else:
+        print_rows(args, *queries.QUERIES[args.job](db, args))
     return 0
 
 
@@ -140,6 +138,6 @@ def main(parser: Parser) -> int:
                     "nothing was looked at: no .dex file or archive with one is there (--allow-empty takes that)"
                 )
             return counts.status or (REFUSED if args.strict and counts.is_bad else 0)
-        return {"merge": merge, "sum": print_sums}.get(args.job, run_query)(args)
+        return (merge if args.job == "merge" else run_query)(args)
     except WRONG as error:
         raise CliError(f"{escaped(args.database)}: {why(error)}") from None

@@ -3,20 +3,17 @@ from __future__ import annotations
 
 import base64
 import contextlib
-import io
 import json
 import os
 import re
 from collections.abc import Iterator
-from typing import TYPE_CHECKING, Any
+from typing import Any
 
 from dexasm.cli.errors import CliError, reason
 from dexasm.cli.filetypes import DEX, ZIP
+from dexasm.cli.job import Job as FileJob
 from dexasm.cli.pool import Lost, Worker
 from dexasm.cli.worker import REASONS, opened_file
-
-if TYPE_CHECKING:
-    import zipfile
 
 KEY = 16  # bytes of a SHA-256 by which a worker knows the files that are in
 CALL = re.compile(r"^invoke-.* (\S+)$", re.M)
@@ -26,16 +23,16 @@ TEXT = re.compile(r'^const-string\S* v\d+ "(.*)"$', re.M)
 # ---- in the worker
 
 
-class Job:
+class Job(FileJob):
     """Runs jobs: a path, whether it was named itself, and the name of an entry of the archive that it is. The archive
     stays open for the jobs that follow.
     """
 
+    entries = "dex_entries"
+
     def __init__(self, known: str) -> None:
+        super().__init__({"program": False, "lint": False})
         self.known = base64.b64decode(known)
-        self.path = ""
-        self.archive: zipfile.ZipFile | None = None
-        self.entries: dict[str, list[zipfile.ZipInfo]] = {}
         for name in ("hashlib", "collections", "dexasm.cli.zip_read", "dexasm.program"):
             __import__(name)
 
@@ -47,7 +44,7 @@ class Job:
         its SHA-256 and size.
         """
         try:
-            data = self.read_entry(job) if "entry" in job else self.read_file(job)
+            data = self.read(job["path"], [job["entry"]]) if "entry" in job else self.read_file(job)
         except CliError as failed:
             return {"unread": ["failed", failed.line.removeprefix(": ")]}
         except OSError as error:
@@ -63,29 +60,13 @@ class Job:
 
     def read_file(self, job: dict[str, Any]) -> bytes | dict[str, Any]:
         """The bytes of a .dex file, or a result: the entries of an archive, or nothing."""
-        if self.archive is not None:
-            self.archive.close()
-            self.archive = None
-        file = opened_file(job["path"].encode("latin1"))
-        first = file.peek(len(DEX))[: len(DEX)]
-        if not first.startswith(ZIP):
-            with file:
-                return file.read() if first == DEX or job["is_named"] else {}
-        from dexasm.cli.zip_read import dex_entries, open_archive
-
-        self.path, self.archive = job["path"], open_archive("", file)
-        self.entries = dict(dex_entries(self.archive))
-        return {"entries": [[name, entries[0].file_size] for name, entries in self.entries.items()]}
-
-    def read_entry(self, job: dict[str, Any]) -> bytes:
-        """The bytes of an entry. The archive is opened if this worker took the place of another one."""
-        from dexasm.cli.zip_read import read_entry
-
-        if self.archive is None or self.path != job["path"]:
-            self.read_file(job)
-        if self.archive is None or job["entry"] not in self.entries:
-            raise CliError("it is not there any more")
-        return read_entry(self.archive, self.entries[job["entry"]])
+        self.close()
+        self.file = opened_file(job["path"].encode("latin1"))
+        first = self.file.peek(len(DEX))[: len(DEX)]
+        if first.startswith(ZIP):
+            return self.open(self.file, job["path"])
+        with self.file:
+            return self.file.read() if first == DEX or job["is_named"] else {}
 
 
 def check_bytes(data: bytes) -> list[object]:
@@ -172,7 +153,10 @@ class CorpusClient:
         with contextlib.ExitStack() as stack:
             place = path
             if data is not None:
-                place = b"/proc/%d/fd/%d" % (os.getpid(), stack.enter_context(in_memory(data)).fileno())
+                file = stack.enter_context(os.fdopen(os.memfd_create("sent"), "w+b"))
+                file.write(data)
+                file.flush()
+                place = b"/proc/%d/fd/%d" % (os.getpid(), file.fileno())
             job = {"path": place.decode("latin1"), "is_named": is_named or path.endswith(b".dex")}
             result = self.result(job)
             yield from findings(path, "", result)
@@ -196,14 +180,6 @@ class CorpusClient:
 
     def stop(self) -> None:
         self.worker.stop()
-
-
-def in_memory(data: bytes) -> io.BufferedRandom:
-    """A file that has no name, of bytes that were sent."""
-    file = os.fdopen(os.memfd_create("sent"), "w+b")
-    file.write(data)
-    file.flush()
-    return file
 
 
 def findings(path: bytes, entry: str, result: dict[str, Any]) -> Iterator[tuple[Any, ...]]:

@@ -50,12 +50,6 @@ class Counts:
         self.bytes += found[4]
         self.is_bad = self.is_bad or found[0] == "file" and found[5] != "ok"
 
-    def take_new(self, states: list[str]) -> None:
-        """Files that weren't in, by what came of each."""
-        self.new += len(states)
-        self.refused += states.count("refused")
-        self.limits += len([one for one in states if one not in ("ok", "refused")])
-
     def show(self, jobs: int) -> None:
         """One line, at most twice a second; of names nothing is in it."""
         if not self.line.is_due():
@@ -254,7 +248,9 @@ def put_all(corpus: Corpus | VerifiedCorpus, counts: Counts, work: Iterator[Jobs
                 continue
             jobs += len(batch)
             found += results
-        counts.take_new(corpus.put_all(found))
+        states = corpus.put_all(found)  # of files that weren't in
+        counts.new, counts.refused = counts.new + len(states), counts.refused + states.count("refused")
+        counts.limits += len([one for one in states if one not in ("ok", "refused")])
         for one in found:
             counts.take(one)
         counts.show(jobs)

@@ -2,7 +2,7 @@
 from __future__ import annotations
 
 import sqlite3
-from collections.abc import Iterable
+from collections.abc import Callable, Iterable
 from typing import Any
 
 from dexasm.cli.errors import CliError
@@ -108,14 +108,6 @@ def name_of(db: sqlite3.Connection, name: str) -> int | None:
     return row and int(row[0])
 
 
-def refused(db: sqlite3.Connection, options: Any) -> Answer:
-    return ["status", "fault", "name", "files", "first", "entry"], db.execute(REFUSED)
-
-
-def same(db: sqlite3.Connection, options: Any) -> Answer:
-    return ["program", "file", "size", "path", "entry"], db.execute(SAME)
-
-
 def classes(db: sqlite3.Connection, options: Any) -> Answer:
     if options.name is None:
         return ["class", "sha256", "programs"], db.execute(SEVERAL)
@@ -158,9 +150,9 @@ def libraries(db: sqlite3.Connection, options: Any) -> Answer:
     return [*heads, *(("class", "state") if options.classes else ("same", "changed", "missing", "percent"))], rows
 
 
-QUERIES = {
-    "refused": refused,
-    "same": same,
+QUERIES: dict[str, Callable[[sqlite3.Connection, Any], Answer]] = {
+    "refused": lambda db, _: (["status", "fault", "name", "files", "first", "entry"], db.execute(REFUSED)),
+    "same": lambda db, _: (["program", "file", "size", "path", "entry"], db.execute(SAME)),
     "classes": classes,
     "callers": callers,
     "strings": strings,

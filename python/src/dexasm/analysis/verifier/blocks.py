@@ -23,7 +23,8 @@ class Graph:
         # Of each branch and switch where it leads.
         self.targets = {place: [*targets(insn, places)] for place, insn in enumerate(insns) if is_branch(insn)}
         tries = [covered(one, places) for one in code.tries]
-        self.starts = sorted({0, len(insns), *self.starts_of(insns, steps), *ends_of(tries)})
+        of_tries = (place for first, end, handlers in tries for place in (first, end, *handlers))
+        self.starts = sorted({0, len(insns), *self.starts_of(insns, steps), *of_tries})
         self.blocks = {start: block for block, start in enumerate(self.starts)}
         # Of each block the blocks of its handlers.
         self.handlers: list[tuple[int, ...]] = [()] * len(self.starts)
@@ -69,9 +70,3 @@ def covered(one: Try, places: Places) -> tuple[int, int, list[int]]:
     labels = [catch.target for catch in one.catches] + ([] if one.catch_all is None else [one.catch_all])
     handlers = [*dict.fromkeys(place_of(label, places) for label in labels)]
     return place_of(one.start, places), place_of(one.end, places), handlers
-
-
-def ends_of(tries: list[tuple[int, int, list[int]]]) -> Iterator[int]:
-    """Where blocks begin for tries."""
-    for first, end, handlers in tries:
-        yield from (first, end, *handlers)

@@ -67,11 +67,6 @@ class Findings:
         """Whether anything was found while blocks were followed."""
         return bool(self.tentative)
 
-    def begin_report(self) -> None:
-        self.current = self.final
-        for wrong in self.tentative.values():
-            self.at.setdefault(wrong.place, []).append(wrong)
-
     @contextlib.contextmanager
     def silence(self) -> Iterator[None]:
         """What is told meanwhile isn't kept."""
@@ -250,7 +245,9 @@ class Method(Findings):
         flow = Flow(self)
         if not self.is_suspect:
             return []
-        self.begin_report()
+        self.current = self.final
+        for wrong in self.tentative.values():
+            self.at.setdefault(wrong.place, []).append(wrong)
         if self.entry_state() is not None:
             for block, line in enumerate(flow.before):
                 if line is not None:

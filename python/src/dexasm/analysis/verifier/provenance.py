@@ -57,7 +57,8 @@ class Origins:
         due = [(self.graph.block_at(place), place)]
         while due and len(found) < MOST_WAYS:
             block, end = due.pop()
-            at = self.last_write(block, end, register)
+            places = range(end - 1, self.graph.starts[block] - 1, -1)  # the last that writes it, before another one
+            at = next((at for at in places if register in self.wrote.get(at, ())), -1)
             if at >= 0:
                 found[at] = self.wrote[at][register]
                 continue
@@ -76,11 +77,6 @@ class Origins:
             found += [(before, at) for before in covered for at in self.throwing(before, register)]
             self.reached[block, register] = found
         return self.reached[block, register]
-
-    def last_write(self, block: int, end: int, register: int) -> int:
-        """The last place of a block before another place that writes a register, or -1."""
-        places = range(end - 1, self.graph.starts[block] - 1, -1)
-        return next((at for at in places if register in self.wrote.get(at, ())), -1)
 
     def throwing(self, block: int, register: int) -> list[int]:
         """The places of a block that can throw, one for each way in which it has this register there."""

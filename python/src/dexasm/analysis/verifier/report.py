@@ -18,6 +18,7 @@ from dexasm.analysis.verifier.structure_rules import STATIC, violations
 from dexasm.analysis.xref import reread
 from dexasm.cli.sanitize import LONGEST
 from dexasm.cli.verdict import Verdict
+from dexasm.names import spelled, type_of
 
 if TYPE_CHECKING:
     from dexasm import classes as members
@@ -189,18 +190,18 @@ class Places:
     """Names the places of what is told: lines of the listing that was given, or else instructions."""
 
     def __init__(self, path: bytes, kind: str, program: Program, listing: bytes | None) -> None:
-        from dexasm.listing import source as listed
+        from dexasm.listing import source
 
+        self.listed = source
         self.path, self.kind, self.program = path, kind, program
-        self.read = listed.Listing(listing) if listing is not None else None
+        self.read = source.Listing(listing) if listing is not None else None
         self.row = -1  # of the class that was looked at last, its methods, and their codes as the listing has them
         self.methods: tuple[Any, ...] = ()
         self.codes: dict[tuple[str, str, str], listed.Code] = {}
         self.text, self.units = "", list[int]()  # of the code whose addresses were asked for last
 
     def open(self, row: int) -> None:
-        from dexasm.listing.source import decoded
-
+        decoded = self.listed.decoded
         one = self.program.classes[row]
         self.row, self.methods = row, one.methods
         read = self.read.class_at(row) if self.read else None
@@ -211,8 +212,6 @@ class Places:
                 self.codes[line.key, decoded(line.words[1]), decoded(line.words[2])] = code
 
     def verdict(self, finding: Finding) -> Verdict:
-        from dexasm import names
-
         if self.row != finding.row:
             self.open(finding.row)
         one, method = self.program.classes[finding.row], self.methods[finding.method]
@@ -231,8 +230,8 @@ class Places:
             "failed" if finding.rule == UNREAD else "broken",
             line=line,
             column=column,
-            class_=names.spelled(one.name),
-            member=names.spelled(method.signature),
+            class_=spelled(one.name),
+            member=spelled(method.signature),
             instruction=finding.place if finding.place >= 0 else None,
             why=MARKED.sub(lambda found: self.named(found, lines), finding.text),
             rule=None if finding.rule == UNREAD else finding.rule,
@@ -253,17 +252,12 @@ class Places:
         if found[2].isdecimal():
             at = int(found[2])
             return f"instruction {at}" if lines is None else f"line {lines.insns[at].number}"
-        from dexasm.listing.source import short_name
-        from dexasm.names import type_of
-
         type_ = type_of(found[2])
-        return short_name(type_ if found[1] else type_.pretty)
+        return self.listed.short_name(type_ if found[1] else type_.pretty)
 
     def column(self, line: listed.Line, register: int) -> int:
         """That of the register, as what is read and not what is written; of the second of a pair that of the first."""
-        from dexasm.listing import source as listed
-
-        words: dict[int, listed.Word] = {listed.register_of(word): word for word in listed.registers(line)}
+        words = {self.listed.register_of(word): word for word in self.listed.registers(line)}
         return (words.get(register) or words.get(register - 1) or line.words[0]).column
 
 
@@ -273,27 +267,20 @@ def member_of(verdict: Verdict) -> list[str]:
 
 
 def code_findings(
-    path: bytes, data: bytes, is_text: bool, program: Program, found: Iterator[Finding] | None = None
+    path: bytes, kind: str, data: bytes, program: Program, found: Iterator[Finding] | None = None
 ) -> Iterator[Verdict]:
     """What is wrong in the code of a file: what was found, or is found here."""
-    places = Places(path, kind_by(is_text), program, data if is_text else None)
+    places = Places(path, kind, program, data if kind == "listing" else None)
     return map(places.verdict, check_program(program) if found is None else found)
 
 
-def structure_findings(path: bytes, is_text: bool, program: Program) -> Iterator[Verdict]:
+def structure_findings(path: bytes, kind: str, program: Program) -> Iterator[Verdict]:
     """Which rules of files a program breaks: each as the help of dexasm-lint has it, and by what."""
-    from dexasm.names import spelled
-
     for one in program.classes:
         for member, rule, by in violations(one):
-            known = Verdict(path, "", kind_by(is_text), "broken", rule=rule, page=PAGES[rule])
+            known = Verdict(path, "", kind, "broken", rule=rule, page=PAGES[rule])
             name, why = member and spelled(member), f"{SENTENCES[rule]}: {by}"
             yield known._replace(class_=spelled(one.name), member=name, why=why)
-
-
-def kind_by(is_text: bool) -> str:
-    """What a verdict calls what was given."""
-    return "listing" if is_text else "dex"
 
 
 def format_line(name: str, verdict: Verdict, error: str = "error:") -> str:
