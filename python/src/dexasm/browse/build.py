@@ -10,11 +10,12 @@ from dexasm.analysis.xref import Xref, method_of
 from dexasm.browse.classes import Classes
 from dexasm.browse.code import CodeRenderer
 from dexasm.browse.files import Files
-from dexasm.browse.folder import Folder, Progress
+from dexasm.browse.folder import Folder
 from dexasm.browse.html import Frame, plural
 from dexasm.browse.pages import Packages, overview, reading, shards, strings, strings_cut
 from dexasm.browse.pagination import Cuts, Part, file_of, others
 from dexasm.cli.errors import CliError
+from dexasm.cli.terminal import steps
 from dexasm.pages.markup import plain, text
 from dexasm.pages.templates import Markup, part, read
 
@@ -49,12 +50,6 @@ def decompress(data: bytes) -> list[str]:
     return zlib.decompress(data).decode("utf8").split("\0")
 
 
-def first_of(parts: list[Part]) -> int:
-    """The first member that has its heading on a page."""
-    first = next(iter(parts), None)
-    return 0 if first is None else first.at + (first.place >= 0)
-
-
 class Browse:
     """What the pages of a file, or of all files of an archive, are made of."""
 
@@ -82,26 +77,23 @@ class Browse:
     def write(self, folder: Folder) -> None:
         count = len(self.uses.classes)
         packed_classes = []
-        with Progress("reading", count) as progress:
-            for row in range(count):
-                packed_classes.append(compress(lines_of(self.uses, self.coder, row, self.files.of(row).places(row))))
-                progress.step()
+        for row in steps("reading", count):
+            packed_classes.append(compress(lines_of(self.uses, self.coder, row, self.files.of(row).places(row))))
         cuts = Cuts()
         firsts: list[list[int]] = []
-        with Progress("laying out", count) as progress:
-            for row in range(count):
-                packed_classes[row] = self.lay_out(row, decompress(packed_classes[row]), cuts, firsts)
-                progress.step()
+        for row in steps("laying out", count):
+            packed_classes[row] = self.lay_out(row, decompress(packed_classes[row]), cuts, firsts)
         found = [*self.coder.strings]
         texts = strings_cut(self.classes, found, cuts)
         index = [*shards(self.classes, firsts, found, cuts)]
         frame = Frame(self.shown, len(index))
         for at, script in enumerate(index):
             folder.put(f"search/{at}.js", script)
-        with Progress("writing", count) as progress:
-            for row in range(count):
-                self.put_class(folder, frame, cuts, row, decompress(packed_classes[row]))
-                progress.step()
+        for row in steps("writing", count):
+            title = plain(self.uses.classes[row].name.pretty, 80)
+            for at, body in enumerate(decompress(packed_classes[row])):
+                name = file_of(row, at)
+                folder.put(f"class/{name}", frame.page(title, cuts.turned(Markup(body), "class", row, name)))
         self.put_strings(folder, frame, cuts, texts, len(found))
         self.put_others(folder, frame, cuts)
 
@@ -115,14 +107,9 @@ class Browse:
         pages = [*self.classes.pages(row, lines, package, taken, self.extra, hint)]
         cut = [parts for parts, _ in pages]
         cuts.add("class", row, cut)
-        firsts.append([first_of(parts) for parts in cut])
+        # (the first member that has its heading on each page)
+        firsts.append([parts[0].at + (parts[0].place >= 0) if parts else 0 for parts in cut])
         return compress(body for _, body in pages)
-
-    def put_class(self, folder: Folder, frame: Frame, cuts: Cuts, row: int, bodies: list[str]) -> None:
-        title = plain(self.uses.classes[row].name.pretty, 80)
-        for at, body in enumerate(bodies):
-            name = file_of(row, at)
-            folder.put(f"class/{name}", frame.page(title, cuts.turned(Markup(body), "class", row, name)))
 
     def extra(self, number: int) -> Markup:
         """What is said of a method, besides who uses it."""
@@ -162,7 +149,10 @@ class Browse:
                 folder.put(f"package/{file_of(at, page)}", frame.page(title, body))
         first = overview(self.shown, self.numbers(), self.packages, self.classes, self.code_sizes)
         folder.put("index.html", frame.page(Markup("Overview"), cuts.turned(first, ""), ""))
-        folder.put("help.html", frame.page(Markup("How to read it"), reading(self.files.are_several), ""))
+        folder.put(
+            "help.html",
+            frame.page(Markup("How to read it"), reading(self.files.are_several), ""),
+        )
         folder.put("style.css", read("pages.css") + read("browse.css"))
         folder.put("script.js", read("pages.js") + read("browse.js"))
         folder.put("icon.svg", read("icon.svg"))

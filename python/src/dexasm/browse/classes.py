@@ -41,12 +41,6 @@ class Classes:
         """The file of a class of a name that several files have."""
         return f" ({self.files.name(row)})" if self.uses.classes[row].name in self.twins else ""
 
-    def twins_of(self, row: int) -> list[Markup | str]:
-        """Links to the classes of its name in other files. (As many as there are files, on the pages of as many.)"""
-        found = self.twins.get(self.uses.classes[row].name, [row])
-        near = [twin for twin in found[: MOST_TWINS + 1] if twin != row][:MOST_TWINS]
-        return limited(map(self.class_link, near), len(found) - 1)
-
     def title(self, number: int) -> Markup:
         """A member with its class, as HTML, cut where it is long."""
         if number not in self.titles:
@@ -92,12 +86,15 @@ class Classes:
     def facts(self, row: int, package: Markup, taken: str) -> Markup:
         one = self.uses.classes[row]
         heirs = self.uses.heirs.get(row, [])
+        # (as many as there are files, on the pages of as many)
+        found = self.twins.get(one.name, [row])
+        near = [twin for twin in found[: MOST_TWINS + 1] if twin != row][:MOST_TWINS]
         interfaces = limited(map(self.type_link, one.interfaces), len(one.interfaces))
         return facts(
             (
                 ("name in the file", part("code")(text(one.name, LONG))),
                 ("package", package),
-                ("also defined in", joined(", ", self.twins_of(row))),
+                ("also defined in", joined(", ", limited(map(self.class_link, near), len(found) - 1))),
                 ("superclass", self.type_link(one.superclass) if one.superclass is not None else ""),
                 ("interfaces", joined(", ", interfaces)),
                 ("source file", text(one.source) if one.source is not None else ""),

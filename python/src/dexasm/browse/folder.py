@@ -14,7 +14,6 @@ from dexasm import deliver as rules
 from dexasm.cli.errors import CliError, reason
 from dexasm.cli.io import write_file
 from dexasm.cli.sanitize import escaped
-from dexasm.cli.terminal import StatusLine
 
 # All that dexasm-browse writes into a folder. What holds anything else isn't its own.
 FILES = re.compile(
@@ -42,11 +41,6 @@ def is_ours(path: str) -> bool:
         return MARK in file.read(4096)
 
 
-def may_go(path: str) -> bool:
-    """Whether all in the folder may be removed: as a file that may not be written stays, so does such a folder."""
-    return all(os.access(at, os.W_OK | os.X_OK) for at, _, _ in os.walk(path))
-
-
 class Folder:
     """Where the pages are written until all are: begin, put each, finish. Leaving it by an error, or by a signal to
     end, leaves nothing beside FOLDER, which is as it was.
@@ -66,7 +60,9 @@ class Folder:
             if os.path.lexists(self.path) and (not os.path.isdir(self.path) or os.listdir(self.path)):
                 if not os.path.isdir(self.path) or not is_ours(self.path):
                     raise CliError(f"{self.name}: it is there, and is no folder that dexasm-browse made")
-            if os.path.lexists(self.path) and not may_go(self.path):
+            if os.path.lexists(self.path) and not all(
+                os.access(at, os.W_OK | os.X_OK) for at, _, _ in os.walk(self.path)  # (as of a file that is replaced)
+            ):
                 raise CliError(f"{self.name}: {os.strerror(errno.EACCES)}")
         except OSError as error:
             raise CliError(f"{self.name}: {reason(error)}") from None
@@ -192,21 +188,3 @@ def interrupt(*_: object) -> None:
 
 def nothing(*_: object) -> None:
     pass
-
-
-class Progress:
-    """How far a job is, on standard error if that is a terminal."""
-
-    def __init__(self, text: str, count: int) -> None:
-        self.text, self.count, self.done, self.line = text, count, 0, StatusLine()
-
-    def __enter__(self) -> Progress:
-        return self
-
-    def step(self) -> None:
-        self.done += 1
-        if self.line.is_due():
-            self.line.draw(f"{self.text}: {self.done} of {self.count}")
-
-    def __exit__(self, *_: object) -> None:
-        self.line.draw()

@@ -21,43 +21,6 @@ if TYPE_CHECKING:
 LARGEST = 50  # classes, methods and packages that the overview shows
 SHARD = 4000  # names in a script of the index
 
-# Mnemonics by families, for those who never saw a listing.
-READING = (
-    ("move, move-result", "copies a register; after a call, takes what the call answered"),
-    ("return, return-void", "ends the method, with the register's value or none"),
-    ("const, const-string, const-class", "puts a number, a string or a class into the register"),
-    ("if-eqz v1 :L8", "goes on at line 8 if v1 is 0, false or null, otherwise at the next line"),
-    ("if-nez, if-ltz, if-gez, if-gtz, if-lez", "the same for: not 0, below 0, 0 or more, above 0, 0 or less"),
-    ("if-eq v1 v2 :L8", "goes on at line 8 if v1 and v2 are equal; if-ne: not equal; if-lt, if-ge, if-gt, if-le: v1 is"
-     " less, not less, greater, not greater than v2"),
-    ("goto :L8", "goes on at line 8"),
-    ("packed-switch, sparse-switch", "goes on at the line that the payload has for the register's value, or at the next"
-     " line; the payload stands at the label, further down"),
-    ("invoke-virtual, invoke-interface", "calls a method of the object in the first register; which class's code runs"
-     " depends on the object"),
-    ("invoke-direct, invoke-super, invoke-static", "calls exactly this method: a constructor or a private one, the"
-     " superclass's, one without an object"),
-    ("iget, iput", "reads the field of an object into the first register, or writes it from there; sget and sput: a"
-     " static field"),
-    ("aget, aput", "reads or writes an element of an array: value, array, index"),
-    ("new-instance, new-array, filled-new-array", "makes an object or an array"),
-    ("check-cast, instance-of", "asks whether an object is of a type: throws if not, or answers 0 or 1"),
-    ("throw", "throws the exception in the register"),
-    ("cmp-long, cmpl-float, cmpg-double", "compares two numbers: -1, 0 or 1"),
-    ("add-int, sub-long, shl-int/lit8 ..", "computes; with /2addr the first register is also the first operand, with"
-     " /lit8 and /lit16 the last word is a number"),
-    ("int-to-long, neg-int ..", "converts or negates"),
-    ("try :L1 :L5, then catch TYPE :L9", "an exception of this type that is thrown from line 1 up to line 5, without"
-     " line 5 itself, goes on at line 9; catchall: any other"),
-)  # fmt: skip
-TYPES = (
-    ("V Z B S C I J F D", "void, boolean, byte, short, char, int, long, float, double"),
-    ("Ljava/lang/String;", "the class java.lang.String"),
-    ("[I", "an array of int"),
-    ("LHello;->get(Z)I", "the method get of the class Hello: takes a boolean, answers an int"),
-    ("LHello;->name:I", "the field name of the class Hello, an int"),
-)
-
 
 class Place(NamedTuple):
     """Where a package stands: its whole name, the number of the one that it is in, and of several files its own."""
@@ -230,10 +193,7 @@ def strings(parts: list[Part], count: int, lead: Markup) -> Markup:
 
 
 def reading(are_several: bool) -> Markup:
-    instructions, types = (
-        [(part("code")(word), Markup(meaning)) for word, meaning in rows] for rows in (READING, TYPES)
-    )
-    return page("help", instructions=facts(instructions), types=facts(types), longest=LONGEST, are_several=are_several)
+    return page("help", longest=LONGEST, are_several=are_several)
 
 
 def shards(classes: Classes, pages: list[list[int]], found: list[str], cuts: Cuts) -> Iterator[str]:

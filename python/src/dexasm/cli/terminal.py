@@ -4,6 +4,7 @@ from __future__ import annotations
 import os
 import sys
 import time
+from collections.abc import Iterator
 
 OFTEN = 0.5  # seconds between two looks of the line
 
@@ -28,6 +29,18 @@ class StatusLine:
                 sys.stderr.flush()
             except OSError:
                 self.is_shown = False
+
+
+def steps(text: str, count: int) -> Iterator[int]:
+    """The numbers of so many steps; a line says how many are done."""
+    line = StatusLine()
+    try:
+        for at in range(count):
+            yield at
+            if line.is_due():
+                line.draw(f"{text}: {at + 1} of {count}")
+    finally:
+        line.draw()
 
 
 def is_colored(word: str) -> bool:

@@ -119,13 +119,6 @@ def linked(node: Node, lead: Callable[[Node], str] | None, drawn: Markup) -> Mar
     return part("led")(to, drawn) if to else drawn
 
 
-def draw_class(node: Node, x: float, y: float, width: float, height: float) -> Markup:
-    """A class: a slice for each kind."""
-    kinds = node.kinds or []
-    sizes = ", ".join(f"{kind} {number:,}" for kind, number in zip(KINDS, kinds) if number)
-    return part("drawn")(node.full, node.total, sizes, joined("", slices(node, kinds, x, y, width, height)))
-
-
 def slices(node: Node, kinds: list[Any], x: float, y: float, width: float, height: float) -> Iterator[Markup]:
     rect = part("rect")
     if width * height < SLICED:
@@ -152,7 +145,9 @@ def draw(
     if width * height < least:
         return
     if node.kinds is not None:
-        yield linked(node, lead, draw_class(node, x, y, width, height))
+        sizes = ", ".join(f"{kind} {number:,}" for kind, number in zip(KINDS, node.kinds) if number)
+        shown = joined("", slices(node, node.kinds, x, y, width, height))
+        yield linked(node, lead, part("drawn")(node.full, node.total, sizes, shown))
         return
     has_head = bool(node.name) and height > 3 * HEAD and width > 40
     if node.name:
