@@ -170,7 +170,9 @@ class Class:
         for field in self.fields:
             by = str(self.ref(field))
             yield Reference(str(field.type), False, by, "type")
-            yield from _value_references(field, by)
+            for one in field.value.all() if field.value else ():
+                if one.kind == "string" or one.kind in _NAMED:
+                    yield Reference(str(one.value), one.kind == "string", by, "value")
         for method in self.methods:
             by = str(self.ref(method))
             yield Reference(str(method.proto), False, by, "prototype")
@@ -201,12 +203,6 @@ class Reference(NamedTuple):
     is_text: bool
     by: str
     how: str
-
-
-def _value_references(field: Field, by: str) -> Iterator[Reference]:
-    for one in field.value.all() if field.value else ():
-        if one.kind == "string" or one.kind in _NAMED:
-            yield Reference(str(one.value), one.kind == "string", by, "value")
 
 
 Member = TypeVar("Member", Field, Method)

@@ -119,7 +119,8 @@ class Reader:
         return number
 
     def sleb(self) -> int:
-        number, bits = self.leb()
+        number, bits, end = leb_at(self.data, self.at)
+        self.skip_to(end)
         return number - (1 << bits) if number >> (bits - 1) else number
 
     def wide(self) -> int:
@@ -135,12 +136,6 @@ class Reader:
             return number
         self.far = begin if self.far is None else self.far
         return 0
-
-    def leb(self) -> tuple[int, int]:
-        """A LEB128 number without its sign, and how many bits it has."""
-        number, bits, end = leb_at(self.data, self.at)
-        self.skip_to(end)
-        return number, bits
 
 
 def leb_at(data: bytes, at: int) -> tuple[int, int, int]:
@@ -515,15 +510,12 @@ class Dex(Tables):
             numbers, end = ulebs(self.data, end, each * count)
             for index in accumulate(numbers[::each]):
                 self.owners.give(table, index, row)
-            for code in filter(None, numbers[2::3] if table == "method" else ()):
-                self.read_code(code, row)
+            for at_code in filter(None, numbers[2::3] if table == "method" else ()):
+                code = self.item(Code, at_code)
+                self.give_all(code, row)
+                if code.debug:
+                    self.unneeded(read_debug, code.debug, row)
         self.claim(at, end, TABLE, row)
-
-    def read_code(self, at: int, row: int) -> None:
-        code = self.item(Code, at)
-        self.give_all(code, row)
-        if code.debug:
-            self.unneeded(read_debug, code.debug, row)
 
     def read_names(self) -> None:
         """The rows of the five tables, and what they lead to: a name is whose the names with it are."""

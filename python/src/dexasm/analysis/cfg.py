@@ -96,7 +96,8 @@ class Flow:
         for at, target in enumerate(payload.targets):
             key = payload.keys[at] if hasattr(payload, "keys") else payload.first + at
             keys.setdefault(self.place(target), []).append(str(key))
-        return [(target, "switch", join_keys(found)) for target, found in keys.items()]
+        more = {target: f" .. {len(found)} keys" * (len(found) > MOST_KEYS) for target, found in keys.items()}
+        return [(to, "switch", ", ".join(found[:MOST_KEYS]) + more[to]) for to, found in keys.items()]
 
     def starts(self) -> Iterator[int]:
         """Where blocks begin."""
@@ -131,11 +132,6 @@ class Flow:
             for block in range(bisect_left(starts, first), bisect_left(starts, end)):
                 for type_, label in found:
                     self.graph.add_edge(block, self.blocks[self.place(label)], "handler", str(type_))
-
-
-def join_keys(keys: list[str]) -> str:
-    """The keys of a switch that lead to one place, the first of many."""
-    return ", ".join(keys[:MOST_KEYS]) + (f" .. {len(keys)} keys" if len(keys) > MOST_KEYS else "")
 
 
 def flow(xref: Xref, number: int) -> Graph:

@@ -32,11 +32,10 @@ def find_uses(program: Program, names: list[str], is_text: bool) -> dict[str, Ro
     missing = next((one for one in names if not found[one]), None)
     if missing is not None:
         raise CliError(f"{escaped(missing)}: nothing of the file {'has that text' if is_text else 'names that'}", USAGE)
-    return {one: [row_of(mention, times) for mention, times in rows.items()] for one, rows in found.items()}
-
-
-def row_of(mention: Reference, times: int) -> dict[str, Any]:
-    return {"name": mention.name, "by": mention.by, "how": mention.how, "times": times}
+    return {
+        one: [{"name": each.name, "by": each.by, "how": each.how, "times": times} for each, times in rows.items()]
+        for one, rows in found.items()
+    }
 
 
 def matcher(program: Program, wanted_name: str, is_text: bool) -> Callable[[str], bool]:
@@ -98,18 +97,13 @@ def listed(row: dict[str, Any]) -> dict[str, Any]:
 # ---- find
 
 
-def contains(part: str, form: re.Pattern[str] | None, text: str) -> bool:
-    """Whether a text has this part, or is of this form."""
-    return part in text if form is None else form.fullmatch(text) is not None
-
-
 def find(program: Program, patterns: list[str]) -> dict[str, list[str]]:
     """The names and the texts of a program in which a text stands, or that a pattern with * and ? is all of."""
-    forms = [functools.partial(contains, one, pattern(one) if PATTERN.search(one) else None) for one in patterns]
+    forms = [pattern(one if PATTERN.search(one) else f"*{one}*") for one in patterns]
     found: dict[str, dict[str, None]] = {"classes": {}, "fields": {}, "methods": {}, "strings": {}}
 
     def look(kind: str, text: str) -> None:
-        if any(form(text) for form in forms):
+        if any(form.fullmatch(text) for form in forms):
             found[kind][text] = None
 
     for one in program.classes:

@@ -210,17 +210,15 @@ def total_change(rows: list[Change], name: str) -> Change:
     return Change(numbers, sum(row.before for row in rows), sum(row.after for row in rows), "", name)
 
 
-def change_order(row: Change, column: str) -> tuple[int, str]:
-    """What changed most in that column comes first."""
-    return (0 if column == "name" else -abs(row.numbers[HEADS.index(column)]), row.name)
-
-
 class Changes:
     """The rows that changed, what changed most first, and all others as one."""
 
     def __init__(self, old: Rows, new: Rows, column: str = "change") -> None:
         found = [change(name, old.get(name), new.get(name)) for name in {**old, **new}]
-        self.rows = sorted((row for row in found if row.what), key=lambda row: change_order(row, column))
+        at = HEADS.index(column)
+        # (what changed most in that column comes first)
+        size: dict[str, int] = {row.name: 0 if column == "name" else -abs(row.numbers[at]) for row in found}
+        self.rows = sorted((row for row in found if row.what), key=lambda row: (size[row.name], row.name))
         same = [row for row in found if not row.what]
         self.rest = [total_change(same, f"({len(same)} unchanged)")] if same else []
         self.total = total_change(found, "all")

@@ -16,7 +16,6 @@ from dexasm.flags import FIELD_FLAGS, METHOD_FLAGS
 if TYPE_CHECKING:
     from dexasm.classes import Class, Field, Method
     from dexasm.code import Code
-    from dexasm.names import Type
     from dexasm.program import Program
 
 ABOVE = 64  # superclasses and interfaces of a class that are looked through for a member
@@ -49,11 +48,6 @@ def flag_words(flags: int, table: dict[int, str]) -> str:
     return " ".join(word for bit, word in table.items() if flags & bit)
 
 
-def simple(type_: Type) -> str:
-    """A type as Java has it, without its package."""
-    return type_.pretty.rpartition(".")[2]
-
-
 class Xref:
     """The classes of a program by row, their members by number, and who uses each, by method and instruction."""
 
@@ -69,7 +63,9 @@ class Xref:
         for row, one in enumerate(self.classes):
             self.rows.setdefault(str(one.name), row)
             self.add(one)
-        self.above = [self.rows_above(one) for one in self.classes]
+        # Of each class its superclass and its interfaces, those that the program has.
+        names = [(*filter(None, (one.superclass,)), *one.interfaces) for one in self.classes]
+        self.above = [[*dict.fromkeys(self.rows[name] for name in some if name in self.rows)] for some in names]
         self.orders: dict[int, list[int]] = {}
         for row, rows in enumerate(self.above):
             for above in rows:
@@ -97,11 +93,6 @@ class Xref:
     def member(self, number: int) -> Field | Method:
         row, at = self.place(number)
         return self.members[row][at]
-
-    def rows_above(self, one: Class) -> list[int]:
-        """The superclass and the interfaces of a class, those that the program has."""
-        names = [one.superclass] if one.superclass is not None else []
-        return [*dict.fromkeys(self.rows[name] for name in (*names, *one.interfaces) if name in self.rows)]
 
     def order(self, row: int) -> list[int]:
         """Where a class's members are looked for: in it, in its superclasses, then in the interfaces of all these."""
@@ -161,7 +152,8 @@ def title(member: Field | Method) -> str:
     """A member as Java has it: `get(boolean)`, `count`."""
     if not hasattr(member, "proto"):
         return member.name
-    return f"{member.name}({', '.join(simple(one) for one in member.proto.parameters)})"
+    # (types without their packages)
+    return f"{member.name}({', '.join(one.pretty.rpartition('.')[2] for one in member.proto.parameters)})"
 
 
 def heading(member: Field | Method) -> str:

@@ -118,11 +118,6 @@ def has_known_name(path: bytes) -> bool:
     return is_dex_name(name) or is_archive_name(name)
 
 
-def has_known_magic(path: bytes) -> bool:
-    """Whether a file begins as a .dex file, an archive or a listing does."""
-    return bool(sniff(path))
-
-
 def sniff(path: bytes) -> bool | None:
     """Whether a file begins as a .dex file, an archive or a listing does; None if it looks like a listing but for its
     first line.
@@ -155,6 +150,6 @@ def describe_skipped(top: bytes, path: bytes) -> tuple[bool, str]:
         return not is_here, "a link to a folder, which isn't followed"
     if not stat.S_ISREG(there.st_mode):
         return is_one, "a link to no file"
-    is_one = is_one or has_known_magic(path)
-    is_seen = is_here and (has_known_name(place) or has_known_magic(place))
+    is_one = is_one or bool(sniff(path))
+    is_seen = is_here and (has_known_name(place) or bool(sniff(place)))
     return is_one and not is_seen, "a link to a file, which isn't followed"

@@ -7,55 +7,29 @@ from __future__ import annotations
 
 import heapq
 from collections.abc import Callable, Iterable, Iterator
+from contextlib import suppress
 from functools import partial
 from typing import TYPE_CHECKING
 
+from dexasm import dexfile as dex
 from dexasm.analysis.xref import flag_words
 from dexasm.cli.core import read_program
 from dexasm.cli.sanitize import shortened
-from dexasm.cli.tables import MAP_TYPES, ROWS, Readable, as_text, has_tables, header, map_place, quoted, spelled
-from dexasm.dexfile import (
-    ABSENT,
-    ARRAY,
-    BOOLEAN,
-    INDEX,
-    NULL,
-    PAYLOADS,
-    TABLES,
-    VALUE_INDEX,
-    Code,
-    Malformed,
-    Read,
-    Reader,
-    Tables,
-    between,
-    disjoint,
-    end_of_text,
-    index_at,
-    read_annotation,
-    read_debug,
-    read_directory,
-    read_list,
-    read_set,
-    steps,
-    units_of,
-    unpack,
-    values,
-)
+from dexasm.cli.tables import MAP_TYPES, ROWS, Readable, as_text, has_tables, header, map_place
 from dexasm.flags import CLASS_FLAGS, FIELD_FLAGS, METHOD_FLAGS
+from dexasm.names import quoted, spelled
 
 if TYPE_CHECKING:
-    import dexasm.code
     from dexasm.program import Program
 
 WIDTH = 8  # bytes a line
 MOST_DESCRIBED = 1 << 16  # rows whose names are kept; those of strings are kept by the tables
-UNNEEDED: dict[Read, str] = {
-    read_debug: "debug_info_item",
-    read_directory: "annotations_directory_item",
-    read_list: "annotation_set_ref_list",
-    read_set: "annotation_set_item",
-    read_annotation: "annotation_item",
+UNNEEDED: dict[dex.Read, str] = {
+    dex.read_debug: "debug_info_item",
+    dex.read_directory: "annotations_directory_item",
+    dex.read_list: "annotation_set_ref_list",
+    dex.read_set: "annotation_set_item",
+    dex.read_annotation: "annotation_item",
 }
 ENUM, CHAR = 0x1B, 0x03
 NUMBERS = {0x00: "byte", 0x02: "short", 0x04: "int", 0x06: "long"}
@@ -67,15 +41,9 @@ LISTS = (
     ("virtual method", "method", METHOD_FLAGS),
 )
 CLASS_FIELDS = (
-    "class_idx",
-    "access_flags",
-    "superclass_idx",
-    "interfaces_off",
-    "source_file_idx",
-    "annotations_off",
-    "class_data_off",
-    "static_values_off",
-)
+    "class_idx access_flags superclass_idx interfaces_off source_file_idx annotations_off class_data_off"
+    " static_values_off"
+).split()
 
 Piece = tuple[int, int, str]  # begin, end, what it is
 Parts = Callable[[], Iterable[Piece]]
@@ -88,49 +56,40 @@ class Dump:
         self.data, self.lines_at, self.tables = data, lines_at, Readable(data)
         self.needed: dict[tuple[int, int, str], Parts] = {}
         self.others: dict[tuple[int, int, str], Parts] = {}
-        self.followed: set[tuple[Read, int]] = set()
+        self.followed: set[tuple[dex.Read, int]] = set()
         self.described: dict[tuple[str, int], tuple[str, int]] = {}  # each with the bytes that are read for it
         fields = [at + size for _, at, size, _ in header(data)]
         self.add(0, max(fields, default=0), MAP_TYPES[0], self.header)
         if not has_tables(data):
             return
-        self.add_map()
-        for table, _, size in TABLES:
+        if place := map_place(data):
+            self.add(place[0], place[0] + 4 + 12 * place[1], "map_list", partial(self.map_list, *place))
+        for table, _, size in dex.TABLES:
             begin = self.tables.at[table]
             for row in range(self.tables.rows[table]):
                 at = begin + size * row
                 self.add(at, at + size, ROWS[table], partial(self.row, table, row, at))
         for read, rows in (
             (self.string, self.tables.rows["string"]),
-            (self.parameters, self.tables.rows["proto"]),
+            (lambda row: self.type_list(self.tables.numbers("proto", row, "<III")[2]), self.tables.rows["proto"]),
             (self.class_items, self.tables.rows["class"]),
         ):
             for row in range(rows):
-                try:
+                with suppress(dex.Malformed):
                     read(row)
-                except Malformed:
-                    pass
 
     def add(self, begin: int, end: int, heading: str, parts: Parts) -> None:
         if begin < end <= len(self.data):
             self.needed.setdefault((begin, end, heading), parts)
 
-    def add_map(self) -> None:
-        place = map_place(self.data)
-        if place:
-            self.add(place[0], place[0] + 4 + 12 * place[1], "map_list", partial(self.map_list, *place))
-
     def string(self, row: int) -> None:
         begin = self.tables.numbers("string", row, "<I")[0]
         text = self.tables.text(row)
-        reader = Reader(self.data, begin)
+        reader = dex.Reader(self.data, begin)
         units = reader.uleb()
-        end = end_of_text(self.data, reader.at) + 1
+        end = dex.end_of_text(self.data, reader.at) + 1
         line = f"string {row}, utf16_size {units}: {shortened(quoted(text))}"
         self.add(begin, end, MAP_TYPES[0x2002], lambda: [(begin, end, line)])
-
-    def parameters(self, row: int) -> None:
-        self.type_list(self.tables.numbers("proto", row, "<III")[2])
 
     def type_list(self, at: int) -> None:
         types = self.tables.types_at(at)
@@ -145,13 +104,11 @@ class Dump:
             lambda: self.type_list(interfaces),
             lambda: self.class_data(members, row),
             lambda: self.static_values(statics),
-            lambda: self.follow(read_directory, annotations),
+            lambda: self.follow(dex.read_directory, annotations),
         )
         for read in reads:
-            try:
+            with suppress(dex.Malformed):
                 read()
-            except Malformed:
-                pass
 
     def class_data(self, at: int, row: int) -> None:
         if not at:
@@ -161,16 +118,14 @@ class Dump:
             codes += [(code, index)] if code else []
         self.add(at, end, f"{MAP_TYPES[0x2000]} of {self.describe('class', row)}", lambda: self.class_data_parts(at))
         for code, index in codes:
-            try:
+            with suppress(dex.Malformed):
                 self.code(code, index)
-            except Malformed:
-                pass
 
     def members(self, at: int) -> Iterator[tuple[int, int, int | None, int, int]]:
         """The numbers of a class's data: begin, end, of a member which list it is in, its row, and where its code is;
         of a count None and the count."""
         left = [max(0, self.tables.left)]
-        reader = Reader(self.data, at, left)
+        reader = dex.Reader(self.data, at, left)
         counts = []
         for _ in LISTS:
             begin = reader.at
@@ -187,30 +142,30 @@ class Dump:
         self.tables.charge(reader.at - at)
 
     def code(self, at: int, index: int) -> None:
-        count = unpack("<I", self.data, at + 12)[0]
+        count = dex.unpack("<I", self.data, at + 12)[0]
         self.tables.charge(16 + 2 * count)
         end, debug = self.code_end(at, count)
         heading = f"{MAP_TYPES[0x2001]} of {self.describe('method', index)}"
         self.add(at, end, heading, lambda: self.code_parts(at, count, end))
-        self.follow(read_debug, debug)
+        self.follow(dex.read_debug, debug)
 
     def code_end(self, at: int, count: int) -> tuple[int, int]:
         """Where a code ends, and where its debug information is; of one that can't be read behind its instructions."""
         try:
-            code = Code(self.data, at)
+            code = dex.Code(self.data, at)
             return code.end, code.debug
-        except Malformed:
+        except dex.Malformed:
             return min(len(self.data), at + 16 + 2 * count), 0
 
     def static_values(self, at: int) -> None:
         if at:
-            reader = Reader(self.data, at, [max(0, self.tables.left)])
-            for _ in values(reader, reader.uleb()):
+            reader = dex.Reader(self.data, at, [max(0, self.tables.left)])
+            for _ in dex.values(reader, reader.uleb()):
                 pass
             self.tables.charge(reader.at - at)
             self.add(at, reader.at, MAP_TYPES[0x2005], lambda: self.value_parts(at))
 
-    def follow(self, read: Read, at: int) -> None:
+    def follow(self, read: dex.Read, at: int) -> None:
         """An item that the program doesn't need, and those that it leads to."""
         due = [(read, at)]
         while due:
@@ -218,11 +173,11 @@ class Dump:
             if not at or (read, at) in self.followed:
                 continue
             self.followed.add((read, at))
-            reader = Reader(self.data, at, [max(0, self.tables.left)])
+            reader = dex.Reader(self.data, at, [max(0, self.tables.left)])
             try:
                 due += read(reader)
                 self.tables.charge(reader.at - at)
-            except Malformed:
+            except dex.Malformed:
                 continue
             self.others[at, reader.at, UNNEEDED[read]] = partial(unchecked, at, reader.at)
 
@@ -245,9 +200,9 @@ class Dump:
             yield at, at + size, f"{name} {as_text(name, value)}"
 
     def map_list(self, at: int, count: int) -> Iterator[Piece]:
-        yield at, at + 4, f"size {unpack('<I', self.data, at)[0]}"
+        yield at, at + 4, f"size {dex.unpack('<I', self.data, at)[0]}"
         for entry in range(at + 4, at + 4 + 12 * count, 12):
-            kind, unused, size, offset = unpack("<HHII", self.data, entry)
+            kind, unused, size, offset = dex.unpack("<HHII", self.data, entry)
             yield entry, entry + 2, f"type 0x{kind:04x}, {MAP_TYPES.get(kind, 'unknown')}"
             yield entry + 2, entry + 4, f"unused {unused}"
             yield entry + 4, entry + 8, f"size {size}"
@@ -259,16 +214,16 @@ class Dump:
             return
         text = self.describe(table, row)
         forms = {"string": "at 0x{0:x}: ", "type": "string {0}: ", "proto": "shorty string {0}: "}
-        number = unpack("<I", self.data, at)[0]
+        number = dex.unpack("<I", self.data, at)[0]
         yield at, at + self.tables.row[table], f"{table} {row}, {forms.get(table, '').format(number)}{text}"
 
     def class_row(self, row: int, at: int) -> Iterator[Piece]:
         numbers = self.tables.numbers("class", row, "<8I")
         for number, name, begin in zip(numbers, CLASS_FIELDS, range(at, at + 32, 4)):
-            text = f"0x{number:x}" if name.endswith(("_off", "_flags")) or number == ABSENT else str(number)
+            text = f"0x{number:x}" if name.endswith(("_off", "_flags")) or number == dex.ABSENT else str(number)
             if name == "access_flags":
                 text += f" {flag_words(number, CLASS_FLAGS)}"
-            elif name.endswith("_idx") and number != ABSENT:
+            elif name.endswith("_idx") and number != dex.ABSENT:
                 table = "string" if name == "source_file_idx" else "type"
                 text += f", {self.describe(table, number)}"
             yield begin, begin + 4, f"{name} {text}".rstrip()
@@ -286,7 +241,7 @@ class Dump:
                 yield begin, end, f"{next(counts)} {index}"
                 continue
             word, table, words = LISTS[number]
-            reader = Reader(self.data, begin)
+            reader = dex.Reader(self.data, begin)
             reader.uleb()
             flags = reader.uleb()
             name = self.describe(table, index)
@@ -295,7 +250,7 @@ class Dump:
 
     def code_parts(self, at: int, count: int, end: int) -> Iterator[Piece]:
         names = ("registers_size", "ins_size", "outs_size", "tries_size")
-        numbers = unpack("<4H2I", self.data, at)
+        numbers = dex.unpack("<4H2I", self.data, at)
         for number, name in enumerate(names):
             yield at + 2 * number, at + 2 * number + 2, f"{name} {numbers[number]}"
         yield at + 8, at + 12, f"debug_info_off 0x{numbers[4]:x}"
@@ -309,31 +264,31 @@ class Dump:
             yield from self.tries(behind, numbers[3])
 
     def insns(self, at: int, count: int) -> Iterator[Piece]:
-        units, first = units_of(self.data, at), at + 16
+        units, first = dex.units_of(self.data, at), at + 16
         lines = iter(self.lines_at[at]()) if at in self.lines_at else iter(())
-        for begin, end in steps(units):
+        for begin, end in dex.steps(units):
             if end > count:
-                raise Malformed
+                raise dex.Malformed
             text = next(lines, None) or self.instruction(units, begin)
             yield first + 2 * begin, first + 2 * end, f"{begin:04x}: {text}"
 
     def instruction(self, units: tuple[int, ...], at: int) -> str:
         """An instruction that no listing has."""
-        op, table = units[at] & 0xFF, INDEX[units[at] & 0xFF]
-        if units[at] in PAYLOADS:
-            return PAYLOADS[units[at]]
+        op, table = units[at] & 0xFF, dex.INDEX[units[at] & 0xFF]
+        if units[at] in dex.PAYLOADS:
+            return dex.PAYLOADS[units[at]]
         if table is None:
             return f"opcode {op:02x}"
-        index = index_at(units, at)
+        index = dex.index_at(units, at)
         return f"opcode {op:02x}, {table} {index}, {self.describe(table, index)}"
 
     def tries(self, at: int, count: int) -> Iterator[Piece]:
         for begin in range(at, at + 8 * count, 8):
-            first, covered, handler = unpack("<IHH", self.data, begin)
+            first, covered, handler = dex.unpack("<IHH", self.data, begin)
             text = f"try_item: units {first:04x} to before {first + covered:04x}, handler at {handler} of the list"
             yield begin, begin + 8, text
         at += 8 * count
-        reader = Reader(self.data, at)
+        reader = dex.Reader(self.data, at)
         handlers = reader.uleb()
         yield at, reader.at, f"encoded_catch_handler_list, size {handlers}"
         for _ in range(handlers):
@@ -346,10 +301,10 @@ class Dump:
             yield begin, reader.at, f"encoded_catch_handler: {', '.join(caught)}"
 
     def value_parts(self, at: int) -> Iterator[Piece]:
-        reader = Reader(self.data, at)
+        reader = dex.Reader(self.data, at)
         count = reader.uleb()
         yield at, reader.at, f"size {count}"
-        for begin, head, number in values(reader, count):
+        for begin, head, number in dex.values(reader, count):
             yield begin, reader.at, self.value(head, number)
 
     def value(self, head: int, number: int) -> str:
@@ -359,22 +314,22 @@ class Dump:
         if kind in BITS:
             word, most = BITS[kind]
             return f"{word} {number << 8 * max(0, most - size):0{2 * most}x}"
-        if kind in VALUE_INDEX:
-            table = VALUE_INDEX[kind]
+        if kind in dex.VALUE_INDEX:
+            table = dex.VALUE_INDEX[kind]
             return f"{'enum' if kind == ENUM else table} {number}, {self.describe(table, number)}"
-        if kind == ARRAY:
+        if kind == dex.ARRAY:
             return f"array of {number}"
-        words = {NULL: "null", BOOLEAN: "true" if number else "false", CHAR: f"char {number}"}
+        words = {dex.NULL: "null", dex.BOOLEAN: "true" if number else "false", CHAR: f"char {number}"}
         return words.get(kind, f"value of type 0x{kind:02x}")
 
     # ---- the order of the file
 
     def pieces(self) -> Iterator[tuple[int, int, str, str]]:
         """Each byte of the file once: begin, end, the item's name, and what it is."""
-        needed = disjoint((*item, 0) for item in sorted(self.needed))
-        others = disjoint((*item, 1) for item in sorted(self.others))
+        needed = dex.disjoint((*item, 0) for item in sorted(self.needed))
+        others = dex.disjoint((*item, 1) for item in sorted(self.others))
         at = 0
-        for begin, end, kind, other in heapq.merge(needed, between(needed, others)):
+        for begin, end, kind, other in heapq.merge(needed, dex.between(needed, others)):
             if begin > at:
                 yield at, begin, "", unused(self.data, at, begin)
             parts = (self.others if other else self.needed).get((begin, end, kind))
@@ -395,7 +350,7 @@ def whole(begin: int, end: int, parts: Iterable[Piece]) -> Iterator[Piece]:
                 break
             yield first, last, text
             at = last
-    except Malformed:
+    except dex.Malformed:
         pass
     if at < end:
         yield at, end, "can't be read"
@@ -413,7 +368,7 @@ def unused(data: bytes, begin: int, end: int) -> str:
 def code_lines(data: bytes, name: str) -> dict[int, Callable[[], list[str]]]:
     """Of each code of an accepted file, by where it is: its instructions as the listing has them, each behind the label
     that leads to it."""
-    program, tables = read_program(data, name), Tables(data)
+    program, tables = read_program(data, name), dex.Tables(data)
     found: dict[int, Callable[[], list[str]]] = {}
     for row in range(tables.count["class"]):
         places = [code for code, _ in tables.codes_of(row, None)]
@@ -423,19 +378,14 @@ def code_lines(data: bytes, name: str) -> dict[int, Callable[[], list[str]]]:
 
 
 def lines_at(program: Program, row: int, number: int) -> list[str]:
-    """The instructions of that code of a class."""
+    """A line for each instruction of that code of a class, in their order."""
     codes = [method.code for method in program.classes[row].methods if method.code is not None]
-    return labelled(codes[number])
-
-
-def labelled(code: dexasm.code.Code) -> list[str]:
-    """A line for each instruction, in their order."""
     found, label = [], ""
-    for line in str(code).split("\n")[1:]:
+    for line in str(codes[number]).split("\n")[1:]:
+        if line.startswith(("try ", "end code")):
+            break
         if line.startswith(":"):
             label = f"{line} "
-        elif line.startswith(("try ", "end code")):
-            break
         else:
             found.append(label + line)
             label = ""

@@ -202,17 +202,11 @@ def run(does: Callable[[Parser], int], trouble: int | None, unread: int) -> NoRe
     except Exception as error:
         if sys.flags.dev_mode:
             raise
-        print_error(f"{parser.prog}: {unexpected_message(error)}")
+        why = f"unexpected {type(error).__name__}: {escaped(str(error))}"
+        print_error(f"{parser.prog}: {'dexasm: unexpected output of `list`' if isinstance(error, NoListing) else why}")
         status = trouble or FAILED
     drop_unwritten()
     sys.exit(status)
-
-
-def unexpected_message(error: Exception) -> str:
-    """The line of an error that isn't foreseen, and of output of dexasm that can't be parsed."""
-    if isinstance(error, NoListing):
-        return "dexasm: unexpected output of `list`"
-    return f"unexpected {type(error).__name__}: {escaped(str(error))}"
 
 
 def run_main(does: Callable[[Parser], int], parser: Parser, unread: int) -> int:

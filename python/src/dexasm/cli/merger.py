@@ -34,17 +34,11 @@ class Merger:
     def add(self, file: str, program: Any) -> None:
         """The classes of a file of that name."""
         for name, text in zip(program.classes.names(), program.classes.texts()):
-            if name in self.classes and not self.replaces:
-                self.check_duplicate(name, ClassText(text, file))
-            else:
-                self.classes[name] = ClassText(text, file)
-
-    def check_duplicate(self, name: str, again: ClassText) -> None:
-        """A class that another file has too."""
-        there = self.classes[name]
-        if not self.takes_same or there.text != again.text:
-            differs = ", and differently" if self.takes_same else ""
-            raise CliError(f"{there.file} and {again.file} both define {short_name(name)}{differs}", REFUSED)
+            there = None if self.replaces else self.classes.get(name)
+            if there and not (self.takes_same and there.text == text):
+                differs = ", and differently" if self.takes_same else ""
+                raise CliError(f"{there.file} and {file} both define {short_name(name)}{differs}", REFUSED)
+            self.classes[name] = there or ClassText(text, file)
 
     def file(self, is_fitted: bool = False) -> bytes:
         """The bytes of the .dex file of all of them; with is_fitted of a program that has longer instructions where

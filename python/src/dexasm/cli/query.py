@@ -44,7 +44,7 @@ from __future__ import annotations
 
 import json
 from argparse import Namespace
-from collections.abc import Callable, Iterable, Iterator
+from collections.abc import Callable, Iterable
 from typing import TYPE_CHECKING, Any
 
 from dexasm.analysis import references as mentions
@@ -123,12 +123,6 @@ def tables(path: str | None, names: list[str]) -> dict[str, list[str | dict[str,
     return {name: [row_of(read, TABLES[name], row) for row in rows[name]] for name in rows}
 
 
-def table_lines(found: dict[str, Any]) -> Iterator[str]:
-    for name, rows in found.items():
-        for at, row in enumerate(rows):
-            yield f"{name} {at} {line_of(TABLES[name], row)}"
-
-
 QUERIES: dict[str, Query] = {
     "classes": classes, "strings": strings, "calls": calls, "fields": fields, "outside": mentions.outside,
 }  # fmt: skip
@@ -146,7 +140,9 @@ def output_lines(args: Namespace, file: str | None, names: list[str]) -> Iterabl
     if args.query == "show":
         return [*show(program_of(file), names, None, args.kinds)]
     found = run_query(args, file, names)
-    return table_lines(found) if args.lines else [json.dumps(found, indent=1)]
+    if not args.lines:
+        return [json.dumps(found, indent=1)]
+    return (f"{name} {at} {line_of(TABLES[name], row)}" for name, rows in found.items() for at, row in enumerate(rows))
 
 
 def run_query(args: Namespace, file: str | None, names: list[str]) -> dict[str, Any]:

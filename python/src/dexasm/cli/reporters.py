@@ -87,11 +87,6 @@ def is_of_member(verdict: Verdict) -> bool:
     return verdict.number is None and verdict.class_ is not None
 
 
-def short_title(verdict: Verdict) -> str:
-    """What is wrong, in a word or two."""
-    return f"{verdict.number} {verdict.name}" if verdict.number else verdict.rule or "not looked at"
-
-
 def full_message(verdict: Verdict) -> str:
     """A message that says where in the program it is."""
     return message_of(verdict) + (location_suffix(verdict) if is_of_member(verdict) else "")
@@ -168,11 +163,8 @@ class Json(Text):
         found = {"file": name_of(verdict), "uri": uri_of(verdict.path), "kind": verdict.kind, "status": verdict.status}
         for field in self.fields:
             found[field.rstrip("_")] = getattr(verdict, field)
-        return [json.dumps(found | self.extra_fields(verdict) | self.build_fields())]
-
-    def build_fields(self) -> dict[str, Any]:
-        """Which dexasm answers, where that was asked."""
-        return {} if self.build is None else {"dexasm": self.build._asdict()}
+        build = {} if self.build is None else {"dexasm": self.build._asdict()}
+        return [json.dumps(found | self.extra_fields(verdict) | build)]
 
     def extra_fields(self, verdict: Verdict) -> dict[str, Any]:
         fields = {"sentence": sentence_of(verdict), "why": verdict.why, "program": verdict.program}
@@ -197,7 +189,7 @@ class GitHub(Text):
         if not verdict.entry and verdict.line is not None:
             words |= {"line": str(verdict.line)}
             words |= {"col": str(verdict.column)} if verdict.column is not None else {}
-        words["title"] = short_title(verdict)
+        words["title"] = f"{verdict.number} {verdict.name}" if verdict.number else verdict.rule or "not looked at"
         head = ",".join(f"{name}={escape_command(text)}" for name, text in words.items())
         message = escape_command(f"{name_of(verdict)}{place_of(verdict)}: {full_message(verdict)}", "%\r\n")
         return [f"{NOTICE if verdict.status in ACCEPTED else ERROR}{head}::{message}"]
@@ -224,43 +216,37 @@ class JUnit(Text):
     def __init__(self) -> None:
         from xml.etree import ElementTree
 
-        self.suite = ElementTree.Element("testsuite", name="dexasm-check")
+        self.xml, self.suite = ElementTree, ElementTree.Element("testsuite", name="dexasm-check")
         self.counts = dict.fromkeys(("tests", "failures", "errors", "skipped"), 0)
 
     def lines(self, verdict: Verdict) -> list[str]:
-        from xml.etree import ElementTree
-
         name = escaped(name_of(verdict)) + (place_of(verdict) if is_of_member(verdict) else "")
-        case = ElementTree.SubElement(self.suite, "testcase", classname="dexasm-check", name=name)
+        case = self.xml.SubElement(self.suite, "testcase", classname="dexasm-check", name=name)
         self.counts["tests"] += 1
         kinds = {"ok": None, "refused": "failure", "broken": "failure", **dict.fromkeys(ACCEPTED[1:], "skipped")}
         kind = kinds.get(verdict.status, "error")
         if kind is not None:
             self.counts["skipped" if kind == "skipped" else f"{kind}s"] += 1
-            element = ElementTree.SubElement(case, kind, message=full_message(verdict))
+            element = self.xml.SubElement(case, kind, message=full_message(verdict))
             if kind != "skipped":
                 element.set("type", verdict.name or verdict.rule or verdict.status)
                 element.text = Text().lines(verdict)[0]
         return []
 
     def nothing(self, why: str) -> list[str]:
-        from xml.etree import ElementTree
-
-        case = ElementTree.SubElement(self.suite, "testcase", classname="dexasm-check", name="what is looked at")
-        ElementTree.SubElement(case, "error", message=why, type="nothing")
+        case = self.xml.SubElement(self.suite, "testcase", classname="dexasm-check", name="what is looked at")
+        self.xml.SubElement(case, "error", message=why, type="nothing")
         self.counts["tests"] += 1
         self.counts["errors"] += 1
         return []
 
     def end(self, status: int) -> list[str]:
-        from xml.etree import ElementTree
-
         for name, count in self.counts.items():
             self.suite.set(name, str(count))
-        suites = ElementTree.Element("testsuites")
+        suites = self.xml.Element("testsuites")
         suites.append(self.suite)
-        ElementTree.indent(suites, " ")
-        document: bytes = ElementTree.tostring(suites, "us-ascii", xml_declaration=True)
+        self.xml.indent(suites, " ")
+        document: bytes = self.xml.tostring(suites, "us-ascii", xml_declaration=True)
         return document.decode("ascii").split("\n")
 
 
@@ -307,49 +293,34 @@ class Sarif(Text):
         self.notes.append({"descriptor": {"id": "nothing"}, "level": "error", "message": {"text": why}})
         return []
 
-    def rule_text(self, rule: str) -> tuple[str, str]:
-        """A rule's name and its sentence."""
+    def rule_fields(self, rule: str) -> dict[str, Any]:
+        """A rule's name, its sentence, and of a fault the section of the page on faults: as a URI if it is here."""
+        name, more = rule, dict[str, Any]()
         if rule.isdecimal():
-            return SENTENCES.get(int(rule), ("Unknown", "", ""))[:2]
-        if rule in UNREAD:
-            return rule, UNREAD[rule]
-        from dexasm.analysis.verifier.rules import SENTENCES as RULES
+            name, sentence, _ = SENTENCES.get(int(rule), ("Unknown", "", ""))
+            part, path = section(int(rule), name), page_path()
+            more = {} if path is None else {"helpUri": uri_of(os.fsencode(path)) + part}
+            more["help"] = {"text": PAGE + part}
+        else:
+            from dexasm.analysis.verifier.rules import SENTENCES as RULES
 
-        return rule, RULES.get(rule, "")
+            sentence = (RULES | UNREAD).get(rule, "")
+        return {"id": rule, "name": name, **({"shortDescription": {"text": sentence}} if sentence else {}), **more}
 
     def end(self, status: int) -> list[str]:
         import json
 
-        rules = []
-        for rule in self.rules:
-            name, sentence = self.rule_text(rule)
-            more: dict[str, Any] = {"shortDescription": {"text": sentence}} if sentence else {}
-            rules.append({"id": rule, "name": name, **more, **help_of(rule, name)})
-        driver: dict[str, Any] = {"name": self.tool, "rules": rules}
+        driver: dict[str, Any] = {"name": self.tool, "rules": [*map(self.rule_fields, self.rules)]}
         if self.build is not None:
             driver |= {"version": self.build.version, "properties": {"dexasm": self.build._asdict()}}
+        ended = {"executionSuccessful": status in (0, REFUSED), "exitCode": status}
         run = {
             "tool": {"driver": driver},
-            "invocations": [
-                {
-                    "executionSuccessful": status in (0, REFUSED),
-                    "exitCode": status,
-                    "toolExecutionNotifications": self.notes,
-                }
-            ],
+            "invocations": [ended | {"toolExecutionNotifications": self.notes}],
             "columnKind": "unicodeCodePoints",
             "results": self.results,
         }
         return [json.dumps({"$schema": SCHEMA, "version": "2.1.0", "runs": [run]}, indent=1)]
-
-
-def help_of(rule: str, name: str) -> dict[str, Any]:
-    """The section of the page on faults, for SARIF: as a URI if the page is here."""
-    if not rule.isdecimal():
-        return {}
-    part, path = section(int(rule), name), page_path()
-    uri = {} if path is None else {"helpUri": uri_of(os.fsencode(path)) + part}
-    return {**uri, "help": {"text": PAGE + part}}
 
 
 def location(verdict: Verdict) -> dict[str, Any]:

@@ -82,13 +82,6 @@ Row = tuple[str, Numbers]
 TABLES = {"Packages": "package", "Classes": "class", "Methods": "method", "Strings": "string"}  # of a page for two
 
 
-def sorted_by(column: str, rows: dict[str, Numbers]) -> list[Row]:
-    if column == "name":
-        return sorted(rows.items())
-    at = COLUMNS.index(column)
-    return sorted(rows.items(), key=lambda row: (-(row[1][at] or 0), row[0]))
-
-
 def aligned(lines: Sequence[Sequence[str]], by: str) -> None:
     """Lines of cells as a table, the names in their last column, of which long strings are cut."""
     visible: Callable[[str], str] = (lambda name: shortened(escaped(name))) if by == "string" else escaped
@@ -109,8 +102,16 @@ def change_line(row: Change) -> list[str]:
     return [*(f"{number:+d}" if number else "0" for number in row.numbers), *map(str, row.cells()[-4:])]
 
 
-def write_json(heads: Iterable[str], rows: Iterable[Sequence[object]], **fields: Any) -> None:
-    print(json.dumps(fields | {"rows": [dict(zip(heads, row)) for row in rows]}, indent=1))
+def print_rows(
+    args: Namespace, heads: Sequence[str], rows: list[list[Any]], lines: Iterable[Sequence[str]], **fields: Any
+) -> None:
+    """Rows in the form that is asked for; as a table they are these lines, but where a page takes their place."""
+    if args.json:
+        print(json.dumps(fields | {"rows": [dict(zip(heads, row)) for row in rows]}, indent=1))
+    elif args.csv or args.csv_raw:
+        write_csv(heads, rows, args.csv_raw)
+    elif args.html is None:
+        aligned([heads, *lines], args.by)
 
 
 def accepted_inputs(path: str) -> Iterator[Input]:
@@ -146,15 +147,11 @@ def one_file(path: str, args: Namespace, prog: str) -> None:
         from dexasm.pages.size_page import html_page
 
         write_file(args.html, html_page(os.path.basename(path), COLUMNS, rows, by_package(rows)).encode("utf8"))
-    rows = sorted_by(args.sort, total_of(rows_of(*both, args.by) for both in files))
     heads = *COLUMNS, "name"
+    at, found = heads.index(args.sort), total_of(rows_of(*both, args.by) for both in files)
+    rows = sorted(found.items(), key=lambda row: (0 if args.sort == "name" else -(row[1][at] or 0), row[0]))
     cells = [[*numbers, name] for name, numbers in rows]
-    if args.json:
-        write_json(heads, cells, file=path, bytes=size)
-    elif args.csv or args.csv_raw:
-        write_csv(heads, cells, args.csv_raw)
-    elif args.html is None:
-        aligned([heads, *table(rows)], args.by)
+    print_rows(args, heads, cells, table(rows), file=path, bytes=size)
 
 
 def two_files(old: str, new: str, args: Namespace) -> None:
@@ -171,13 +168,9 @@ def two_files(old: str, new: str, args: Namespace) -> None:
         write_file(args.html, changes_page(names, {title: of(by) for title, by in TABLES.items()}).encode("utf8"))
     found = of(args.by, HEADS[0] if args.sort == COLUMNS[0] else args.sort)
     cells, total = [row.cells() for row in found.rows], found.total
-    if args.json:
-        fields = {"before": {"file": old, "bytes": total.before}, "after": {"file": new, "bytes": total.after}}
-        write_json(HEADS, cells, **fields, change=total.after - total.before)
-    elif args.csv or args.csv_raw:
-        write_csv(HEADS, cells, args.csv_raw)
-    elif args.html is None:
-        aligned([HEADS, *map(change_line, [*found.rows, *found.rest, total])], args.by)
+    fields = {"before": {"file": old, "bytes": total.before}, "after": {"file": new, "bytes": total.after}}
+    lines = map(change_line, [*found.rows, *found.rest, total])
+    print_rows(args, HEADS, cells, lines, **fields, change=total.after - total.before)
 
 
 def print_counts(args: Namespace) -> None:
@@ -192,12 +185,8 @@ def print_counts(args: Namespace) -> None:
         rows = {name: numbers for name, numbers in rows.items() if any(numbers[: len(COUNTED)])}
     at = 0 if args.sort == COLUMNS[0] else heads.index(args.sort)
     order = sorted(rows.items(), key=lambda row: (0 if args.sort == "name" else -abs(row[1][at]), row[0]))
-    if args.json:
-        write_json(heads, ([*numbers, name] for name, numbers in order), files=args.files)
-    elif args.csv or args.csv_raw:
-        write_csv(heads, ([*numbers, name] for name, numbers in order), args.csv_raw)
-    else:
-        aligned([heads, *table([(name, [*numbers]) for name, numbers in order], len(heads) - 1)], args.by)
+    lines = table([(name, [*numbers]) for name, numbers in order], len(heads) - 1)
+    print_rows(args, heads, [[*numbers, name] for name, numbers in order], lines, files=args.files)
 
 
 def difference(old: list[int], new: list[int]) -> list[int]:

@@ -5,14 +5,17 @@ for each byte of the file, so that what leads to one place again and again costs
 from __future__ import annotations
 
 import hashlib
-from collections.abc import Iterator
-from typing import Any
+from collections.abc import Callable, Iterator
+from typing import Any, TypeVar
 
 from dexasm.analysis.xref import flag_words
 from dexasm.cli.filetypes import DEX
 from dexasm.dexfile import ABSENT, HEADER, MAP_OFF, TABLES, Malformed, Reader, Tables, unpack
 from dexasm.flags import CLASS_FLAGS
+from dexasm.names import quoted, spelled
 
+
+Found = TypeVar("Found")
 
 # The header's fields and their bytes ("Dalvik Executable format", header_item).
 FIELDS = (
@@ -102,24 +105,15 @@ class Readable(Tables):
         return super().types_at(at)
 
     def name_or_none(self, table: str, index: int) -> str | None:
-        try:
-            return self.name(table, index)
-        except Malformed:
-            return None
+        return or_none(self.name, table, index)
 
 
-def quoted(text: str) -> str:
-    """A text as a listing has it: ASCII, with nothing that a terminal obeys."""
-    from dexasm import names
-
-    return names.quoted(text)
-
-
-def spelled(name: str) -> str:
-    """A name as a listing has it."""
-    from dexasm import names
-
-    return names.spelled(name)
+def or_none(read: Callable[..., Found], *words: Any) -> Found | None:
+    """What is read; None where it can't be."""
+    try:
+        return read(*words)
+    except Malformed:
+        return None
 
 
 def has_tables(data: bytes) -> bool:
@@ -224,20 +218,12 @@ def line_of(table: str, row: str | dict[str, Any]) -> str:
     return " ".join(filter(None, words))
 
 
-def row_or_none(readable: Readable, table: str, row: int) -> str | dict[str, Any] | None:
-    """The same; None where it can't be read."""
-    try:
-        return row_of(readable, table, row)
-    except Malformed:
-        return None
-
-
 def rows_read(data: bytes) -> dict[str, dict[str, Any]]:
     """Of refused bytes each table: how many rows its header says, and each of those that lie in the file, None where it
     can't be read."""
     readable, found = Readable(data), {}
     for table, name in ROWS.items():
-        read = [row_or_none(readable, table, row) for row in range(readable.rows[table])]
+        read = [or_none(row_of, readable, table, row) for row in range(readable.rows[table])]
         found[name] = {"rows": readable.count[table], "read": read}
     return found
 

@@ -22,35 +22,25 @@ def add_forms(parser: argparse.ArgumentParser) -> None:
         form.add_argument(word, action="store_true")
 
 
-def cell(value: object) -> object:
-    return "" if value is None else os.fsdecode(value) if isinstance(value, bytes) else value
-
-
-def without_formula(value: object) -> object:
-    """A cell that no spreadsheet takes for a formula."""
-    return f"'{value}" if isinstance(value, str) and value.startswith(FORMULA) else value
-
-
 def write_csv(heads: Sequence[str], rows: Iterable[Sequence[object]], is_raw: bool) -> None:
     """Rows as CSV; texts in them are escaped."""
     shown = ([escaped(value) if isinstance(value, str) else value for value in row] for row in rows)
     writer = csv.writer(sys.stdout, lineterminator="\n")
     writer.writerow(heads)
-    writer.writerows(shown if is_raw else ([without_formula(value) for value in row] for row in shown))
+    # (so that no spreadsheet takes a cell for a formula)
+    safe = ([f"'{one}" if isinstance(one, str) and one.startswith(FORMULA) else one for one in row] for row in shown)
+    writer.writerows(shown if is_raw else safe)
 
 
 def print_rows(args: argparse.Namespace, heads: Sequence[str], rows: Iterable[Sequence[object]]) -> None:
     """Rows as a table, as JSON or as CSV. Names and strings are as a listing spells them, so only paths are escaped."""
-    rows = ([cell(value) for value in row] for row in rows)
+    rows = (["" if one is None else os.fsdecode(one) if isinstance(one, bytes) else one for one in row] for row in rows)
     if args.json:
         print(json.dumps([dict(zip(heads, row)) for row in rows], indent=1))
-    elif args.csv or args.csv_raw:
+        return
+    if args.csv or args.csv_raw:
         write_csv(heads, rows, args.csv_raw)
-    else:
-        write_table(heads, rows)
-
-
-def write_table(heads: Sequence[str], rows: Iterable[Sequence[object]]) -> None:
+        return
     lines = [heads, *([escaped(str(value)) for value in row] for row in rows)]
     widths = [min(max(len(line[at]) for line in lines), SHORT) for at in range(len(heads))]
     for line in lines:

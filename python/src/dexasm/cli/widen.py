@@ -28,23 +28,15 @@ def fit(program: Program, far: set[str] | None) -> Counter[str]:
     done: Counter[str] = Counter()
     for one in program.classes:
         for method in one.methods:
-            if method.code is not None and ("const-string" in str(method.code) or has_branches(method.code)):
-                load_far(method.code, far, done)
+            text = str(method.code or "")
+            has_branches = text.count("\n") > FAR // 5 and ("goto" in text or "\nif-" in text)
+            if method.code is not None and ("const-string" in text or has_branches):
+                for insn in method.code.insns:
+                    if insn.mnemonic == "const-string" and (far is None or insn.text in far):
+                        insn.mnemonic = JUMBO
+                        done[f"const-string by {JUMBO}"] += 1
                 reach(method.code, done)
     return done
-
-
-def has_branches(code: Code) -> bool:
-    """Whether a code can have a branch that doesn't reach."""
-    text = str(code)
-    return text.count("\n") > FAR // 5 and ("goto" in text or "\nif-" in text)
-
-
-def load_far(code: Code, far: set[str] | None, done: Counter[str]) -> None:
-    for insn in code.insns:
-        if insn.mnemonic == "const-string" and (far is None or insn.text in far):
-            insn.mnemonic = JUMBO
-            done[f"const-string by {JUMBO}"] += 1
 
 
 def reach(code: Code, done: Counter[str]) -> None:

@@ -66,9 +66,10 @@ def ambiguity(archive: zipfile.ZipFile) -> str | None:
     file = archive.fp
     assert file is not None  # (it is open)
     file.seek(0)
-    why = front_mismatch(file.read(len(DEX)))
-    if why is not None:
-        return why
+    first = file.read(len(DEX))  # (that of an archive without entries is its end record)
+    if first not in ARCHIVES_BEGIN:
+        what = "a .dex file" if first == DEX else "something else"
+        return f"it begins as {what}, and the archive stands behind that: who reads it from its front sees another file"
     size = file.seek(0, 2)
     file.seek(max(0, size - LONGEST_COMMENT - END.size - LOCATOR.size - END64.size))
     tail = file.read()
@@ -108,14 +109,6 @@ def directory_mismatch(tail: bytes, start: int, rows: list[zipfile.ZipInfo]) -> 
 def is_dex(path: str) -> bool:
     with open(path, "rb") as file:
         return file.read(len(DEX)) == DEX
-
-
-def front_mismatch(first: bytes) -> str | None:
-    """What is wrong with how a file begins in which an archive can be read, which is looked for from a file's end."""
-    if first[: len(DEX)] in ARCHIVES_BEGIN:  # (an archive without entries begins with its end record)
-        return None
-    what = "a .dex file" if first.startswith(DEX) else "something else"
-    return f"it begins as {what}, and the archive stands behind that: who reads it from its front sees another file"
 
 
 def entries_by_name(archive: zipfile.ZipFile, is_one: Callable[[str], object]) -> list[NamedEntries]:

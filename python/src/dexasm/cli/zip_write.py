@@ -59,7 +59,10 @@ def replace_entries(path: str, files: dict[str, bytes]) -> bytes:
 def rewrite(archive: ZipFile, files: dict[str, bytes]) -> bytes:
     infos = archive.infolist()
     check_replaceable(archive, infos, files)
-    kept = without_signatures(infos)
+    kept = [info for info in infos if not SIGNATURE.fullmatch(info.filename)]
+    # (that of an application has its list of sums for signatures alone)
+    if len(kept) < len(infos) and any(info.filename == OF_APP for info in infos):
+        kept = [info for info in kept if info.filename != MANIFEST]
     out, offsets = bytearray(), dict[int, tuple[int, Entry]]()
     assert archive.fp is not None  # (it is open)
     for info in sorted(kept, key=lambda one: one.header_offset):
@@ -90,13 +93,6 @@ def check_replaceable(archive: ZipFile, infos: list[ZipInfo], files: dict[str, b
         raise CliError("its entries overlap")
     if len(infos) > MOST_ENTRIES or any(max(info.file_size, info.header_offset) >= MOST for info in infos):
         raise CliError("it is an archive of more than 4 GB or 65,535 entries, which this doesn't write")
-
-
-def without_signatures(infos: list[ZipInfo]) -> list[ZipInfo]:
-    """The entries without signatures. (That of an application has its list of sums for them alone.)"""
-    kept = [info for info in infos if not SIGNATURE.fullmatch(info.filename)]
-    is_of_app = any(info.filename == OF_APP for info in infos)
-    return [info for info in kept if info.filename != MANIFEST or not is_of_app or len(kept) == len(infos)]
 
 
 def read_local_entry(file: IO[bytes], info: ZipInfo) -> Entry:
