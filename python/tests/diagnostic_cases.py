@@ -43,7 +43,7 @@ for _number, _rows in ((int(part), rows) for part, rows in CASES.items() if part
 FORMS = [([HEAD, CLASS, *in_code(line), "end class"], says) for line, says in CASES["forms of code"]]
 FORMS += [([HEAD, CLASS, line, "end class"], says) for line, says in CASES["forms of classes"]]
 FORMS += [(text.split(" / "), says) for text, says in CASES["texts"]]
-FORMS += [([HEAD, CLASS, *in_code("«nop\tv0»"), "end class"], "a tab stands at column 4"),
+FORMS += [([HEAD, CLASS, *in_code("«nop\tv0»"), "end class"], "there is a tab at column 4"),
           ([HEAD, CLASS, *in_code("«nop\r»"), "end class"], "the line ends in a carriage return (CRLF)"),
           (["«\ufeffdex» 035 listing 2"], "a byte order mark"), (["«\r»"], "the line ends in a carriage return")]
 MEMBER = "virtual z (I)V 1", "code 2 1 0", "return-void", "end code"

@@ -560,7 +560,7 @@ class Changes(ObjectsTest):
             want = (number, "LHello;", member and f"LHello;->{member}", insn)
             self.check_equal(f"the place of {what}", place, want)
         seen = changed(inserted("pick", 1, WIDE))
-        said = "LHello;->pick(I)V, instruction 1: 42000: a number from -32768 to 32767 stands here; const takes more"
+        said = "LHello;->pick(I)V, instruction 1: 42000: a number from -32768 to 32767 is expected here; const takes more"
         self.check_equal("its line", str(seen), f"refused 102 Number at {seen.place}: {said}")
         again = pickle.loads(pickle.dumps(seen))
         self.check_equal("it is pickled whole", (str(again), again.insn, again.member),

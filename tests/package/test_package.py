@@ -324,7 +324,7 @@ class PackageTest(TestCase):
             ".dev0", "-dev"
         )
         sha = hashlib.sha256(get(f"{self.library}/libdexasm.so")).hexdigest()
-        answering = {"dexasm-check": f"answered by the {build} build with the SHA-256 {sha}\n"}
+        answering = {"dexasm-check": f"output of the {build} build with the SHA-256 {sha}\n"}
         for name in HELPERS:
             want = f"{name} {number}\n{answering.get(name, '')}"
             self.runs(f"{what}: {name}", f"{place}/bin/{name}", "--version", want=want, env=env, cwd=room)

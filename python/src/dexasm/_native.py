@@ -232,7 +232,7 @@ class Build(NamedTuple):
     sha256: str
 
     def __str__(self) -> str:
-        return f"answered by the {self.build} build with the SHA-256 {self.sha256}"
+        return f"output of the {self.build} build with the SHA-256 {self.sha256}"
 
 
 def build_of(core: Library | Command) -> Build:

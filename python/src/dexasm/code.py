@@ -481,7 +481,7 @@ class _LabelNumbers:
             if id(label.insn) not in self.places:
                 raise ValueError(f"a label leads to no instruction of its code: {preview(label.insn)}")
             if id(label.insn) in self.twice:
-                raise ValueError(f"a label leads to an instruction that stands twice: {preview(label.insn)}")
+                raise ValueError(f"a label marks an instruction that is in the code twice: {preview(label.insn)}")
             at = self.places[id(label.insn)]
         self.used.add(at)
         return f":L{at}"

@@ -56,7 +56,7 @@ SARIF: dict[str, tuple[set[str], set[str]]] = {
     "region": (set(), {"startLine", "startColumn", "byteOffset"}),
     "logicalLocation": (set(), {"fullyQualifiedName"}),
 }
-BUILD = "answered by the (?:proved|quick|unknown) build with the SHA-256 [0-9a-f]{64}"
+BUILD = "output of the (?:proved|quick|unknown) build with the SHA-256 [0-9a-f]{64}"
 HELP_URI = re.compile("file:///[^#]*#[0-9]+-[a-z]+")
 URI = re.compile(r"(?:[A-Za-z0-9._~!$&'()*+,;=@/:-]|%[0-9A-F]{2})+")
 
@@ -708,7 +708,7 @@ d/inner/b.dex: ok
         good = archive(("classes.dex", file))
         for name, front, what in (("a.apk", file, "a .dex file"), ("b.jar", b"#!/bin/sh\n", "something else")):
             put(at, name, front + good)
-            want = f"{name}: error: it begins as {what}, and the archive stands behind that: "
+            want = f"{name}: error: it begins as {what}, and the archive follows it: "
             seen = checked(name, at=at)
             self.check_equal(f"{name}, its front", seen, (3, Begins(want) & ONE_LINE, ""))
             seen = run([os.path.join(TOOLS, "dexasm-apk"), "check", name], at=at)
@@ -806,7 +806,7 @@ d/inner/b.dex: ok
         self.check_equal("a sum of memory", (told.count("it takes more than --memory"), out, status, said),
                          (Above(5), Ends("1.zip!z/classes.dex: ok\n"), 4, ""))
         seen = checked("--seconds", "0.02", "--lint", "1.zip", "none", at=at)
-        late: Like = Has("it takes longer than --seconds: nothing behind it in the archive is looked at\n")
+        late: Like = Has("it takes longer than --seconds: the rest of the archive is not checked\n")
         late |= Has("1.zip: error: it takes longer than --seconds\n")
         self.check_equal("a sum of time", seen[:2], (3, late & Ends("directory\n")))
 
@@ -982,7 +982,7 @@ d/inner/b.dex: ok
             ):
                 seen = checked(*[form] * bool(form), *words, at=at, given=given)
                 self.check_equal(f"{form} {words}", seen,
-                                 (3, ANY, Begins("dexasm-check: nothing was looked at: ") & ONE_LINE))
+                                 (3, ANY, Begins("dexasm-check: no .dex files") & ONE_LINE))
                 if form == "--sarif":
                     done = json.loads(seen[1])["runs"][0]["invocations"][0]
                     notes = [note["descriptor"]["id"] for note in done["toolExecutionNotifications"]]

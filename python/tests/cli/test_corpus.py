@@ -233,7 +233,7 @@ class Corpus(CorpusTest):
             ("empty.db", "empty.db: no database of dexasm-corpus"),
             ("newer.db", "newer.db: its tables are of version 99"),
             ("older.db",
-             "older.db: its tables are of version 1, and those of this dexasm-corpus of version 2: make it anew"),
+             "older.db: its tables are of version 1, and those of this dexasm-corpus of version 2: make a new one"),
             ("text.db", "text.db: file is not a database"),
         ):
             before = get(at, file)

@@ -308,7 +308,7 @@ class HostileCorpus(CorpusTest):
         seen = tool("dexasm-corpus", "merge", "believed.db", "lies.db", at=at)
         self.check_equal("merge believes", (seen, sums(at, "believed.db")), ((0, "", ""), Other(sums(at, "true.db"))))
         seen = tool("dexasm-corpus", "merge", "--verify", "--processes", "1", "own.db", "lies.db", at=at)
-        want = "lies.db: 4 files, 3 looked at anew, 1 not at hand: not verified, and left out\n"
+        want = "lies.db: 4 files, 3 checked again, 1 not at hand: not verified, and left out\n"
         self.check_equal("merge --verify, what it says", seen, (1, want, ""))
         self.check_equal("merge --verify, what it takes", sums(at, "own.db"), sums(at, "true.db"))
         self.check_at_hand(at)
@@ -317,7 +317,7 @@ class HostileCorpus(CorpusTest):
         """Another file stands at the place of one; then several databases at once."""
         put(at, "b.dex", get(at, "a.dex"))
         seen = tool("dexasm-corpus", "merge", "--verify", "--processes", "1", "less.db", "true.db", at=at)
-        want = "true.db: 3 files, 2 looked at anew, 1 not at hand: not verified, and left out\n"
+        want = "true.db: 3 files, 2 checked again, 1 not at hand: not verified, and left out\n"
         paths = rows(at, "select path, entry from path", "less.db")
         self.check_equal("merge --verify, another file at its place", (seen, paths),
                          ((1, want, ""), Lacks(("b.dex", "")) & Has(("a.dex", ""))))
@@ -326,10 +326,10 @@ class HostileCorpus(CorpusTest):
         ):
             name = f"{len(files)}{left}.db"
             seen = tool("dexasm-corpus", "merge", "--verify", name, *files, at=at)
-            want = "less.db: 2 files, 2 looked at anew, 0 not at hand: not verified, and left out\n" * (
+            want = "less.db: 2 files, 2 checked again, 0 not at hand: not verified, and left out\n" * (
                 len(files) - left
             )
-            want += "true.db: 3 files, 2 looked at anew, 1 not at hand: not verified, and left out\n" * left
+            want += "true.db: 3 files, 2 checked again, 1 not at hand: not verified, and left out\n" * left
             self.check_equal(f"merge --verify of {files}", (seen, sums(at, name)),
                              ((status, want, ""), sums(at, "less.db")))
 

@@ -90,7 +90,7 @@ class Diff(HelperTest):
         })
         seen = diff(at, "order", "other")
         self.check_equal("another order", seen,
-                         (1, "--- order\n+++ other\n@ the classes that both have stand in another order\n", ""))
+                         (1, "--- order\n+++ other\n@ the classes of both are in a different order\n", ""))
         seen = diff(at, "order", "flags")
         self.check_equal("flags", seen[:2], (1, Has("@@ LB; in both @@\n-class LB; 0x1\n+class LB; 0x11\n")))
         colors = diff(at, "--color", "always", "order", "flags")[1]

@@ -121,10 +121,10 @@ class Explain(PatchedTest):
         """The causes of 100, and the words of 102."""
         at, line = room("explain lines"), b"direct m ()V 0x9\ncode 2 0 0\n"
         for what, text, words in (
-            ("commas", b"add-int v0, v0, v1", "a comma stands at column 11"),
-            ("a tab", b"nop\t", "a tab stands at column 4"),
+            ("commas", b"add-int v0, v0, v1", "there is a comma at column 11"),
+            ("a tab", b"nop\t", "there is a tab at column 4"),
             ("CRLF", b"nop\r", "the line ends in a carriage return (CRLF)"),
-            ("a comment at the end", b"nop # why", "a comment stands on a line of its own"),
+            ("a comment at the end", b"nop # why", "a comment needs its own line"),
             ("smali", b".line 3", "it is smali"),
             ("smali's method", b".method public static main([Ljava/lang/String;)V", "it is smali"),
             ("a letter", 'const-string v0 "\u00e9"'.encode(), "the bytes c3 a9 at column 18 are none of a listing"),
@@ -141,7 +141,7 @@ class Explain(PatchedTest):
                 "flags are a number: volatile is 0x40 ("
             ),
             ("one of a method", CLASS + b"direct m ()V static bridge\n", "flags are a number: static bridge is 0x48 ("),
-            ("a word of a class alone", CLASS + b"direct m ()V interface\n", "  102: a word isn't what stands"),
+            ("a word of a class alone", CLASS + b"direct m ()V interface\n", "  102: a word is not what this line needs"),
         ):
             self.says(what, at, ["assemble"], HEAD + text, words)
         found = self.explained(at, ["assemble"], HEAD + CLASS + b"direct m ()V interface\n")
@@ -154,7 +154,7 @@ class Explain(PatchedTest):
         ):
             self.says(what, at, ["assemble"], text, "100: the line isn't of the listing's form", words)
         self.says("a number", at, ["assemble"], HEAD + CLASS + b"instance i I x\n",
-                  "102: a word isn't what stands at its place", "4: instance i I x", "In LA;->i:I")
+                  "102: a word is not what this line needs at its place", "4: instance i I x", "In LA;->i:I")
         self.says("a long line", at, ["assemble"], HEAD + b'\\"' * 500000, "  100: ", " ..\n")
         self.says("a line of escapes", at, ["assemble"], HEAD + f"nop {ESC}]0;x\x07\u202e\x9b".encode(),
                   "nop \\x1b]0;x\\x07")
@@ -183,7 +183,7 @@ class Explain(PatchedTest):
         at, line = room("explain words"), b"direct m ()V 0x9\ncode 2 0 0\n%b\nend code\nend class\n"
         for what, text, number, says_line, hint in (
             ("a register", b"move v16 v0", 102, "6: move v16 v0", "v16: v0 to v15 here; move/from16 or move/16 takes"),
-            ("a literal", b"const/4 v0 9", 102, "6: const/4 v0 9", "9: a number from -8 to 7 stands here; const/16 or"),
+            ("a literal", b"const/4 v0 9", 102, "6: const/4 v0 9", "9: a number from -8 to 7 is expected here; const/16 or"),
             ("a label", b"nop\ngoto :q", 105, "7: goto :q", ":q is no label of this code"),
             ("a register too high", b"nop\nmove v0 v3", 118, "7: move v0 v3", "v3 of 2 registers"),
             (
@@ -197,7 +197,7 @@ class Explain(PatchedTest):
             self.says(what, at, ["assemble"], given, f"refused {number} ", f"    {says_line}\n", f"  Hint: {hint}",
                       "In LA;->m()V")
         later = HEAD + b"class LA; 1\nsuper LB;\nend class\nclass LB; 1\nend class\n"
-        hint = "LB;: the superclass of LA; has to stand before it: LB; is defined after it, at line 5"
+        hint = "LB;: the superclass of LA; must be before it: LB; is defined after it, at line 5"
         self.says("a later superclass", at, ["assemble"], later, "    2: class LA; 1\n    3: super LB;\n",
                   f"  Hint: {hint}.\n")
         for number, hint in ((82, "const-string/jumbo"), (85, "goto/32"), (87, "two tries")):

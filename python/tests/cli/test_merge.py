@@ -16,7 +16,7 @@ from .support import (
 )
 
 STRANGE = r"L\u2067a\u2060;"  # it turns what follows, and has what nobody sees
-ORDER = "@ the classes that both have stand in another order\n"
+ORDER = "@ the classes of both are in a different order\n"
 
 
 def below(name: str, *above: str) -> bytes:

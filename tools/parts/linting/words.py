@@ -35,8 +35,6 @@ EXCEPTIONS = {
     "docs/READING-PROOFS.md": ("| spells |", "| stands |", "| holds, breaks |"),  # the table that defines them, for the specs
 }
 HELP, SOURCES = "crates/dexasm_plan/src/texts.rt", "python/src/dexasm/**/*.py"
-# Messages that still have such words, a line each: a line leaves with its message.
-OLD = "tools/data/old-messages.txt"
 VIEW = re.compile(r"\b(?:from|view) spelled\b")  # a name in SQL
 
 
@@ -80,11 +78,8 @@ def printed() -> Iterator[tuple[str, int, str]]:
 
 
 def private_messages() -> Iterator[str]:
-    """A line for each private word of a message, but for those that are known."""
-    known = {*read(OLD).split("\n")} if os.path.exists(OLD) else set()
-    for path, number, text in printed():
-        if " ".join(text.split()) not in known:
-            yield from (f"{path}:{number}: {word}: write {instead}" for word, instead in found_in(text))
+    """A line for each private word of a message."""
+    return (f"{path}:{number}: {word}: write {instead}" for path, number, text in printed() for word, instead in found_in(text))
 
 
 def look() -> Seen:

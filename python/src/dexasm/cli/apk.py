@@ -156,7 +156,7 @@ def main(parser: Parser) -> int:
     if args.job in ("strip", "extract") and args.folder is None:
         parser.error(f"{args.job} wants a FOLDER")
     if args.job == "check" and args.folder is not None:
-        parser.error("check takes one ARCHIVE and no FOLDER: dexasm-check looks at many")
+        parser.error("check takes one ARCHIVE and no FOLDER: dexasm-check checks many files")
     with open_archive(args.archive) as archive:
         entries = dex_entries(archive)
         if not entries and not args.allow_empty:

@@ -80,7 +80,7 @@ from dexasm.cli.terminal import StatusLine, is_colored
 if TYPE_CHECKING:
     from dexasm.cli.verdict import Verdict
 
-NOTHING = "nothing was looked at: no .dex file, archive or listing is there (--allow-empty takes that)"
+NOTHING = "no .dex files, archives or listings found (use --allow-empty to accept this)"
 FORMS: dict[str, type[Text]] = {"json": Json, "sarif": Sarif, "github": GitHub, "junit": JUnit}
 
 

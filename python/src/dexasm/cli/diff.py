@@ -149,7 +149,7 @@ def differences(old: Classes, new: Classes) -> Iterator[Part]:
             yield from ((name + part, mark, lines) for part, mark, lines in found)
     both = [name for name in new.names if name in old.names]
     if [name for name in old.names if name in new.names] != both:
-        yield "the classes that both have stand in another order", "@", ()
+        yield "the classes of both are in a different order", "@", ()
 
 
 def compare(a: str, b: str, is_short: bool, has_colors: bool) -> int:

@@ -357,7 +357,7 @@ def whole(begin: int, end: int, parts: Iterable[Piece]) -> Iterator[Piece]:
 
 
 def unchecked(begin: int, end: int) -> list[Piece]:
-    return [(begin, end, "not looked at")]
+    return [(begin, end, "not checked")]
 
 
 def unused(data: bytes, begin: int, end: int) -> str:

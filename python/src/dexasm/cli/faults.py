@@ -23,7 +23,7 @@ STANDALONE = {
     9: "the SHA-1 differs: the file was changed after it was signed, or D8 before 1.6.20 wrote it",
     100: "the line isn't of the listing's form: a character or an escape that can't be, a text that isn't closed, an "
     "unknown first word, mnemonic or keyword, or words too many or too few for the line",
-    102: "a word isn't what stands at its place in this line: a number of its range, a register, bits, bytes or, in "
+    102: "a word is not what this line needs at its place: a number in range, a register, bits, bytes or, in "
     "the first form, a target",
 }
 

@@ -12,7 +12,7 @@ from dexasm.cli.sanitize import escaped
 
 
 HEADS = (
-    (b"PK", "it is a zip archive (an .apk or a .jar): dexasm-apk looks at the .dex files in it"),
+    (b"PK", "it is a zip archive (an .apk or a .jar): dexasm-apk reads the .dex files in it"),
     (b"dey\n", "it is an .odex file, which an old Android made on the device: the .dex file has to be taken out of it"),
     (b"cdex", "it is a compact .dex file, which Android made on the device"),
     (b"\x7fELF", "it is an ELF file (an .oat, .odex or .so): the .dex file has to be taken out of it"),
@@ -63,7 +63,7 @@ def file_hints(number: int, data: bytes) -> Iterator[str]:
         yield f"it is {is_there:08x}, and that of the bytes is {zlib.adler32(data[12:]):08x}"
     elif number == 9 and len(data) >= 32:
         yield f"it is {data[12:32].hex()}, and that of the bytes is {signature_of(data).hex()}"
-        yield f"{signature_origin(data)}: `dexasm-close` computes both sums anew"
+        yield f"{signature_origin(data)}: `dexasm-close` computes both sums again"
 
 
 def summary(number: int, data: bytes) -> str | None:

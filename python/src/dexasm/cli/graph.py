@@ -3,14 +3,14 @@
 usage: dexasm-graph [--format dot|svg|json] FILE METHOD
        dexasm-graph --calls [--from METHOD|--to METHOD] [--depth N] [--format dot|svg|json] FILE
 
-The flow is the method's blocks of instructions and where each leads: `next` to the block behind, `taken` where a branch
-leads, `switch` where a payload does, by its keys, `handler` where an exception does, by its type. METHOD is a name as
-'LHello;->get(Z)I'; 'LHello;->get' does where the class has one method of that name.
+The flow is the method's blocks of instructions and the edges between them: `next` is the fall-through to the following
+block, `taken` a branch, `switch` a branch of a payload with its keys, `handler` an exception with its type. METHOD is a
+name like 'LHello;->get(Z)I', or 'LHello;->get' if the class has one method of that name.
 
---calls has each method and those that it calls, with how often; --from METHOD only those that this one leads to, --to
-METHOD only those that lead to this one, --depth N at most so many calls away. With --to METHOD may be one that the file
-does not have, by its whole name. A call leads to the method that the named class has or inherits in this file;
-what the file does not have is dashed, in JSON `outside`.
+--calls draws each method and those that it calls, with how often; --from METHOD only those that this one reaches, --to
+METHOD only those that reach this one, --depth N at most N calls away. With --to METHOD may be a whole name that the file
+does not have. The target of a call is the method that the named class has or inherits in this file; methods that the
+file does not have are dashed, in JSON `outside`.
 
 The output is in the language of graphviz unless --format is given. svg needs graphviz, which is
 given a minute. FILE may be a listing too, an archive, of which all classes*.dex are one program, or

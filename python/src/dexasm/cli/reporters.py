@@ -189,13 +189,13 @@ class GitHub(Text):
         if not verdict.entry and verdict.line is not None:
             words |= {"line": str(verdict.line)}
             words |= {"col": str(verdict.column)} if verdict.column is not None else {}
-        words["title"] = f"{verdict.number} {verdict.name}" if verdict.number else verdict.rule or "not looked at"
+        words["title"] = f"{verdict.number} {verdict.name}" if verdict.number else verdict.rule or "not checked"
         head = ",".join(f"{name}={escape_command(text)}" for name, text in words.items())
         message = escape_command(f"{name_of(verdict)}{place_of(verdict)}: {full_message(verdict)}", "%\r\n")
         return [f"{NOTICE if verdict.status in ACCEPTED else ERROR}{head}::{message}"]
 
     def nothing(self, why: str) -> list[str]:
-        return [f"{ERROR}title=not looked at::{why}"]
+        return [f"{ERROR}title=not checked::{why}"]
 
     def without_commands(self, line: str) -> str:
         # (each line of this form begins as one of the two, by what it is)
@@ -234,7 +234,7 @@ class JUnit(Text):
         return []
 
     def nothing(self, why: str) -> list[str]:
-        case = self.xml.SubElement(self.suite, "testcase", classname="dexasm-check", name="what is looked at")
+        case = self.xml.SubElement(self.suite, "testcase", classname="dexasm-check", name="input")
         self.xml.SubElement(case, "error", message=why, type="nothing")
         self.counts["tests"] += 1
         self.counts["errors"] += 1

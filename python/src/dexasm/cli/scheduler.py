@@ -89,7 +89,7 @@ class CheckClient:
             try:
                 result = self.run(path, archive, names)
             except Lost as lost:
-                end = ": nothing behind it in the archive is looked at" if lost.is_last else ""
+                end = ": the rest of the archive is not checked" if lost.is_last else ""
                 yield Verdict(path, entry, None, lost.status, why=REASONS[lost.status] + end)
                 if lost.is_last:
                     return True

@@ -90,7 +90,7 @@ class Folder:
                 return None
             except OSError as error:
                 is_link = error.errno in (errno.ELOOP, errno.ENOTDIR)
-                raise self.wrong(path, "a link or a file stands on the way" if is_link else reason(error)) from None
+                raise self.wrong(path, "the path has a link or a file in it" if is_link else reason(error)) from None
             finally:
                 os.close(at)
             at = inner

@@ -69,7 +69,7 @@ def ambiguity(archive: zipfile.ZipFile) -> str | None:
     first = file.read(len(DEX))  # (that of an archive without entries is its end record)
     if first not in ARCHIVES_BEGIN:
         what = "a .dex file" if first == DEX else "something else"
-        return f"it begins as {what}, and the archive stands behind that: who reads it from its front sees another file"
+        return f"it begins as {what}, and the archive follows it: tools that read from the front see a different file"
     size = file.seek(0, 2)
     file.seek(max(0, size - LONGEST_COMMENT - END.size - LOCATOR.size - END64.size))
     tail = file.read()

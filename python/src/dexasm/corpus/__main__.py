@@ -134,9 +134,7 @@ def main(parser: Parser) -> int:
         if args.job == "add":
             counts = add(Corpus(args.database), args)
             if not (counts.paths or counts.unread or counts.status or args.allow_empty):
-                raise CliError(
-                    "nothing was looked at: no .dex file or archive with one is there (--allow-empty takes that)"
-                )
+                raise CliError("no .dex files or archives with one found (use --allow-empty to accept this)")
             return counts.status or (REFUSED if args.strict and counts.is_bad else 0)
         return (merge if args.job == "merge" else run_query)(args)
     except WRONG as error:

@@ -230,7 +230,7 @@ def look(db: sqlite3.Connection, which: str, name: str) -> None:
         raise CliError(f"{name}: no database of dexasm-corpus")
     if version != VERSION:
         has = f"{name}: its tables are of version {version}, and those of this dexasm-corpus of version {VERSION}"
-        raise CliError(f"{has}: make it anew, by dexasm-corpus add and a new file")
+        raise CliError(f"{has}: make a new one with dexasm-corpus add")
     if {*db.execute(TABLES.format(which))} != tables():
         raise CliError(f"{name}: its tables, indexes, views and triggers aren't those of dexasm-corpus")
 

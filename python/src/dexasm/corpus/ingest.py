@@ -25,7 +25,7 @@ if TYPE_CHECKING:
     from dexasm.corpus.verify import VerifiedCorpus
 
 MANY, MUCH = 64, 16 << 20  # files and bytes of a batch
-GONE = "the scheduler is gone: the same command goes on when there is one"
+GONE = "the scheduler is gone: the same command continues when there is one"
 SOON, LATE = 30, 600  # seconds for which a scheduler and its workers are waited for, at first and when all were killed
 AGAIN = 10  # how often it goes on after workers of Dask were killed
 Jobs = list[tuple[object, ...]]

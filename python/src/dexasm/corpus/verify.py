@@ -68,6 +68,6 @@ def verify(corpus: Corpus, paths: list[str], options: Any) -> int:
         files = {sha for sha, _, _ in those}
         left = len(files - verified.files)
         status = REFUSED if left else status
-        summary = f"{len(files)} files, {len(files) - left} looked at anew"
+        summary = f"{len(files)} files, {len(files) - left} checked again"
         print(f"{escaped(path)}: {summary}, {left} not at hand: not verified, and left out")
     return status

@@ -177,7 +177,7 @@ def _order(read: Listing, one: Class, index: int) -> Iterator[Diagnostic]:
             yield Diagnostic(line, line.words[1], f"{short_name(own)} is its own {what}")
         elif places.get(name, -1) > index:
             later = f"{short_name(name)} is defined after it, at line {read.heads[places[name]]}"
-            yield Diagnostic(line, line.words[1], f"the {what} of {short_name(own)} has to stand before it: {later}")
+            yield Diagnostic(line, line.words[1], f"the {what} of {short_name(own)} must be before it: {later}")
 
 
 def _values(one: Class) -> Iterator[Diagnostic]:

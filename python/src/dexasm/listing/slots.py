@@ -62,7 +62,7 @@ def _misplaced(read: Listing, line: Line, before: Class | None) -> Diagnostic:
     """Why a line may not stand there, by what is begun before it and isn't ended."""
     word, code = line.words[0], before.members[-1].code if before and before.members else None
     if line.key == "dex":
-        why = "the first line stands once"
+        why = "the first line is repeated"
     elif read.is_first(line.number):
         why = FIRST_LINE
     elif before is None or before.end:
@@ -73,11 +73,11 @@ def _misplaced(read: Listing, line: Line, before: Class | None) -> Diagnostic:
         word = read.words(line.number)[0]
         why = f"the number before it has to be {len(code.insns)}: instructions are numbered from 0"
     elif line.key in ("catch", "catchall"):
-        why = "behind a `catchall` stands a `try` or `end code`" if code.tries else "a `try` has to stand before it"
+        why = "expected `try` or `end code` after `catchall`" if code.tries else "it needs a `try` before it"
     elif line.key in (*KEYWORDS, "end"):
         why = f"`end code` is missing before it: line {code.head.number} begins a code"
     else:
-        why = "the instructions of a code stand before its first `try`"
+        why = "instructions are not allowed after the first `try` of a code"
     return Diagnostic(line, word, why)
 
 
@@ -85,9 +85,9 @@ def _misplaced(read: Listing, line: Line, before: Class | None) -> Diagnostic:
 _IN_CLASS = {
     "class": "`end class` is missing before it: line {} begins a class",
     "end": "no code is begun that it could end",
-    "code": "it stands right behind the line of its method",
-    **dict.fromkeys(("super", "implements", "source"), "it stands before the members of its class"),
-    "": "it stands in a code: `code REGISTERS INS OUTS` begins one, right behind the line of its method",
+    "code": "it must follow the line of its method",
+    **dict.fromkeys(("super", "implements", "source"), "it must be before the members of its class"),
+    "": "it must be in a code: `code REGISTERS INS OUTS` after the line of a method begins one",
 }
 
 
@@ -150,7 +150,7 @@ def _why(line: Line, slot: Slot) -> str:
     """What the slot takes, and which instruction takes more."""
     text, (kind, size, is_signed) = slot.word.text, slot.kind
     if "," in text and text[0] != '"':
-        return "it has a comma: words stand between spaces, as in `add-int v0 v1 v2`"
+        return "it has a comma: separate words by spaces, as in `add-int v0 v1 v2`"
     if kind == "type" and _DOTTED.fullmatch(text):
         return f"it isn't a type: L{text.replace('.', '/')}; is"
     if kind in _WHAT:
@@ -159,11 +159,11 @@ def _why(line: Line, slot: Slot) -> str:
         flags = next(flag_words(" ".join(word.text for word in line.words)), None)
         numbers = _range(slot.kind)
         more = _wider(line.key) if is_signed else ""
-        return flags[1] if flags else f"a number from {numbers[0]} to {numbers[-1]} stands here{more}"
+        return flags[1] if flags else f"a number from {numbers[0]} to {numbers[-1]} is expected here{more}"
     if kind == "register":
         return f"v0 to v{_range(slot.kind)[-1]} here{_wider(line.key)}"
     if kind == "digits":
-        return f"{size} hexadecimal digits stand here"
+        return f"{size} hexadecimal digits are expected here"
     return "a target is @ and the number of an instruction" if kind == "@" else "two hexadecimal digits for each byte"
 
 
@@ -178,7 +178,7 @@ def _wider(mnemonic: str) -> str:
 def _duplicate(line: Line, before: Class) -> Diagnostic | None:
     """What was said before; a label may be another code's too."""
     if line.key[:1] == ":":
-        return Diagnostic(line, line.words[0], "the label stands in this code already")
+        return Diagnostic(line, line.words[0], "the code has this label already")
     own = _unique_key(line)
     for other in (*before.above, *(member.line for member in before.members)):
         if _unique_key(other) == own:

@@ -85,7 +85,7 @@ def common_mistakes(text: str, is_first: bool) -> Iterator[tuple[int, str]]:
         return
     begin, end = int(text.startswith("\ufeff")), len(text) - text.endswith("\r")
     if begin:
-        yield 0, "a byte order mark (ef bb bf) stands at the begin of the line: save the text without one"
+        yield 0, "the line begins with a byte order mark (ef bb bf): save the text without one"
     if end < len(text):
         yield end, "the line ends in a carriage return (CRLF): a listing has line feeds alone (dos2unix, or sed 's/\\r$//')"
     text = text[begin:end]
@@ -97,18 +97,18 @@ def common_mistakes(text: str, is_first: bool) -> Iterator[tuple[int, str]]:
 def _characters(bare: str, text: str) -> Iterator[tuple[int, str]]:
     if "\t" in bare:
         at = bare.index("\t")
-        yield at, f"a tab stands at column {at + 1}: words stand between spaces"
+        yield at, f"there is a tab at column {at + 1}: separate words by spaces"
     if other := re.search(r"[^\t -~]", text):
         digits = other[0].encode("utf8", "surrogateescape").hex(" ")
         which = ("the bytes {} at column {} are" if " " in digits else "the byte {} at column {} is").format
         yield other.start(), f"{which(digits, other.start() + 1)} none of a listing: write it as \\uXXXX"
     comment = re.search(r"(?<=[^ ] )//|(?<!^)#", bare.replace("\t", " "))
     if comment and bare[: comment.start()].strip(" "):
-        yield comment.start(), "a comment stands on a line of its own: none may follow other words"
+        yield comment.start(), "a comment needs its own line: it cannot follow other words"
     yield from _texts(bare, text)
     if "," in bare:
         at = bare.index(",")
-        yield at, f"a comma stands at column {at + 1}: words stand between spaces, as in `add-int v0 v1 v2`"
+        yield at, f"there is a comma at column {at + 1}: separate words by spaces, as in `add-int v0 v1 v2`"
 
 
 def _texts(bare: str, text: str) -> Iterator[tuple[int, str]]:
@@ -182,7 +182,7 @@ def _of_first_form(key: str) -> str:
     if key[:1] == ":":
         return "labels are of the form that begins with `dex 035 listing 2`"
     if key[-1:] == ":":
-        return "in the form that begins with `dex 035` a number stands before the colon"
+        return "in the form that begins with `dex 035` the word before the colon is a number"
     return f"in the form that begins with `dex 035` each instruction has its number before it: `0: {key}`"
 
 
@@ -213,7 +213,7 @@ def _keyword(first: Word, words: list[Word]) -> Found:
         words = words[:at]
     elif key == "static" and len(words) > 3 and _fits("FLAGS", words[2]):
         is_value = words[3].text in (*VALUES, "array", *CONSTANTS)
-        return words[3], "`=` is missing before a value" if is_value else "behind flags stands `= VALUE` alone"
+        return words[3], "`=` is missing before a value" if is_value else "only `= VALUE` may follow the flags"
     return _compared(takes(key, wanted), first, words, wanted)
 
 
@@ -225,7 +225,7 @@ def _value(before: Word, words: list[Word]) -> Found:
     depth, is_whole, rest = 0, False, iter(words)
     for word in rest:
         if is_whole:
-            return word, "one value and no more stands behind `=`"
+            return word, "expected a single value after `=`"
         before, text = word, word.text
         if text == "}" and depth:
             depth -= 1
@@ -237,7 +237,7 @@ def _value(before: Word, words: list[Word]) -> Found:
             operand = next(rest, None)
             if operand is None or (operand.text[:1] == '"') != (text == "string"):
                 meant = quoted(operand.text) if operand and text == "string" else None
-                return operand or word, meant or f"behind `{text}` stands {OPERANDS.get(text, 'a number')}"
+                return operand or word, meant or f"expected {OPERANDS.get(text, 'a number')} after `{text}`"
             before = operand
         elif text not in CONSTANTS:
             return word, _without_kind(text)
@@ -336,7 +336,7 @@ def _call(usage: str, first: Word, words: list[Word], wanted: list[str]) -> Foun
         why = f"{end - 1} registers: {first.text}/range takes more than {MOST_LISTED}"
         return words[1 + MOST_LISTED], why
     if text := next((word for word in words[1:end] if word.text[:1] == '"'), None):
-        return text, "a register stands here, and no text"
+        return text, "expected a register, not a text"
     behind = words[end + 1 :]
     wrong, _ = _compared(usage, words[end], behind, wanted[1:])
     return wrong, f"{usage}: {plural(len(behind), 'word')} behind the braces"
@@ -359,9 +359,9 @@ def _compared(usage: str, first: Word, words: list[Word], wanted: list[str]) -> 
     """The word that is one too few or too many, or of another kind."""
     for word, kind in zip(words, wanted):
         if kind == "TEXT" and word.text[:1] != '"':
-            return word, f"{quoted(word.text) or 'a text in quotes stands here'}: {usage}"
+            return word, f"{quoted(word.text) or 'expected a text in quotes'}: {usage}"
         if kind != "TEXT" and word.text[:1] == '"':
-            return word, f"{kind} stands here, and no text: {usage}"
+            return word, f"{kind} is expected here, not a text: {usage}"
     at = next((at for at, (word, kind) in enumerate(zip(words, wanted)) if not _fits(kind, word)), len(words))
     here = f"{usage}: {plural(len(words), 'word')} here"
     if len(words) < len(wanted):

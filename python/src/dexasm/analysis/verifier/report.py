@@ -27,7 +27,7 @@ if TYPE_CHECKING:
     from dexasm.program import Program
 
 UNREAD = "unread"  # in place of a rule: the method wasn't looked at to its end
-TOO_MUCH = "it has too many registers and ways to be looked at"
+TOO_MUCH = "it has too many registers and paths to be checked"
 MARKED = re.compile(r"`(=?)([^`]*)`")
 
 

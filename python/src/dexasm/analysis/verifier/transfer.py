@@ -133,7 +133,7 @@ def move_result(method: Method, insn: Insn, line: RegisterLine, place: int) -> N
     ending = insn.mnemonic[len("move-result") :]
     answered = method.result_type(place)
     if answered is None:
-        text = f"{insn.mnemonic} stands alone: it has to be right behind the call whose answer it takes"
+        text = f"{insn.mnemonic} is not after a call: it must follow the call whose result it takes"
         method.report(place, "result-place", text)
     elif answered[0] not in ANSWERS[ending]:
         text = "answers nothing" if answered == "V" else f"answers `{answered}`"
@@ -251,7 +251,7 @@ def if_zero(method: Method, insn: Insn, line: RegisterLine, place: int) -> None:
 
 
 def payload(method: Method, insn: Insn, line: RegisterLine, place: int) -> None:
-    text = "the flow runs into this payload: a goto or a return has to stand before it"
+    text = "the flow runs into this payload: put a goto or a return before it"
     method.report(place, "payload-reached", text)
 
 
