@@ -1,5 +1,5 @@
 -- Where a code is spelled, no rule is broken.
-use Rattle.std.proofs.Common.{◌≡◌, ℕ, ◌+◌, ◌-◌, ◌<◌, ◌*◌, ◌++◌, List, length, drop, refl, sym, ◌∙◌, subst, arith, zero, suc, inl, inr}
+use Rattle.std.proofs.Common.{◌≡◌, ℕ, ◌+◌, ◌-◌, ◌<◌, ◌≤◌, ◌*◌, ◌%◌, ◌++◌, List, length, drop, refl, ap, sym, ◌∙◌, subst, arith, zero, suc, inl, inr}
 use Rattle.dex_base.specs.declared.fault.Fault.{Fault}
 use Rattle.dex_base.proofs.FirstFaultLaws.{else_clear, later_clear, broken_clear}
 use Rattle.dex_insn.specs.Raw.{Raw}
@@ -33,6 +33,14 @@ pub units-even : (bytes : List ℕ) → HasFixedParts bytes → length (insns_by
 units-even bytes w =
     let late = begins_late bytes in let l = w.fixed in
     slice-length bytes 16 (units_end bytes) (omega arith) (omega arith) ∙ (let z : units_end bytes - 16 ≡ 2 * insns_size bytes = omega arith in z)
+
+-- what is asked of the units before they are read
+pub units-asked : (bytes us : List ℕ) → HasFixedParts bytes → us ≡ insns_bytes bytes → length bytes < 4294967296 → (length us % 2 ≡ 0) × (length us ≤ 8589934590)
+units-asked bytes us w are short =
+    let e : length us ≡ 2 * insns_size bytes = ap length are ∙ units-even bytes w in
+    let late = begins_late bytes in
+    let l = w.fixed in
+    (omega arith, omega arith)
 
 pub item-clear : (N : ℕ → Name → Type 0) → IsFunctional N → (off : ℕ) (bytes rest : List ℕ) (c : Code) (fault : Fault) → ReadCode N bytes rest c → ItemBreaks N off bytes fault → ⊥
 item-clear N one off bytes rest c fault r = else_clear r.whole (else_clear r.some (λ u. elim u [

@@ -14,6 +14,7 @@ use Rattle.code_read.specs.Item.{registers_of, ins_of, outs_of, tries_of, insns_
 use Rattle.code_read.specs.Linked.{SpellsInsns}
 use Rattle.code_read.specs.Tries.{SpellsTries}
 use Rattle.code_read.specs.Code.{SpellsBody}
+use Rattle.code_read.specs.inner.ItemChecking.{code_with}
 use Rattle.code_read.specs.inner.ItemReading.{ReadTries, IsCodeItem}
 use Rattle.code_read.specs.declared.item.Item.{Item}
 use Rattle.code_read.proofs.InsnsOnce.{walks-one, insns-one}
@@ -134,9 +135,6 @@ takes-from_read N bytes rest c r =
     record { front = f; whole = e; spelled = read-to_front N f rest c h l q }
 
 -- ---- what the stages of reading give together
-
-abbrev pub code_with : Item → List Insn → List Try → Code
-code_with i is ts = record { registers = i.registers; ins = i.ins; outs = i.outs; insns = is; tries = ts }
 
 pub item-read : (N : ℕ → Name → Type 0) (bytes begins : List ℕ) (i : Item) (is : List Insn) (ts : List Try) → IsCodeItem bytes i → i.size ≢ 0
     → ReadInsns N i.units.now begins is → ReadTries N begins i.size i.tries i.items.now i.list.now ts → (rest : List ℕ) × Takes (SpellsBody N) bytes (code_with i is ts) rest

@@ -1,7 +1,6 @@
 -- Codes that have nothing to do with payloads: the rules of payloads and switches hold in them, and so do those of branches.
-use Rattle.std.proofs.Common.{◌≡◌, ℕ, ℤ, ◌+◌, ◌<◌, ◌≤◌, ◌/◌, List, [], ◌∷◌, ◌++◌, length, take, get_or, refl, ap, sym, ◌∙◌, arith, Option, None, subst, false, true, nat_eq, inl, inr}
+use Rattle.std.proofs.Common.{◌≡◌, ℕ, ℤ, ◌+◌, ◌<◌, ◌≤◌, ◌/◌, List, [], ◌∷◌, ◌++◌, length, take, get_or, refl, ap, sym, ◌∙◌, arith, Option, None, subst, false, true, inl, inr}
 use Rattle.std.proofs.lemmas.Bool.{cases_lt}
-use Rattle.std.proofs.lemmas.Bool.Decides.{nat_tests}
 use Rattle.std.proofs.lemmas.List.{get_or_append_left, take_more, take_all, length_push}
 use Rattle.std.proofs.Math.Seq.{get_or-append_seam}
 use Rattle.dex_insn.specs.Raw as raw
@@ -77,9 +76,6 @@ module _ (N : ℕ → Name → Type 0) (rs : List Raw) (is : List Insn) (s : Sai
           used = λ h. absurd (subst IsSwitch (no-payload k m) h);
         };
   }
-
-pub equal : (a b : ℕ) → nat_eq a b ≡ true → a ≡ b
-equal a b e = grind (arith, nat_tests)
 
 -- ---- one more
 

@@ -3,7 +3,6 @@ pub mod ByAddress
 pub mod FileCodes
 pub mod HandlerViews
 pub mod Handlers
-pub mod InsnChecking
 pub mod InsnReading
 pub mod ItemChecking
 pub mod ItemReading

@@ -1,6 +1,6 @@
 //! The instructions of a code, stage by stage.
 
-ghost use Rattle.std.specs.Prelude.{◌≡◌, ◌≢◌, ◌^◌, ◌<◌, ◌≤◌, ◌%◌, ◌+◌, ◌*◌, length, map, slice_index, None, IfOk, IfErr, IfNone, IfSome, OnOk};
+ghost use Rattle.std.specs.Prelude.{◌≡◌, ◌≢◌, ◌^◌, ◌<◌, ◌≤◌, ◌%◌, ◌+◌, ◌*◌, length, map, slice_index, IfOk, IfErr, IfNone, IfSome, OnOk};
 ghost use Rattle.dex_base.specs.Fault.{memory};
 ghost use Rattle.program_types.specs.Sizes.{addresses_of};
 ghost use Rattle.program_types.specs.View.{insn};
@@ -14,15 +14,14 @@ ghost use Rattle.code_read.specs.Symbols.{Says};
 ghost use Rattle.code_read.specs.Linked.{lead, NameHolds, AreLinked, KeepRules};
 ghost use Rattle.code_read.specs.InsnFaults.{NamesBreak, LinkedBreak, InsnsBreak};
 ghost use Rattle.code_read.specs.Registers.{AmongAt, IsPast};
-ghost use Rattle.code_read.specs.inner.InsnReading.{IsHalfLinked, AreHalfLinked, ReadInsns};
-ghost use Rattle.code_read.specs.inner.Plain.{ArePlain};
+ghost use Rattle.code_read.specs.inner.InsnReading.{IsHalfLinked, AreHalfLinked, AreRead};
 
+use crate::keeping::Keep;
 use crate::plain::{insns_at, starts_of};
 use crate::symbols::link;
 use crate::targets::{empty_payload, is_payload, link_payload};
 use crate::walking::walk;
 use bumpalo::Bump;
-use bumpalo::collections::into_bump_slice;
 use code_rules::{
     branch_lands, first_bad_branch, first_bad_switch, first_bad_use, first_past, origins_of,
 };
@@ -32,10 +31,10 @@ use program_types::Insn;
 use std::alloc::{AllocError, Global};
 use tables_rows::Tables;
 
-/// The instructions of a code, and the unit at which each begins.
+/// What is kept of the instructions of a code, and the unit at which each begins.
 #[derive(Drop)]
-pub(crate) struct Insns<'a> {
-    pub insns: &'a [Insn<'a>],
+pub(crate) struct Insns<I> {
+    pub insns: I,
     pub starts: Vec<u32>,
     /// The unit at which the first instruction begins that names a register past those of the code.
     pub past: Option<u32>,
@@ -123,16 +122,16 @@ fn link_walked<'a>(
     insns: &[RawInsn<'_>],
     starts: &[u32],
     base: u64,
-) -> Result<&'a [Insn<'a>], Fault>
+) -> Result<Vec<Insn<'a>, &'a Bump>, Fault>
     requires table { IsTable starts.now (map raw insns.now) }
     requires base { base < 2 ^ 40 }
-    ensures ok { IfOk result (λ found. AreLinked (NameIsAt tables.now) (map raw insns.now) (map insn found.now)) }
+    ensures ok { IfOk result (λ found. AreLinked (NameIsAt tables.now) (map raw insns.now) (map insn found.items)) }
     ensures err { IfErr result (λ e. e ≢ memory → NamesBreak (NameIsAt tables.now) (map raw insns.now) starts.now base e) }
 {
     let mut found = half_link(arena, tables, insns, starts, base)?;
     let origins = origins_of(alloc, &found)?;
     link_payloads(arena, tables, &mut found, insns, starts, &origins)?;
-    Ok(into_bump_slice(found))
+    Ok(found)
 }
 
 /// The first of the rules of branches, payloads and switches that a linked instruction breaks.
@@ -160,21 +159,21 @@ fn check_linked(alloc: Global, insns: &[Insn<'_>], starts: &[u32], base: u64) ->
 }
 
 /// The instructions of a code that has nothing to do with payloads; none where one of them breaks a rule, also that of registers.
-fn read_plain<'a>(
+fn read_plain<'a, K: Keep<'a>>(
     alloc: Global,
     arena: &'a Bump,
     tables: &Tables<'a>,
     units: &[u8],
     registers: u16,
-) -> Result<Option<Insns<'a>>, AllocError>
+) -> Result<Option<Insns<K::Insns>>, AllocError>
     requires even { length units.now % 2 ≡ 0 }
     requires short { length units.now ≤ 8589934590 }
-    ensures ok { IfOk result (λ o. IfSome o (λ i. ArePlain (NameIsAt tables.now) units.now i.starts.items registers (map insn i.insns.now) × (i.past ≡ None))) }
+    ensures ok { IfOk result (λ o. IfSome o (λ i. AreRead K.insns (NameIsAt tables.now) units.now registers i)) }
 {
     let Some(starts) = starts_of(alloc, units)? else {
         return Ok(None);
     };
-    match insns_at(arena, tables, &starts, units, registers)? {
+    match insns_at::<K>(arena, tables, &starts, units, registers)? {
         Some(insns) => Ok(Some(Insns {
             insns,
             starts,
@@ -196,31 +195,29 @@ fn past_registers(insns: &[Insn<'_>], starts: &[u32], count: u16) -> Option<u32>
 
 /// Reads the instructions of a code with so many registers, whose first unit is at byte `base`: in one walk if there are no payloads and
 /// no rule is violated; otherwise they are linked in turn, which finds the rule.
-pub(crate) fn read_insns<'a>(
+pub(crate) fn read_insns<'a, K: Keep<'a>>(
     alloc: Global,
     arena: &'a Bump,
     tables: &Tables<'a>,
     units: &[u8],
     base: u64,
     registers: u16,
-) -> Result<Insns<'a>, Fault>
+) -> Result<Insns<K::Insns>, Fault>
     requires even { length units.now % 2 ≡ 0 }
     requires short { length units.now ≤ 8589934590 }
     requires base { base < 2 ^ 40 }
-    ensures ok { IfOk result (λ i. ReadInsns (NameIsAt tables.now) units.now i.starts.items (map insn i.insns.now)) }
-    ensures among { IfOk result (λ i. IfNone i.past (AllHold (AmongAt registers (map insn i.insns.now)) (length (map insn i.insns.now)))) }
-    ensures past { IfOk result (λ i. IfSome i.past (IsPast registers (map insn i.insns.now))) }
+    ensures ok { IfOk result (λ i. AreRead K.insns (NameIsAt tables.now) units.now registers i) }
     ensures err { IfErr result (λ e. e ≢ memory → InsnsBreak (NameIsAt tables.now) units.now base e) }
 {
-    if let Some(found) = read_plain(alloc, arena, tables, units, registers)? {
+    if let Some(found) = read_plain::<K>(alloc, arena, tables, units, registers)? {
         return Ok(found);
     }
     let walked = walk(alloc, units, base)?;
     let insns = link_walked(alloc, arena, tables, &walked.insns, &walked.starts, base)?;
-    check_linked(alloc, insns, &walked.starts, base)?;
-    let past = past_registers(insns, &walked.starts, registers);
+    check_linked(alloc, &insns, &walked.starts, base)?;
+    let past = past_registers(&insns, &walked.starts, registers);
     Ok(Insns {
-        insns,
+        insns: K::keep_insns(insns),
         starts: walked.starts,
         past,
     })

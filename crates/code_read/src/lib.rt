@@ -22,7 +22,6 @@ mod symbols;
 mod targets;
 
 // All instructions of a code: looked at, read, and what holds of them.
-mod checking;
 mod insn_laws;
 mod insns;
 mod looking;
@@ -32,12 +31,12 @@ mod handlers;
 mod item;
 mod tries;
 
-// A whole code item: read or looked at, what holds of it, and of all that a file has.
+// A whole code item: kept, or only looked at, what holds of it, and of all that a file has.
 mod file_laws;
 mod item_laws;
+mod keeping;
 mod reading;
 
-pub use checking::Checked;
 pub use file_laws::{
     codes_are_decided, codes_carry_over, names_of_codes_have_rows, no_code_stands_at_zero,
     standing_codes_are_formed,

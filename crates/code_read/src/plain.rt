@@ -1,6 +1,7 @@
 //! The instructions of a code that has nothing to do with payloads, as nearly all have none: each is read and resolved at once.
 
-ghost use Rattle.std.specs.Prelude.{◌≡◌, ◌<◌, ◌≤◌, ◌%◌, length, map, IfOk, IfSome, IsTrue};
+ghost use Rattle.std.specs.Prelude.{◌≡◌, ◌<◌, ◌≤◌, ◌%◌, List, length, IfOk, IfSome};
+ghost use Rattle.program_types.specs.Content as content;
 ghost use Rattle.program_types.specs.View.{insn};
 ghost use Rattle.tables_rows.specs.Names.{NameIsAt};
 ghost use Rattle.dex_insn.specs.Raw as spelled;
@@ -9,10 +10,10 @@ ghost use Rattle.dex_insn.specs.RawInsns.{InsnStands};
 ghost use Rattle.code_read.specs.Places.{Rises};
 ghost use Rattle.code_read.specs.inner.Plain.{is_plain, SaysAtOnce, ArePlain};
 
+use crate::keeping::Keep;
 use crate::symbols::link;
 use crate::walking::MOST_AT_ONCE;
 use bumpalo::Bump;
-use bumpalo::collections::into_bump_slice;
 use code_rules::{branch_stays, insn_is_among};
 use dex_insn::{Format, RawInsn, Take, format_of, size_of, take_insn};
 use program_types::Insn;
@@ -134,20 +135,20 @@ pub(crate) fn starts_of(alloc: Global, units: &[u8]) -> Result<Option<Vec<u32>>,
     Ok(Some(starts))
 }
 
-/// All instructions, where they begin at these units; none where they don't, and where one breaks a rule.
-pub(crate) fn insns_at<'a>(
+/// What is kept of all instructions, where they begin at these units; none where they don't, and where one breaks a rule.
+pub(crate) fn insns_at<'a, K: Keep<'a>>(
     arena: &'a Bump,
     tables: &Tables<'a>,
     starts: &[u32],
     units: &[u8],
     registers: u16,
-) -> Result<Option<&'a [Insn<'a>]>, AllocError>
+) -> Result<Option<K::Insns>, AllocError>
     requires even { length units.now % 2 ≡ 0 }
     requires short { length units.now ≤ 8589934590 }
     requires rises { Rises starts.now × (length starts.now ≤ 4294967295) }
-    ensures ok { IfOk result (λ o. IfSome o (λ is. ArePlain (NameIsAt tables.now) units.now starts.now registers (map insn is.now))) }
+    ensures ok { IfOk result (λ o. IfSome o (λ all. (is : List content.Insn) × ArePlain (NameIsAt tables.now) units.now starts.now registers is × K.insns all is)) }
 {
-    let mut found = Vec::with_capacity(arena, starts.len())?;
+    let mut found = K::none(arena, starts.len())?;
     let mut at: u64 = 0;
     for k in 0..starts.len() {
         let start = starts[k];
@@ -157,32 +158,11 @@ pub(crate) fn insns_at<'a>(
         let Some(seen) = insn_at(tables, starts, start, k, units, registers) else {
             return Ok(None);
         };
-        found.push(seen.insn)?;
+        K::add(&mut found, &seen.insn)?;
         at += seen.units;
     }
     if at != units.len() as u64 / 2 {
         return Ok(None);
     }
-    Ok(Some(into_bump_slice(found)))
-}
-
-/// Whether instructions that violate no rule begin at these units, as `insns_at` returns them.
-pub(crate) fn are_plain(tables: &Tables<'_>, starts: &[u32], units: &[u8], registers: u16) -> bool
-    requires even { length units.now % 2 ≡ 0 }
-    requires short { length units.now ≤ 8589934590 }
-    requires rises { Rises starts.now × (length starts.now ≤ 4294967295) }
-    ensures { IsTrue result → (is : _) × ArePlain (NameIsAt tables.now) units.now starts.now registers is }
-{
-    let mut at: u64 = 0;
-    for k in 0..starts.len() {
-        let start = starts[k];
-        if u64::from(start) != at {
-            return false;
-        }
-        let Some(seen) = insn_at(tables, starts, start, k, units, registers) else {
-            return false;
-        };
-        at += seen.units;
-    }
-    at == units.len() as u64 / 2
+    Ok(Some(found))
 }

@@ -1,28 +1,24 @@
 //! Reading a code item.
 
-ghost use Rattle.std.specs.Prelude.{◌≡◌, ◌≢◌, ℕ, ◌≤◌, ◌<◌, ◌+◌, ◌*◌, ◌%◌, ◌^◌, ◌⊎◌, IsTrue, length, map, IfOk, IfErr, IfSome, IfNone, Some, None};
+ghost use Rattle.std.specs.Prelude.{◌≡◌, ◌≢◌, ℕ, ◌≤◌, ◌<◌, ◌+◌, ◌*◌, ◌⊎◌, length, IfOk, IfErr, IfSome, IfNone, Some, None};
 ghost use Rattle.dex_base.specs.Fault.{memory};
 ghost use Rattle.program_types.specs.Content as content;
-ghost use Rattle.program_types.specs.View.{code, insn, try};
+ghost use Rattle.program_types.specs.View.{code};
 ghost use Rattle.tables_rows.specs.Names.{NameIsAt};
 ghost use Rattle.program_types.specs.Formed.{RegistersHold};
-ghost use Rattle.code_read.specs.inner.InsnChecking.{AreChecked};
-ghost use Rattle.code_read.specs.InsnFaults.{InsnsBreak};
-ghost use Rattle.code_read.specs.inner.Plain.{ArePlain};
 ghost use Rattle.code_read.specs.inner.ItemChecking.{HoldsItem, HoldsBody};
 ghost use Rattle.code_read.specs.Code.{BodyStands, CodeStands};
 ghost use Rattle.code_read.specs.Faults.{ItemBreaks, CodeBreaks, RegistersBreak, CodeOverruns};
 
-use crate::checking::check_insns;
-use crate::insns::{Insns, read_insns};
-use crate::item::{Item, item_of};
-use crate::looking::are_clear;
+use crate::insns::read_insns;
+use crate::item::item_of;
+use crate::keeping::{InArena, Keep, Nothing};
 use crate::tries::read_tries;
 use bumpalo::Bump;
 use dex_base::{Fault, fault};
 use dex_container::{Sections, bytes_from, section_of};
-use program_types::{Code, Insn, Try};
-use std::alloc::{AllocError, Global};
+use program_types::Code;
+use std::alloc::Global;
 use tables_rows::Tables;
 
 /// The kind of the section of code items (TYPE_CODE_ITEM).
@@ -51,74 +47,17 @@ fn register_fault(off: u32, registers: u16, ins: u16, past: Option<u32>) -> Opti
     }
 }
 
-/// The instructions of an item: read into the arena, or only checked, and then none are returned.
+/// What is kept of the item at the front of these bytes, which go to the section's end, and the fault of its registers.
 #[inline(always)]
-fn insns_of<'a>(
-    alloc: Global,
-    arena: &'a Bump,
-    tables: &Tables<'a>,
-    item: &Item<'_>,
-    base: u64,
-    keep: bool,
-) -> Result<Insns<'a>, Fault>
-    requires even { length item.now.units.now % 2 ≡ 0 }
-    requires short { length item.now.units.now ≤ 8589934590 }
-    requires base { base < 2 ^ 40 }
-    ensures ok { IfOk result (λ i. (found : AreChecked (NameIsAt tables.now) item.now.units.now i.starts.items item.now.registers i.past)
-        × (IsTrue keep → map insn i.insns.now ≡ found.insns)) }
-    ensures err { IfErr result (λ e. e ≢ memory → InsnsBreak (NameIsAt tables.now) item.now.units.now base e) }
-{
-    if keep {
-        let read = read_insns(alloc, arena, tables, item.units, base, item.registers)?;
-        return Ok(read);
-    }
-    let found = check_insns(alloc, arena, tables, item.units, base, item.registers)?;
-    Ok(Insns {
-        insns: &[],
-        starts: found.starts,
-        past: found.past,
-    })
-}
-
-/// The code of an item with these instructions and tries.
-#[inline(always)]
-fn code_of<'a>(item: &Item<'_>, insns: &'a [Insn<'a>], tries: &'a [Try<'a>]) -> Code<'a>
-    ensures { code result ≡ record { registers = item.now.registers; ins = item.now.ins; outs = item.now.outs; insns = map insn insns.now; tries = map try tries.now } }
-{
-    Code {
-        registers: item.registers,
-        ins: item.ins,
-        outs: item.outs,
-        insns,
-        tries,
-    }
-}
-
-/// Whether only the ins of an item are left to be checked: it has no tries, and its instructions violate no rule.
-fn is_clear(arena: &Bump, tables: &Tables<'_>, item: &Item<'_>) -> Result<bool, AllocError>
-    requires even { length item.now.units.now % 2 ≡ 0 }
-    requires short { length item.now.units.now ≤ 8589934590 }
-    ensures ok { IfOk result (λ clear. IsTrue clear → (item.now.tries ≡ 0)
-        × ((begins : _) × (is : _) × ArePlain (NameIsAt tables.now) item.now.units.now begins item.now.registers is)) }
-{
-    if item.tries != 0 {
-        return Ok(false);
-    }
-    are_clear(arena, tables, item.units, item.registers)
-}
-
-/// Reads the item at the front of these bytes, which go to the section's end. Its instructions are left out unless they are to be kept.
-#[inline(always)]
-fn read_item<'a>(
+fn read_item<'a, K: Keep<'a>>(
     alloc: Global,
     arena: &'a Bump,
     tables: &Tables<'a>,
     off: u32,
     bytes: &[u8],
-    keep: bool,
-) -> Result<Body<'a>, Fault>
+) -> Result<(K::Code, Option<Fault>), Fault>
     requires { length bytes.now < 4294967296 }
-    ensures ok { IfOk result (λ x. (found : HoldsItem (NameIsAt tables.now) off bytes.now x.past) × (IsTrue keep → code x.code ≡ found.code)) }
+    ensures ok { IfOk result (λ x. (found : HoldsItem (NameIsAt tables.now) off bytes.now x.1) × K.code x.0 found.code) }
     ensures err { IfErr result (λ e. e ≢ memory → ItemBreaks (NameIsAt tables.now) off bytes.now e) }
 {
     let Some(item) = item_of(bytes) else {
@@ -127,40 +66,29 @@ fn read_item<'a>(
     if item.size == 0 {
         return Err(Fault::at(fault::EMPTY_CODE, u64::from(off)));
     }
-    if !keep && is_clear(arena, tables, &item)? {
-        return Ok(Body {
-            code: code_of(&item, &[], &[]),
-            past: register_fault(off, item.registers, item.ins, None),
-        });
+    if let Some(insns) = K::clear_insns(arena, tables, &item)? {
+        let past = register_fault(off, item.registers, item.ins, None);
+        return Ok((K::keep_code(&item, insns, &[]), past));
     }
-    let insns = insns_of(alloc, arena, tables, &item, u64::from(off) + 16, keep)?;
-    let tries = read_tries(
-        alloc,
-        arena,
-        tables,
-        &insns.starts,
-        &item,
-        u64::from(off) + item.items_at,
-    )?;
-    Ok(Body {
-        code: code_of(&item, insns.insns, tries),
-        past: register_fault(off, item.registers, item.ins, insns.past),
-    })
+    let base = u64::from(off) + 16;
+    let found = read_insns::<K>(alloc, arena, tables, item.units, base, item.registers)?;
+    let base = u64::from(off) + item.items_at;
+    let tries = read_tries(alloc, arena, tables, &found.starts, &item, base)?;
+    let past = register_fault(off, item.registers, item.ins, found.past);
+    Ok((K::keep_code(&item, found.insns, tries), past))
 }
 
-/// The code item at this byte offset of the file. Its instructions are left out unless they are to be kept.
+/// What is kept of the code item at this byte offset of the file, and the fault of its registers.
 #[inline(always)]
-fn body_at<'a>(
+fn body_at<'a, K: Keep<'a>>(
     alloc: Global,
     arena: &'a Bump,
     tables: &Tables<'a>,
     sections: &Sections<'_>,
     off: u32,
-    keep: bool,
-) -> Result<Body<'a>, Fault>
-    ensures ok { IfOk result (λ x. (found : HoldsBody (NameIsAt tables.now) sections.now off x.past) × (IsTrue keep → code x.code ≡ found.code)) }
-    ensures only { IfOk result (λ x. IsTrue keep → (d : content.Code) →
-        BodyStands (NameIsAt tables.now) sections.now off d → d ≡ code x.code) }
+) -> Result<(K::Code, Option<Fault>), Fault>
+    ensures ok { IfOk result (λ x. (found : HoldsBody (NameIsAt tables.now) sections.now off x.1) × K.code x.0 found.code) }
+    ensures only { IfOk result (λ x. (d : content.Code) → BodyStands (NameIsAt tables.now) sections.now off d → K.code x.0 d) }
     ensures broken { IfErr result (λ e. e ≢ memory → CodeBreaks (NameIsAt tables.now) sections.now off e) }
     ensures refused { IfErr result (λ e. e ≢ memory →
         (c : content.Code) → ¬ BodyStands (NameIsAt tables.now) sections.now off c) }
@@ -172,7 +100,7 @@ fn body_at<'a>(
     let Some(bytes) = bytes_from(sections, CODE_ITEMS, section, off) else {
         return Err(Fault::at(fault::CODE_PLACE, u64::from(off)));
     };
-    read_item(alloc, arena, tables, off, bytes, keep)
+    read_item::<K>(alloc, arena, tables, off, bytes)
 }
 
 /// Returns the code of the code item at this byte offset of the file, and the fault of its registers, if there is one: a caller that
@@ -193,7 +121,8 @@ pub fn read_body<'a>(
     ensures refused { IfErr result (λ e. e ≢ memory →
         (c : content.Code) → ¬ BodyStands (NameIsAt tables.now) sections.now off c) }
 {
-    body_at(alloc, arena, tables, sections, off, true)
+    let (code, past) = body_at::<InArena>(alloc, arena, tables, sections, off)?;
+    Ok(Body { code, past })
 }
 
 /// Returns the fault of the registers of the code item at this byte offset of the file, if there is one. It refuses what `read_body`
@@ -210,8 +139,8 @@ pub fn check_body(
     ensures refused { IfErr result (λ e. e ≢ memory →
         (c : content.Code) → ¬ BodyStands (NameIsAt tables.now) sections.now off c) }
 {
-    let body = body_at(alloc, arena, tables, sections, off, false)?;
-    Ok(body.past)
+    let (_, past) = body_at::<Nothing>(alloc, arena, tables, sections, off)?;
+    Ok(past)
 }
 
 /// Returns the code of the code item at this byte offset of the file. Its registers are checked last (73). No code is at

@@ -1,6 +1,5 @@
-use Rattle.std.proofs.Common.{refl, sym, subst}
 use Rattle.std.specs.Prelude.{IfNone, IfSome}
-use Rattle.std.proofs.lemmas.Result.{IfOk-weaker}
+use Rattle.std.proofs.Common.{subst}
 use Rattle.program_types.specs.Content.{Code}
 use Rattle.program_types.specs.Formed.{RegistersHold}
 use Rattle.tables_rows.specs.Names.{NameIsAt}
@@ -10,15 +9,18 @@ use Rattle.code_read.proofs.reading.read_body.Goals as goal
 
 pub returns-clause-ok : goal.returns-clause-ok
 returns-clause-ok c =
-    IfOk-weaker c.body_at.result _ _ (λ x t. subst (BodyStands (NameIsAt c.args.tables.now) c.args.sections.now c.args.off) (sym (t.1 refl)) t.0.stands) c.body_at.ensures.ok
+    let t = c.in_ok-code.ensures.ok in
+    subst (BodyStands (NameIsAt c.args.tables.now) c.args.sections.now c.args.off) t.1 t.0.stands
 
 pub returns-clause-named : goal.returns-clause-named
 returns-clause-named c =
-    IfOk-weaker c.body_at.result _ _ (λ x t. subst (λ (z : Code). IfNone x.past (RegistersHold z)) (sym (t.1 refl)) t.0.named) c.body_at.ensures.ok
+    let t = c.in_ok-code.ensures.ok in
+    subst (λ (z : Code). IfNone c.in_ok-code.past (RegistersHold z)) t.1 t.0.named
 
 pub returns-clause-past : goal.returns-clause-past
 returns-clause-past c =
-    IfOk-weaker c.body_at.result _ _ (λ x t. subst (λ (z : Code). IfSome x.past (RegistersBreak c.args.off z)) (sym (t.1 refl)) t.0.breaks) c.body_at.ensures.ok
+    let t = c.in_ok-code.ensures.ok in
+    subst (λ (z : Code). IfSome c.in_ok-code.past (RegistersBreak c.args.off z)) t.1 t.0.breaks
 
 pub returns-clause-only : goal.returns-clause-only
-returns-clause-only c = IfOk-weaker c.body_at.result _ _ (λ x only. only refl) c.body_at.ensures.only
+returns-clause-only c = λ d a. c.in_ok-code.ensures.only d a
