@@ -2,7 +2,7 @@
 use Rattle.std.proofs.Common.{◌≡◌, ◌≢◌, ℕ, ◌+◌, ◌<◌, inl, inr, Bool, true, false, List, [], ◌∷◌, ◌++◌, length, map, Option, Some, None, option_map, refl, sym, ap, ◌∙◌, subst, arith, slice_get, get_or}
 use Rattle.std.specs.Prelude.{MatchBool, ◌==◌, IfSome, IfNone}
 use Rattle.std.specs.Option.{option_or}
-use Rattle.file_classes.proofs.StaticsLaws.{at_other, first_class}
+use Rattle.file_classes.proofs.StaticsLaws.{at_none, at_other, first_class}
 use Rattle.std.proofs.lemmas.Bool.{cases_lt}
 use Rattle.std.proofs.lemmas.List.{length-map, length_push}
 use Rattle.std.proofs.lemmas.Option.{slice_get_within, slice_get-map, slice_get-get_or, same_Some}
@@ -26,11 +26,12 @@ use Rattle.code_read.proofs.StandLaws.{code_body, body_code}
 use Rattle.file_classes.specs.ClassData.{MethodEntry, Entries, steps, index_of, EntriesAre}
 use Rattle.file_classes.specs.ClassRows.{class_word}
 use Rattle.file_classes.specs.Classes.{IsMethod, StaticsAt, CodeAt, SomeCodeStands, SpellsClass}
-use Rattle.file_classes.specs.ClassFaults.{ValuesStand, SomeBodyStands, BodyAt, BodyHolds, BodyFails, CodeHolds, RegistersFail, EachCodeHolds, SomeCodeFails, ClassCodesHold, MethodsBreak, BodiesHold, RowRegistersHold, RowRegistersBreak}
+use Rattle.file_classes.specs.ClassFaults.{ValuesStand, SomeBodyStands, BodyAt, BodyHolds, CodeHolds, RegistersFail, EachCodeHolds, SomeCodeFails, ClassCodesHold, MethodsBreak, BodiesHold, RowRegistersHold, RowRegistersBreak}
 use Rattle.file_classes.specs.inner.ClassFaults.{IsFirstClass}
-use Rattle.file_classes.specs.inner.Reading.{bare, head, HaveCodes, IsHead, IsDone, AreDone, CodesHoldUpTo, FirstCodeBreaks, CodesUpTo, BodiesAre, SpellsBodies}
+use Rattle.file_classes.specs.inner.Reading.{bare, with_code, head, HaveCodes, IsHead, IsFound, IsDone, AreDone, CodesHoldUpTo, FirstCodeBreaks, CodesUpTo, BodiesAre, SpellsBodies}
 use Rattle.file_classes.specs.declared.members.Bare.{Bare}
 use Rattle.file_classes.specs.declared.heads.Head.{Head}
+use Rattle.file_classes.specs.declared.keeping.FoundCode.{FoundCode}
 use Rattle.file_classes.proofs.EntryLaws.{entry_at, entries_one}
 use Rattle.file_classes.proofs.OnceLaws.{one_of_kind}
 use Rattle.dex_base.proofs.ListFacts.{slice_split}
@@ -53,14 +54,6 @@ module _ (b : List ℕ) (ms : List Bare) where
           let x_is : m ≡ x = same_Some m x (sym there ∙ ap (slice_get ms) same ∙ p) in
           (v.code, subst (λ (y : Bare). BodyAt b y.code v.code) x_is is.code)
     ];
-  }
-
-  pub done_breaks : (n : ℕ) (vs : List Method) (m : Bare) (e : Fault) → AreDone b ms n vs → slice_get ms n ≡ Some m → BodyFails b m.code e → FirstCodeBreaks BodyHolds BodyFails b ms e
-  done_breaks n vs m e done there fails = record {
-    number = n;
-    within = slice_get_within ms n m there;
-    breaks = record { entry = m; there = there; breaks = fails };
-    before = λ k lt x p. done.hold k x lt p;
   }
 
   module _ (es : List MethodEntry) (codes : HaveCodes es ms) (size : length ms ≡ length es) where
@@ -91,9 +84,6 @@ module _ (b : List ℕ) (ms : List Bare) where
             breaks = record { entry = x.0; there = x.1; breaks = subst (λ (n : ℕ). Fails b n e) (codes f.number x.0 one.entry x.1 one.there) one.breaks };
             before = λ k lt y at. let m = other k y at in subst (λ (n : ℕ). Holds b n) (codes k y m.0 at m.1) (f.before k lt m.0 m.1);
           }
-
-    pub done_hold : (vs : List Method) → AreDone b ms (length ms) vs → EachCodeHolds BodyHolds b es
-    done_hold vs done = bares_hold BodyHolds (λ k m lt at. done.hold k m lt at)
 
     pub done_run : (class : Units) (vs : List Method) → EntriesAre (IsMethod b class) es (map bare ms) → AreDone b ms (length ms) vs → EntriesAre (IsMethod b class) es vs
     done_run class vs run done = record {
@@ -216,13 +206,9 @@ no_bare = record {
 
 -- a method of the list, with its body
 pub done_at : (b : List ℕ) (ms : List Bare) (n : ℕ) (vs : List Method) (m : Bare) (code : Option Code) → AreDone b ms n vs → n < length ms → m ≡ get_or ms n no_bare → BodyAt b m.code code
-    → AreDone b ms (n + 1) (vs ++ (record { name = (bare m).name; proto = (bare m).proto; flags = (bare m).flags; code = code }) ∷ [])
+    → AreDone b ms (n + 1) (vs ++ with_code m code ∷ [])
 done_at b ms n vs m code done lt is at =
     done_more b ms n vs m _ done (slice_get-get_or ms n no_bare lt ∙ ap (λ (x : Bare). Some x) (sym is)) (record { name = refl; proto = refl; flags = refl; code = at })
-
--- the first of the methods whose body doesn't stand
-pub breaks_at : (b : List ℕ) (ms : List Bare) (n : ℕ) (vs : List Method) (m : Bare) (e : Fault) → AreDone b ms n vs → n < length ms → m ≡ get_or ms n no_bare → BodyFails b m.code e → FirstCodeBreaks BodyHolds BodyFails b ms e
-breaks_at b ms n vs m e done lt is fails = done_breaks b ms n vs m e done (slice_get-get_or ms n no_bare lt ∙ ap (λ (x : Bare). Some x) (sym is)) fails
 
 -- one more method, whose registers hold or are the first that don't
 module _ (b : List ℕ) (ms : List Bare) where
@@ -260,17 +246,24 @@ module _ (b : List ℕ) (names : Names) (are : AreNamesOf b names) (off : ℕ) (
   by_file : BodyStands (NameStands b) b off code
   by_file = body_weaker (NameIsAt names) (NameStands b) (λ i n. names_stand b names i n are) b off code stands
 
-  pub body_stands_at : BodyAt b off (Some code)
+  body_stands_at : BodyAt b off (Some code)
   body_stands_at = at_other off _ _ some record { some = code; is = refl; stands = by_file }
 
   -- and so does the code, if its registers hold
-  pub code_holds_at : (o : Option Fault) → IfNone o (Named code) → IfNone o (CodeHolds b off)
+  code_holds_at : (o : Option Fault) → IfNone o (Named code) → IfNone o (CodeHolds b off)
   code_holds_at None h = (Some code, at_other off _ _ some record { some = code; is = refl; stands = body_code (NameStands b) b off code h by_file })
   code_holds_at (Some e) h = tt
 
-  pub registers_fail_at : (o : Option Fault) → IfSome o (Overrun off code) → IfSome o (RegistersFail b off)
+  registers_fail_at : (o : Option Fault) → IfSome o (Overrun off code) → IfSome o (RegistersFail b off)
   registers_fail_at None h = tt
   registers_fail_at (Some e) h = record { some = some; names = names; of_file = are; breaks = record { code = code; body = stands; breaks = h } }
+
+  pub found_some : {C : Type 0} (Is : C → Option Code → Type 0) (x : FoundCode C) → Is x.code (Some code) → IfNone x.past (Named code) → IfSome x.past (Overrun off code) → IsFound Is b off x
+  found_some Is x is named past = record { some = Some code; body = body_stands_at; is = is; hold = code_holds_at x.past named; past = registers_fail_at x.past past }
+
+-- no code stands at 0
+pub found_none : {C : Type 0} (b : List ℕ) (off : ℕ) (Is : C → Option Code → Type 0) (c : C) → off ≡ 0 → Is c None → IsFound Is b off (record { code = c; past = None })
+found_none b off Is c zero is = record { some = None; body = at_none off _ _ zero refl; is = is; hold = (None, at_none off _ _ zero refl); past = tt }
 
 -- each method of a list has its code
 each_code : (At : ℕ → Option Code → Type 0) (es : List MethodEntry) (ms : List Method) → length ms ≡ length es → ((k : ℕ) (e : MethodEntry) (m : Method) → slice_get es k ≡ Some e → slice_get ms k ≡ Some m → At e.1.1 m.code)

@@ -24,22 +24,20 @@ mod owners;
 mod places;
 pub mod word;
 
-// The passes over all rows.
-mod checking;
-mod checking_statics;
+// The passes over all rows, and what the last two keep.
 mod heads;
+mod keeping;
 mod laws;
 mod methods;
 mod statics;
 
-pub use checking::check_codes;
-pub use checking_statics::check_statics;
 pub use class_data::{Entries, FieldEntry, MethodEntry, entries_at};
 pub use class_row::{class_count, class_word};
 pub use heads::{Head, read_heads};
+pub use keeping::FoundCode;
 pub use laws::{
     class_is_one, classes_are_clear, rows_break_one_rule, rows_that_hold_keep_the_rules,
 };
 pub use members::Bare;
-pub use methods::{Codes, FoundClass, FoundCode, read_class_at, read_classes};
-pub use statics::{Statics, read_statics};
+pub use methods::{Codes, FoundClass, check_codes, read_class_at, read_classes};
+pub use statics::{Statics, check_statics, read_statics};

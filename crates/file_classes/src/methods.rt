@@ -1,6 +1,6 @@
 //! The third pass over class_defs: the code of methods, which completes the classes. The first fault of registers is kept, and returned
 //! if there is no other.
-ghost use Rattle.std.specs.Prelude.{◌≢◌, ◌<◌, ◌≡◌, ◌⊎◌, ℕ, List, IfOk, IfErr, IfSome, IfNone, OnOk, Some, length, map, option_map};
+ghost use Rattle.std.specs.Prelude.{◌≢◌, ◌<◌, ◌≡◌, ◌⊎◌, ℕ, List, IfOk, IfErr, IfSome, IfNone, OnOk, length, map};
 ghost use Rattle.dex_base.specs.Fault.{memory};
 ghost use Rattle.dex_container.specs.Layout.{size_of};
 ghost use Rattle.dex_container.specs.Section as section;
@@ -8,39 +8,32 @@ ghost use Rattle.program_types.specs.View as view;
 ghost use Rattle.tables_rows.specs.Names.{AreNamesOf, AreRows};
 ghost use Rattle.tables_rows.specs.Sorted.{RowsHold};
 ghost use Rattle.file_classes.specs.Classes.{SpellsClass};
-ghost use Rattle.file_classes.specs.ClassFaults.{BodyAt, BodyHolds, BodyFails, CodeHolds, RegistersFail, BodiesHold, BodiesBreak, RowRegistersHold, RowRegistersBreak};
+ghost use Rattle.file_classes.specs.ClassFaults.{BodyHolds, BodyFails, CodeHolds, RegistersFail, BodiesHold, BodiesBreak, RowRegistersHold, RowRegistersBreak};
 ghost use Rattle.file_classes.specs.inner.ClassFaults.{IsFirstClass};
 ghost use Rattle.std.specs.HashMap.{IsEmpty, hash_map_len};
 ghost use Rattle.tables_rows.specs.inner.Cached.{AreCached};
-ghost use Rattle.file_classes.specs.inner.Reading.{IsHead, AreStatics, AreCodesOf, AreDone, FirstCodeBreaks, CodesUpTo, IsFound, SpellsBodies};
+ghost use Rattle.file_classes.specs.inner.Reading.{IsHead, AreStatics, AreCodesOf, AreKept, FirstCodeBreaks, CodesUpTo, IsFound, SpellsBodies};
 
 use crate::class_row::class_count;
 use crate::heads::Head;
+use crate::keeping::{FoundCode, InArena, Keep, Nothing, Walk};
 use crate::members::Bare;
 use crate::statics::{Statics, head_at};
 use bumpalo::Bump;
 use bumpalo::collections::into_bump_slice;
-use code_read::read_body;
 use dex_base::Fault;
 use dex_container::Sections;
-use program_types::{Class, Code, Method};
+use program_types::{Class, Code};
 use std::alloc::Global;
 use std::collections::HashMap;
 use tables_rows::Tables;
-
-/// The code at an offset, and what is wrong with its registers, if anything is.
-#[derive(Clone, Copy)]
-pub struct FoundCode<'a> {
-    pub code: Option<&'a Code<'a>>,
-    pub past: Option<Fault>,
-}
 
 /// The code items of a file that were read into an arena, by their byte offsets: one that several methods refer to is read once.
 #[derive(Drop)]
 pub struct Codes<'a> {
     pub alloc: Global,
     pub arena: &'a Bump,
-    pub found: HashMap<u32, FoundCode<'a>>,
+    pub found: HashMap<u32, FoundCode<Option<&'a Code<'a>>>>,
 }
 
 impl<'a> Codes<'a> {
@@ -72,13 +65,6 @@ impl<'a> Codes<'a> {
     }
 }
 
-/// The methods of a list, and the first fault of their registers.
-#[derive(Clone, Copy)]
-struct Methods<'a> {
-    list: &'a [Method<'a>],
-    past: Option<Fault>,
-}
-
 /// The class of a row, and the first fault of its registers.
 #[derive(Clone, Copy)]
 pub struct FoundClass<'a> {
@@ -86,124 +72,85 @@ pub struct FoundClass<'a> {
     pub past: Option<Fault>,
 }
 
-/// What classes are read with: into the arena.
-#[derive(Clone, Copy)]
-struct Reader<'a, 's, 'f, 't> {
-    alloc: Global,
-    arena: &'a Bump,
-    sections: &'s Sections<'f>,
-    tables: &'t Tables<'a>,
+/// What is kept of the methods of a class, and the first fault of their registers.
+#[derive(Drop)]
+struct Bodies<M> {
+    directs: M,
+    virtuals: M,
+    past: Option<Fault>,
 }
 
-impl<'a> Reader<'a, '_, '_, '_> {
-    /// The code at an offset, none at 0.
-    fn read_code_at(&self, off: u32) -> Result<FoundCode<'a>, Fault>
-        requires names { AreNamesOf self.now.sections.now self.now.tables.now }
-        ensures ok { IfOk result (λ x. BodyAt self.now.sections.now off (option_map (λ c. view.code c.now) x.code)) }
-        ensures hold { IfOk result (λ x. IfNone x.past (CodeHolds self.now.sections.now off)) }
-        ensures past { IfOk result (λ x. IfSome x.past (RegistersFail self.now.sections.now off)) }
-        ensures err { IfErr result (λ e. e ≢ memory → BodyFails self.now.sections.now off e) }
-    {
-        if off == 0 {
-            return Ok(FoundCode {
-                code: None,
-                past: None,
-            });
-        }
-        let body = read_body(self.alloc, self.arena, self.tables, self.sections, off)?;
-        let placed: &'a Code<'a> = self.arena.try_alloc(body.code)?;
-        Ok(FoundCode {
-            code: Some(placed),
-            past: body.past,
-        })
-    }
-
+impl<'a, K: Keep<'a>> Walk<'_, '_, '_, 'a, K> {
     /// The code at an offset, none at 0: what is cached for the offset, or what is read now, and cached.
     fn code_at(
         &self,
-        cached: &mut HashMap<u32, FoundCode<'a>>,
+        scratch: &mut K::Scratch,
+        cached: &mut HashMap<u32, FoundCode<K::Code>>,
         off: u32,
-    ) -> Result<FoundCode<'a>, Fault>
+    ) -> Result<FoundCode<K::Code>, Fault>
         requires names { AreNamesOf self.now.sections.now self.now.tables.now }
-        requires cached { AreCached (IsFound self.now.sections.now) cached.old }
-        ensures ok { IfOk result (IsFound self.now.sections.now off) }
-        ensures cached { OnOk result (AreCached (IsFound self.now.sections.now) cached.new) }
+        requires cached { AreCached (IsFound K.code self.now.sections.now) cached.old }
+        ensures ok { IfOk result (IsFound K.code self.now.sections.now off) }
+        ensures cached { OnOk result (AreCached (IsFound K.code self.now.sections.now) cached.new) }
         ensures err { IfErr result (λ e. e ≢ memory → BodyFails self.now.sections.now off e) }
     {
         if let Some(found) = cached.get(&off) {
             return Ok(*found);
         }
-        let found = self.read_code_at(off)?;
+        let found = K::read_code(self, scratch, off)?;
         cached.insert(off, found)?;
         Ok(found)
     }
 
     /// The methods of a list, each with its code.
-    fn read_methods(
+    fn methods(
         &self,
-        cached: &mut HashMap<u32, FoundCode<'a>>,
+        scratch: &mut K::Scratch,
+        cached: &mut HashMap<u32, FoundCode<K::Code>>,
         bares: &[Bare<'a>],
-    ) -> Result<Methods<'a>, Fault>
+    ) -> Result<(K::Methods, Option<Fault>), Fault>
         requires names { AreNamesOf self.now.sections.now self.now.tables.now }
-        requires cached { AreCached (IsFound self.now.sections.now) cached.old }
-        ensures ok { IfOk result (λ x. AreDone self.now.sections.now bares.now (length bares.now) (map view.method x.list.now)) }
-        ensures past { IfOk result (λ x. CodesUpTo CodeHolds RegistersFail self.now.sections.now bares.now (length bares.now) x.past) }
-        ensures cached { OnOk result (AreCached (IsFound self.now.sections.now) cached.new) }
+        requires cached { AreCached (IsFound K.code self.now.sections.now) cached.old }
+        ensures ok { IfOk result (λ x. AreKept K.methods self.now.sections.now bares.now x.0) }
+        ensures past { IfOk result (λ x. CodesUpTo CodeHolds RegistersFail self.now.sections.now bares.now (length bares.now) x.1) }
+        ensures cached { OnOk result (AreCached (IsFound K.code self.now.sections.now) cached.new) }
         ensures err { IfErr result (λ e. e ≢ memory → FirstCodeBreaks BodyHolds BodyFails self.now.sections.now bares.now e) }
     {
-        let mut methods: Vec<Method<'a>, &'a Bump> = Vec::with_capacity(self.arena, bares.len())?;
+        let mut list = self.keep.no_methods(bares.len())?;
         let mut past = None;
         for bare in bares {
-            let found = self.code_at(cached, bare.code)?;
+            let found = self.code_at(scratch, cached, bare.code)?;
             past = past.or(found.past);
-            methods.push(Method {
-                name: bare.method.name,
-                proto: bare.method.proto,
-                flags: bare.flags,
-                code: found.code,
-            })?;
+            K::add(&mut list, bare, found.code)?;
         }
-        Ok(Methods {
-            list: into_bump_slice(methods),
-            past,
-        })
+        Ok((list, past))
     }
 
-    /// The class of row i.
-    fn read_class(
+    /// The methods of row i, each with its code.
+    fn bodies(
         &self,
-        cached: &mut HashMap<u32, FoundCode<'a>>,
+        scratch: &mut K::Scratch,
+        cached: &mut HashMap<u32, FoundCode<K::Code>>,
         i: u32,
         head: Head<'a, '_>,
-        statics: Statics<'a>,
-    ) -> Result<FoundClass<'a>, Fault>
+    ) -> Result<Bodies<K::Methods>, Fault>
         requires names { AreNamesOf self.now.sections.now self.now.tables.now }
-        requires cached { AreCached (IsFound self.now.sections.now) cached.old }
+        requires cached { AreCached (IsFound K.code self.now.sections.now) cached.old }
         requires head { IsHead self.now.sections.now i head }
-        requires statics { AreStatics self.now.sections.now i statics }
-        ensures ok { IfOk result (λ x. SpellsBodies self.now.sections.now i (view.class x.class)) }
+        ensures directs { IfOk result (λ x. AreKept K.methods self.now.sections.now head.entry.directs.now x.directs) }
+        ensures virtuals { IfOk result (λ x. AreKept K.methods self.now.sections.now head.entry.virtuals.now x.virtuals) }
         ensures hold { IfOk result (λ x. IfNone x.past (RowRegistersHold self.now.sections.now i)) }
         ensures past { IfOk result (λ x. IfSome x.past (RowRegistersBreak self.now.sections.now i)) }
-        ensures cached { OnOk result (AreCached (IsFound self.now.sections.now) cached.new) }
+        ensures cached { OnOk result (AreCached (IsFound K.code self.now.sections.now) cached.new) }
         ensures err { IfErr result (λ e. e ≢ memory → BodiesBreak self.now.sections.now i e) }
     {
         self.sections.framed();
-        let directs = self.read_methods(cached, head.directs)?;
-        let virtuals = self.read_methods(cached, head.virtuals)?;
-        Ok(FoundClass {
-            class: Class {
-                ty: head.ty,
-                flags: head.flags,
-                superclass: head.superclass,
-                interfaces: head.interfaces,
-                source: head.source,
-                statics: head.statics,
-                values: statics.values,
-                instances: head.instances,
-                directs: directs.list,
-                virtuals: virtuals.list,
-            },
-            past: directs.past.or(virtuals.past),
+        let (directs, past) = self.methods(scratch, cached, head.directs)?;
+        let (virtuals, later) = self.methods(scratch, cached, head.virtuals)?;
+        Ok(Bodies {
+            directs,
+            virtuals,
+            past: past.or(later),
         })
     }
 }
@@ -257,15 +204,34 @@ pub fn read_class_at<'a>(
     ensures past { IfOk result (λ x. IfSome x.past (RowRegistersBreak sections.now i)) }
     ensures err { IfErr result (λ e. e ≢ memory → BodiesBreak sections.now i e) }
 {
-    let reader = Reader {
+    sections.framed();
+    let keep = InArena {
         alloc: codes.alloc,
         arena: codes.arena,
+    };
+    let walk = Walk {
+        keep,
         sections,
         tables,
     };
     let head = head_at(sections, heads, i);
-    let values = statics_at(sections, statics, i);
-    reader.read_class(&mut codes.found, i, head, values)
+    let values = statics_at(sections, statics, i).values;
+    let bodies = walk.bodies(&mut (), &mut codes.found, i, head)?;
+    Ok(FoundClass {
+        class: Class {
+            ty: head.ty,
+            flags: head.flags,
+            superclass: head.superclass,
+            interfaces: head.interfaces,
+            source: head.source,
+            statics: head.statics,
+            values,
+            instances: head.instances,
+            directs: into_bump_slice(bodies.directs),
+            virtuals: into_bump_slice(bodies.virtuals),
+        },
+        past: bodies.past,
+    })
 }
 
 /// The classes of all rows; else the first fault of a body, or where there is none, the first of registers.
@@ -287,24 +253,50 @@ pub fn read_classes<'a>(
 {
     sections.framed();
     let count = class_count(sections);
-    let reader = Reader {
-        alloc,
-        arena,
-        sections,
-        tables,
-    };
-    let mut cached = HashMap::new(alloc);
+    let mut codes = Codes::new(alloc, arena);
     let mut classes: Vec<Class<'a>, &'a Bump> = Vec::with_capacity(arena, count as usize)?;
     let mut past = None;
     for i in 0..count {
-        let head = head_at(sections, heads, i);
-        let values = statics_at(sections, statics, i);
-        let found = reader.read_class(&mut cached, i, head, values)?;
+        let found = read_class_at(&mut codes, sections, tables, heads, statics, i)?;
         past = past.or(found.past);
         classes.push(found.class)?;
     }
     match past {
         Some(fault) => Err(fault),
         None => Ok(into_bump_slice(classes)),
+    }
+}
+
+/// Checks the code of all rows, each code once: the first fault of a body or, if there is none, the first of registers.
+pub fn check_codes(
+    alloc: Global,
+    sections: &Sections<'_>,
+    tables: &Tables<'_>,
+    heads: &[Head<'_, '_>],
+) -> Result<(), Fault>
+    requires names { AreNamesOf sections.now tables.now }
+    requires heads { AreRows IsHead sections.now section.class_defs heads.now }
+    ensures hold { OnOk result (RowsHold RowRegistersHold sections.now (size_of sections.now section.class_defs)) }
+    ensures err { IfErr result (λ e. e ≢ memory → IsFirstClass BodiesBreak BodiesHold sections.now e
+        ⊎ (RowsHold BodiesHold sections.now (size_of sections.now section.class_defs) × IsFirstClass RowRegistersBreak RowRegistersHold sections.now e)) }
+{
+    sections.framed();
+    let keep = Nothing { alloc };
+    let walk = Walk {
+        keep,
+        sections,
+        tables,
+    };
+    let mut scratch = Bump::new(alloc);
+    let mut cached = HashMap::new(alloc);
+    let mut past = None;
+    for i in 0..class_count(sections) {
+        let head = head_at(sections, heads, i);
+        let found = walk.bodies(&mut scratch, &mut cached, i, head)?;
+        past = past.or(found.past);
+    }
+    match past {
+        Some(fault) => Err(fault),
+        None => Ok(()),
     }
 }

@@ -13,7 +13,7 @@ use Rattle.file_classes.specs.declared.members.Bare.{Bare}
 use Rattle.file_classes.specs.declared.heads.Head.{Head}
 use Rattle.file_classes.specs.declared.members.Members.{Members}
 use Rattle.file_classes.specs.declared.methods.Codes.{Codes}
-use Rattle.file_classes.specs.declared.methods.FoundCode.{FoundCode}
+use Rattle.file_classes.specs.declared.keeping.FoundCode.{FoundCode}
 use Rattle.tables_rows.specs.inner.Cached.{AreCached}
 use Rattle.file_classes.specs.ClassData.{EntriesAre}
 use Rattle.file_classes.specs.declared.statics.Statics.{Statics}
@@ -43,9 +43,13 @@ entries e = record {
   virtuals = map method_entry e.virtuals.items;
 }
 
+-- a method with this code
+abbrev pub with_code : Bare → Option content.Code → content.Method
+with_code m o = record { name = str m.method.now.name; proto = proto m.method.now.proto.now; flags = m.flags; code = o }
+
 -- a method before its code is looked at
 abbrev pub bare : Bare → content.Method
-bare m = record { name = str m.method.now.name; proto = proto m.method.now.proto.now; flags = m.flags; code = None }
+bare m = with_code m None
 
 -- The entry with this index is this method of the class, and its code stands here.
 pub record IsBare (b : List ℕ) (class : content.Units) (index : ℕ) (e : numbers.MethodEntry) (m : Bare) : Type 0 where
@@ -116,21 +120,17 @@ IsNotAmong ts m n = (j : ℕ) (t : content.Units) → j < m → slice_get ts j �
 
 -- ---- methods with their code
 
--- This is the body at an offset, and the code stands or this is the fault of its registers.
-pub record IsFound (b : List ℕ) (off : ℕ) (x : FoundCode) : Type 0 where
-  pub body : BodyAt b off (option_map (λ c. code c.now) x.code)
+-- This is kept of the body at an offset, and the code stands or this is the fault of its registers.
+pub record IsFound {C : Type 0} (Is : C → Option content.Code → Type 0) (b : List ℕ) (off : ℕ) (x : FoundCode C) : Type 0 where
+  pub some : Option content.Code
+  pub body : BodyAt b off some
+  pub is : Is x.code some
   pub hold : IfNone x.past (CodeHolds b off)
   pub past : IfSome x.past (RegistersFail b off)
 
 -- Each of the codes is one of this file, at its offset.
 abbrev pub AreCodesOf : List ℕ → Codes → Type 0
-AreCodesOf b codes = AreCached (IsFound b) codes.found
-
--- The body at an offset stands, and the code does or this is the fault of its registers.
-pub record IsChecked (b : List ℕ) (off : ℕ) (found : Option Fault) : Type 0 where
-  pub body : BodyHolds b off
-  pub hold : IfNone found (CodeHolds b off)
-  pub past : IfSome found (RegistersFail b off)
+AreCodesOf b codes = AreCached (IsFound (λ x o. o ≡ option_map (λ c. code c.now) x) b) codes.found
 
 -- This is the method, with its body.
 pub record IsDone (b : List ℕ) (m : Bare) (v : content.Method) : Type 0 where
@@ -148,6 +148,10 @@ pub record AreDone (b : List ℕ) (ms : List Bare) (n : ℕ) (vs : List content.
   pub count : length vs ≡ n
   pub each : (k : ℕ) (m : Bare) (v : content.Method) → slice_get ms k ≡ Some m → slice_get vs k ≡ Some v → IsDone b m v
   pub hold : CodesHoldUpTo BodyHolds b ms n
+
+-- This is kept of the methods, with their bodies.
+abbrev pub AreKept : {M : Type 0} → (M → List content.Method → Type 0) → List ℕ → List Bare → M → Type 0
+AreKept Are b ms x = (vs : List content.Method) × AreDone b ms (length ms) vs × Are x vs
 
 -- The fault is that of the first of the methods whose code doesn't hold.
 abbrev pub FirstCodeBreaks : (List ℕ → ℕ → Type 0) → (List ℕ → ℕ → Fault → Type 0) → List ℕ → List Bare → Fault → Type 0

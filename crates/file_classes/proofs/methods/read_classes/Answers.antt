@@ -9,25 +9,28 @@ use Rattle.tables_rows.proofs.RowReading.{first_more}
 use Rattle.file_classes.specs.ClassFaults.{BodiesBreak, BodiesHold, RowRegistersBreak, RowRegistersHold}
 use Rattle.file_classes.specs.inner.ClassFaults.{IsFirstClass}
 use Rattle.file_classes.specs.inner.Reading.{SpellsBodies}
+use Rattle.file_classes.proofs.CachedLaws.{refused}
 use Rattle.file_classes.proofs.StaticsLaws.{first_class}
 use Rattle.file_classes.proofs.MethodLaws.{bodies_hold, rows_none, rows_turn, all_spelled}
 use Rattle.file_classes.proofs.methods.read_classes.Goals as goal
-use Rattle.tables_rows.proofs.CachedLaws.{cached_none}
 use Rattle.dex_base.proofs.ListFacts.{passed}
 
 pub returns-in_err-found-clause-err : goal.returns-in_err-found-clause-err
 returns-in_err-found-clause-err c =
     passed _ _ _ c.from_residual-in_err-found.ensures.1 (λ ne. inl (first_class BodiesBreak BodiesHold c.args.sections.now c.loop-i.i _ (omega (arith, c.class_count-count.ensures, c.loop-i-test.true)) c.loop-i.invariant.rows.hold (c.in_err-found.ensures.err ne)))
 
+pub returns-in_err-push-clause-err : goal.returns-in_err-push-clause-err
+returns-in_err-push-clause-err c = refused _ _ c.from_residual-in_err-push.ensures.1
+
 pub loop-i-init : goal.loop-i-init
-loop-i-init c = record { rows = search rules; past = rows_none c.args.sections.now; cached = cached_none _ c.new-cached.result c.new-cached.ensures.empty }
+loop-i-init c = record { rows = search rules; past = rows_none c.args.sections.now; codes = c.new-codes.ensures.codes c.args.sections.now }
 
 pub loop-i-preserved : goal.loop-i-preserved
 loop-i-preserved c = record {
   rows = rw (c.in_ok-push.ensures.items, map-append) (first_more SpellsBodies BodiesHold c.args.sections.now c.loop-i.i _ (class c.in_ok-found.found.class) c.loop-i.invariant.rows c.in_ok-found.ensures.ok (bodies_hold c.args.sections.now c.loop-i.i (class c.in_ok-found.found.class) c.in_ok-found.ensures.ok));
   past = rows_turn c.args.sections.now c.loop-i.i c.loop-i.past c.in_ok-found.found.past c.or-past.result c.or-past.ensures
       (omega (arith, c.class_count-count.ensures, c.loop-i-test.true)) c.loop-i.invariant.past c.in_ok-found.ensures.hold c.in_ok-found.ensures.past;
-  cached = c.in_ok-found.ensures.cached;
+  codes = c.in_ok-found.ensures.codes;
 }
 
 pub returns-in-Some-clause-err : goal.returns-in-Some-clause-err
