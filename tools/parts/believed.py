@@ -39,7 +39,7 @@ THEOREMS = (
     ("crates/dexasm_run/src/laws.rt", "one_answer"),
     ("crates/listing_laws/src/laws.rt", "what_is_printed_is_read_again"),
     ("crates/dexasm_command/src/laws.rt", "out_is_never_lost"),
-    ("crates/dexasm_command/src/laws.rt", "statuses_tell"),
+    ("crates/dexasm_command/src/laws.rt", "statuses_have_meanings"),
 )
 
 

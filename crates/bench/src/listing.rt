@@ -85,7 +85,7 @@ fn printed(alloc: Global, text: &[u8], rounds: u32) -> Result<u64, Fault> {
 }
 
 /// Prints what a work gave.
-fn tell(rt: &impl Print, work: &str, sum: Result<u64, Fault>) -> io::Result<()> {
+fn show(rt: &impl Print, work: &str, sum: Result<u64, Fault>) -> io::Result<()> {
     match sum {
         Ok(sum) => println!(rt; "{work} {sum}"),
         Err(fault) => println!(rt; "refused {} at {}", fault.code, fault.place),
@@ -105,10 +105,10 @@ pub fn run(rt: &(impl Print + Alloc<A = Global>), words: &[&str]) -> io::Result<
     };
     let all = work == "all";
     if all || work == "parse" {
-        tell(rt, "parse", parsed(rt.alloc(), text.as_slice(), rounds))?;
+        show(rt, "parse", parsed(rt.alloc(), text.as_slice(), rounds))?;
     }
     if all || work == "print" {
-        tell(rt, "print", printed(rt.alloc(), text.as_slice(), rounds))?;
+        show(rt, "print", printed(rt.alloc(), text.as_slice(), rounds))?;
     }
     Ok(())
 }

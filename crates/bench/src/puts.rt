@@ -95,7 +95,7 @@ fn put(out: &mut Vec<u8>, what: Call) -> Result<(), Fault> {
 }
 
 /// Makes the call on a full Vec, and prints the result.
-fn tell(rt: &(impl Print + Alloc<A = Global>), what: Call) -> io::Result<()> {
+fn show(rt: &(impl Print + Alloc<A = Global>), what: Call) -> io::Result<()> {
     let name = name_of(what);
     let Ok(mut out) = full(rt.alloc()) else {
         return println!(rt; "{name} not begun");
@@ -119,7 +119,7 @@ pub fn run(rt: &(impl Print + Alloc<A = Global>)) -> io::Result<()> {
         Call::Array,
         Call::Code,
     ] {
-        tell(rt, what)?;
+        show(rt, what)?;
     }
     Ok(())
 }

@@ -200,12 +200,12 @@ module _ (c : Code) (ps : List Bool) (good : PadsPayloads ps c.insns) (formed : 
             (subst (λ (n : ℕ). P n (moved_insn (moved ps) (insn_at c.insns a.0))) a.2 (rest a.0 a.1))
       ]
 
-  nop-says : AreAmong c.registers (made.I10x 0) × IfSome (insn_branch (made.I10x 0)) (IsTarget new) × ((k : ℕ) → IfSome (insn_short_branch (made.I10x 0)) (λ to. to ≢ k)) × AllByRecursion (IsTarget new) (insn_targets (made.I10x 0))
+  nop-resolves : AreAmong c.registers (made.I10x 0) × IfSome (insn_branch (made.I10x 0)) (IsTarget new) × ((k : ℕ) → IfSome (insn_short_branch (made.I10x 0)) (λ to. to ≢ k)) × AllByRecursion (IsTarget new) (insn_targets (made.I10x 0))
   unfolding insn_registers insn_branch insn_short_branch insn_targets
-  nop-says = (tt, tt, λ k. tt, tt)
+  nop-resolves = (tt, tt, λ k. tt, tt)
 
   among : (k : ℕ) → k < length new → AreAmong c.registers (insn_at new k)
-  among = each-new (λ k i. AreAmong c.registers i) (λ k. nop-says.0)
+  among = each-new (λ k i. AreAmong c.registers i) (λ k. nop-resolves.0)
       (λ j l. subst (λ (vs : List ℕ). AllByRecursion (λ v. v < c.registers) vs) (sym (registers-same (moved ps) (insn_at c.insns j))) (formed.named.each j l))
 
   operands : (k : ℕ) → k < length new → IsOperand (length new) (insn_at new k)
@@ -217,11 +217,11 @@ module _ (c : Code) (ps : List Bool) (good : PadsPayloads ps c.insns) (formed : 
 
   targets : (k : ℕ) → k < length new → TargetHolds new k
   targets k l = record {
-    lands = each-new (λ n i. IfSome (insn_branch i) (IsTarget new)) (λ n. nop-says.1) (λ j m. subst (λ (o : Option ℕ). IfSome o (IsTarget new)) (sym (branch-same (moved ps) (insn_at c.insns j)))
+    lands = each-new (λ n i. IfSome (insn_branch i) (IsTarget new)) (λ n. nop-resolves.1) (λ j m. subst (λ (o : Option ℕ). IfSome o (IsTarget new)) (sym (branch-same (moved ps) (insn_at c.insns j)))
         (IfSome-map (moved ps) (IsTarget c.insns) (IsTarget new) (insn_branch (insn_at c.insns j)) target-moved (formed.targets j m).lands)) k l;
-    moves = each-new (λ n i. IfSome (insn_short_branch i) (λ to. to ≢ n)) nop-says.2 (λ j m. subst (λ (o : Option ℕ). IfSome o (λ to. to ≢ moved ps j)) (sym (short-same (moved ps) (insn_at c.insns j)))
+    moves = each-new (λ n i. IfSome (insn_short_branch i) (λ to. to ≢ n)) nop-resolves.2 (λ j m. subst (λ (o : Option ℕ). IfSome o (λ to. to ≢ moved ps j)) (sym (short-same (moved ps) (insn_at c.insns j)))
         (IfSome-map (moved ps) (λ to. to ≢ j) (λ to. to ≢ moved ps j) (insn_short_branch (insn_at c.insns j)) (λ to ne e. ne (moved-one ps to j e)) (formed.targets j m).moves)) k l;
-    all = each-new (λ n i. AllByRecursion (IsTarget new) (insn_targets i)) (λ n. nop-says.3) (λ j m. subst (λ (ts : List ℕ). AllByRecursion (IsTarget new) ts) (sym (targets-same (moved ps) (insn_at c.insns j)))
+    all = each-new (λ n i. AllByRecursion (IsTarget new) (insn_targets i)) (λ n. nop-resolves.3) (λ j m. subst (λ (ts : List ℕ). AllByRecursion (IsTarget new) ts) (sym (targets-same (moved ps) (insn_at c.insns j)))
         (all-moved (moved ps) (IsTarget c.insns) (IsTarget new) (insn_targets (insn_at c.insns j)) target-moved (formed.targets j m).all)) k l;
   }
 

@@ -12,8 +12,8 @@ use Rattle.code_rules.specs.Branches.{IsOrigin}
 use Rattle.code_read.specs.Places.{Rises, target_at}
 use Rattle.code_read.specs.Walk.{Walks, starts, raw_at, address}
 use Rattle.code_read.specs.Symbols.{linked, name_in, ints}
-use Rattle.code_read.specs.Linked.{lead, payload_of, IsLinked, SpellsInsns}
-use Rattle.code_read.specs.inner.ByAddress.{offsets_of, CountFrom, OffsetLeadsTo, LeadsByAddress, IsLinkedByAddress, SpellsInsnsByAddress}
+use Rattle.code_read.specs.Linked.{target_number, payload_of, IsLinked, SpellsInsns}
+use Rattle.code_read.specs.inner.ByAddress.{offsets_of, CountFrom, OffsetTargets, TargetsByAddress, IsLinkedByAddress, SpellsInsnsByAddress}
 use Rattle.code_read.proofs.Runs.{run-rises, length-of_starts}
 use Rattle.code_read.proofs.PlaceLaws.{target-there, target-to}
 use Rattle.code_read.proofs.LinkLaws.{kind-linked}
@@ -42,22 +42,22 @@ some-below : (o : Option ℕ) (d : ℕ) → unwrap_or o d < d → o ≡ Some (un
 some-below None d h = absurd (omega (arith, h))
 some-below (Some n) d h = refl
 
-lead-there : (ss : List ℕ) (base : ℕ) (z : ℤ) → lead ss base z < length ss → target_at ss base z ≡ Some (lead ss base z)
-unfolding lead
-lead-there ss base z h = some-below (target_at ss base z) (length ss) h
+target_number-there : (ss : List ℕ) (base : ℕ) (z : ℤ) → target_number ss base z < length ss → target_at ss base z ≡ Some (target_number ss base z)
+unfolding target_number
+target_number-there ss base z h = some-below (target_at ss base z) (length ss) h
 
-leads-to : (rs : List Raw) (from : ℕ) (z : ℤ) → Rises (starts rs) → lead (starts rs) (address rs from) z < length rs → OffsetLeadsTo rs from z (lead (starts rs) (address rs from) z)
+leads-to : (rs : List Raw) (from : ℕ) (z : ℤ) → Rises (starts rs) → target_number (starts rs) (address rs from) z < length rs → OffsetTargets rs from z (target_number (starts rs) (address rs from) z)
 leads-to rs from z r h =
     let n = length-of_starts rs in
-    let p = target-there (starts rs) (address rs from) z _ (lead-there (starts rs) (address rs from) z (omega (arith, n, h))) in
+    let p = target-there (starts rs) (address rs from) z _ (target_number-there (starts rs) (address rs from) z (omega (arith, n, h))) in
     record { there = h; sum = p.1; only = λ m l e. rises-one (starts rs) m _ r (omega (arith, n, l)) p.0 (pos-one _ _ (e ∙ sym p.1)) }
 
 -- ---- the offsets of one instruction
 
-all-lead : (rs : List Raw) (from : ℕ) (zs : List ℤ) → Rises (starts rs) → AllByRecursion (λ to. to < length rs) (map (lead (starts rs) (address rs from)) zs)
-    → AllZip (OffsetLeadsTo rs from) zs (map (lead (starts rs) (address rs from)) zs)
-all-lead rs from [] r h = tt
-all-lead rs from (z ∷ zs) r h = (leads-to rs from z r h.0, all-lead rs from zs r h.1)
+all-target_number : (rs : List Raw) (from : ℕ) (zs : List ℤ) → Rises (starts rs) → AllByRecursion (λ to. to < length rs) (map (target_number (starts rs) (address rs from)) zs)
+    → AllZip (OffsetTargets rs from) zs (map (target_number (starts rs) (address rs from)) zs)
+all-target_number rs from [] r h = tt
+all-target_number rs from (z ∷ zs) r h = (leads-to rs from z r h.0, all-target_number rs from zs r h.1)
 
 leads-linked : (T : ℤ → ℕ) (w : Name) (r : Raw) → insn_leads (linked T w r) ≡ map T (offsets_of r)
 unfolding linked
@@ -89,40 +89,40 @@ count-one is k i j _ e p a b = a ∙ sym b
 
 -- ---- all of them
 
-pub leads-by_address : (N : ℕ → Name → Type 0) (us : List ℕ) (rs : List Raw) (is : List Insn) → SpellsInsns N us rs is → (k : ℕ) → k < length is → LeadsByAddress rs is k
+pub leads-by_address : (N : ℕ → Name → Type 0) (us : List ℕ) (rs : List Raw) (is : List Insn) → SpellsInsns N us rs is → (k : ℕ) → k < length is → TargetsByAddress rs is k
 leads-by_address N us rs is s k m =
     let n = s.linked.count in
     let x = s.linked.each k (omega (arith, m, n)) in
     let p = s.keep.payloads k m in
-    let T = lead (starts rs) (address rs x.origin) in
+    let T = target_number (starts rs) (address rs x.origin) in
     let zs = offsets_of (raw_at rs k) in
-    let kind : insn_payload (insn_at is k) ≡ payload_of (raw_at rs k) = ap insn_payload (sym x.says.symbol) ∙ kind-linked _ _ (raw_at rs k) in
-    let led : insn_leads (insn_at is k) ≡ map T zs = ap insn_leads (sym x.says.symbol) ∙ leads-linked T (name_in (insn_at is k)) (raw_at rs k) in
+    let kind : insn_payload (insn_at is k) ≡ payload_of (raw_at rs k) = ap insn_payload (sym x.resolves.symbol) ∙ kind-linked _ _ (raw_at rs k) in
+    let targeted : insn_leads (insn_at is k) ≡ map T zs = ap insn_leads (sym x.resolves.symbol) ∙ leads-linked T (name_in (insn_at is k)) (raw_at rs k) in
     let counts = count-from is k x.origin (raw_at rs k) kind p x.counts in
-    let inside = subst (AllByRecursion (λ (to : ℕ). to < length is)) led (leads-inside is k (s.keep.targets k m) p (insn_at is k) refl) in
+    let inside = subst (AllByRecursion (λ (to : ℕ). to < length is)) targeted (leads-inside is k (s.keep.targets k m) p (insn_at is k) refl) in
     record {
       from = x.origin;
       counts = counts;
       only = λ j c. count-one is k j x.origin (raw_at rs k) kind p c counts;
-      leads = subst (AllZip (OffsetLeadsTo rs x.origin) zs) (sym led) (all-lead rs x.origin zs (walk-rises us rs s.walk) (subst (λ (d : ℕ). AllByRecursion (λ (to : ℕ). to < d) (map T zs)) n inside));
+      leads = subst (AllZip (OffsetTargets rs x.origin) zs) (sym targeted) (all-target_number rs x.origin zs (walk-rises us rs s.walk) (subst (λ (d : ℕ). AllByRecursion (λ (to : ℕ). to < d) (map T zs)) n inside));
     }
 
 -- ---- the other way: what leads by address is linked
 
 -- an offset that leads to an instruction is linked to its number
-lead-is : (rs : List Raw) (from to : ℕ) (z : ℤ) → Rises (starts rs) → OffsetLeadsTo rs from z to → lead (starts rs) (address rs from) z ≡ to
-unfolding lead
-lead-is rs from to z r o =
+target_number-is : (rs : List Raw) (from to : ℕ) (z : ℤ) → Rises (starts rs) → OffsetTargets rs from z to → target_number (starts rs) (address rs from) z ≡ to
+unfolding target_number
+target_number-is rs from to z r o =
     let n = length-of_starts rs in
     let there = o.there in
     ap (λ (t : Option ℕ). unwrap_or t (length (starts rs))) (target-to (starts rs) (address rs from) to z r (omega (arith, n, there)) (sym o.sum))
 
-all-are : (rs : List Raw) (from : ℕ) (T : ℤ → ℕ) (zs : List ℤ) → Rises (starts rs) → AllZip (OffsetLeadsTo rs from) zs (map T zs) → map T zs ≡ map (lead (starts rs) (address rs from)) zs
+all-are : (rs : List Raw) (from : ℕ) (T : ℤ → ℕ) (zs : List ℤ) → Rises (starts rs) → AllZip (OffsetTargets rs from) zs (map T zs) → map T zs ≡ map (target_number (starts rs) (address rs from)) zs
 all-are rs from T [] r h = refl
 all-are rs from T (z ∷ zs) r h =
-    let one = lead-is rs from (T z) z r h.0 in
+    let one = target_number-is rs from (T z) z r h.0 in
     let rest = all-are rs from T zs r h.1 in
-    ap (λ (t : ℕ). t ∷ map T zs) (sym one) ∙ ap (λ (ts : List ℕ). lead (starts rs) (address rs from) z ∷ ts) rest
+    ap (λ (t : ℕ). t ∷ map T zs) (sym one) ∙ ap (λ (ts : List ℕ). target_number (starts rs) (address rs from) z ∷ ts) rest
 
 first-same : (a b : ℕ) (xs ys : List ℕ) → a ∷ xs ≡ b ∷ ys → a ≡ b
 first-same a b xs ys e = cc
@@ -158,13 +158,13 @@ linked-by_address N rs is k rise p x =
     let r = raw_at rs k in
     let w = name_in (insn_at is k) in
     let from = x.leads.from in
-    let kind : insn_payload (insn_at is k) ≡ payload_of r = ap insn_payload (sym x.says.symbol) ∙ kind-linked _ _ r in
-    let led : insn_leads (insn_at is k) ≡ map x.target (offsets_of r) = ap insn_leads (sym x.says.symbol) ∙ leads-linked x.target w r in
-    let same = all-are rs from x.target (offsets_of r) rise (subst (AllZip (OffsetLeadsTo rs from) (offsets_of r)) led x.leads.leads) in
+    let kind : insn_payload (insn_at is k) ≡ payload_of r = ap insn_payload (sym x.resolves.symbol) ∙ kind-linked _ _ r in
+    let targeted : insn_leads (insn_at is k) ≡ map x.target (offsets_of r) = ap insn_leads (sym x.resolves.symbol) ∙ leads-linked x.target w r in
+    let same = all-are rs from x.target (offsets_of r) rise (subst (AllZip (OffsetTargets rs from) (offsets_of r)) targeted x.leads.leads) in
     record {
       origin = from;
       counts = origin-from is k from r kind p x.leads.counts;
-      says = record { symbol = sym (linked-alike x.target (lead (starts rs) (address rs from)) w r same) ∙ x.says.symbol; named = x.says.named };
+      resolves = record { symbol = sym (linked-alike x.target (target_number (starts rs) (address rs from)) w r same) ∙ x.resolves.symbol; named = x.resolves.named };
     }
 
 -- the two say the same
@@ -172,7 +172,7 @@ pub to-by_address : (N : ℕ → Name → Type 0) (us : List ℕ) (rs : List Raw
 to-by_address N us rs is s = record {
   walk = s.walk;
   count = s.linked.count;
-  each = λ k m. let n = s.linked.count in record { target = _; says = (s.linked.each k m).says; leads = leads-by_address N us rs is s k (omega (arith, m, n)) };
+  each = λ k m. let n = s.linked.count in record { target = _; resolves = (s.linked.each k m).resolves; leads = leads-by_address N us rs is s k (omega (arith, m, n)) };
   keep = s.keep;
 }
 

@@ -7,7 +7,7 @@ use Rattle.dex_base.proofs.PlacedLaws.{Placed-weaker}
 use Rattle.dex_insn.specs.Raw as raw
 use Rattle.dex_insn.specs.Raw.{Raw}
 use Rattle.program_types.specs.Content.{Name, OfDesc, Insn, Try, Code}
-use Rattle.code_read.specs.Symbols.{Says, InsnNames, name_in}
+use Rattle.code_read.specs.Symbols.{Resolves, InsnNames, name_in}
 use Rattle.code_read.specs.Linked.{AreLinked, SpellsInsns}
 use Rattle.code_read.specs.Handlers.{Handler, AddressBy, TypeBy, CatchBy, AllBy, PartsBy, HandlerBy, ListBy, SpellsHandlers, catches_of}
 use Rattle.code_read.specs.Tries.{SpellsTries}
@@ -23,11 +23,11 @@ module _ (M N : ℕ → Name → Type 0) (f : (i : ℕ) (which : Name) → M i w
   names-weaker (raw.I3rc op n first i) w p = record { kind = p.kind; stands = f i w p.stands }
   names-weaker _ w p = tt
 
-  pub says-weaker : (T : ℤ → ℕ) (r : Raw) (i : Insn) → Says M T r i → Says N T r i
-  says-weaker T r i s = record { symbol = s.symbol; named = names-weaker r (name_in i) s.named }
+  pub resolves-weaker : (T : ℤ → ℕ) (r : Raw) (i : Insn) → Resolves M T r i → Resolves N T r i
+  resolves-weaker T r i s = record { symbol = s.symbol; named = names-weaker r (name_in i) s.named }
 
   pub linked-weaker : (rs : List Raw) (is : List Insn) → AreLinked M rs is → AreLinked N rs is
-  linked-weaker rs is s = record { count = s.count; each = λ k lt. let e = s.each k lt in record { origin = e.origin; counts = e.counts; says = says-weaker _ _ _ e.says } }
+  linked-weaker rs is s = record { count = s.count; each = λ k lt. let e = s.each k lt in record { origin = e.origin; counts = e.counts; resolves = resolves-weaker _ _ _ e.resolves } }
 
   pub insns-weaker : (us : List ℕ) (rs : List Raw) (is : List Insn) → SpellsInsns M us rs is → SpellsInsns N us rs is
   insns-weaker us rs is s = record {

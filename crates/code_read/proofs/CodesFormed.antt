@@ -33,7 +33,7 @@ use Rattle.code_read.proofs.FaultLaws.{units-even}
 use Rattle.code_read.proofs.HandlerReading.{SpellsCatchAll}
 use Rattle.code_read.proofs.ItemLaws.{begins_late}
 use Rattle.code_read.proofs.NamesHaveRows.{at-offset}
-use Rattle.code_read.proofs.SaidLaws.{raw-bytes, operand-said}
+use Rattle.code_read.proofs.ResolvedLaws.{raw-bytes, operand-said}
 use Rattle.dex_base.proofs.ListFacts.{take_bytes, all_weaker}
 use Rattle.code_rules.proofs.OperandLaws.{alike_itself}
 
@@ -65,9 +65,9 @@ module _ (N : ℕ → Name → Type 0) (us : List ℕ) (rs : List Raw) (is : Lis
       let x = s.linked.each k l in
       let st : InsnStands us (address rs k) (raw_at rs k) = run-at us 0 rs (length us / 2) k (raw.I10x 0) s.walk.run l in
       let inside = leads-inside is k (s.keep.targets k m) (s.keep.payloads k m) (insn_at is k) refl in
-      subst (IsOperand (length is)) x.says.symbol
-      (operand-said N _ (name_in (insn_at is k)) (length is) (raw_at rs k) (subst (λ (i : Insn). AllByRecursion (λ to. to < length is) (insn_leads i)) (sym x.says.symbol) inside) (stands_fits us (address rs k) (raw_at rs k) are st)
-      (raw-bytes (drop (2 * address rs k) us) (raw_at rs k) (drop-AreBytes us (2 * address rs k) are) (omega (arith, short, length-drop (2 * address rs k) us)) st.spelled) x.says.named)
+      subst (IsOperand (length is)) x.resolves.symbol
+      (operand-said N _ (name_in (insn_at is k)) (length is) (raw_at rs k) (subst (λ (i : Insn). AllByRecursion (λ to. to < length is) (insn_leads i)) (sym x.resolves.symbol) inside) (stands_fits us (address rs k) (raw_at rs k) are st)
+      (raw-bytes (drop (2 * address rs k) us) (raw_at rs k) (drop-AreBytes us (2 * address rs k) are) (omega (arith, short, length-drop (2 * address rs k) us)) st.spelled) x.resolves.named)
 
 -- ---- tries
 

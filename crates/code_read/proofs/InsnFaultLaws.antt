@@ -15,7 +15,7 @@ use Rattle.code_read.proofs.InsnsOnce.{walks-one, linked-one}
 use Rattle.code_read.proofs.LinkLaws.{has-name}
 
 pub names-hold : (N : ℕ → Name → Type 0) (rs : List Raw) (is : List Insn) → AreLinked N rs is → AllHold (NameHolds N rs) (length rs)
-names-hold N rs is a = λ k l. has-name N (raw_at rs k) _ (a.each k l).says.named
+names-hold N rs is a = λ k l. has-name N (raw_at rs k) _ (a.each k l).resolves.named
 
 module _ (ss : List ℕ) (is : List Insn) (base : ℕ) where
   pub branch-clear : (k : ℕ) (fault : Fault) → BranchHolds is k → BranchBreaks ss is base k fault → ⊥

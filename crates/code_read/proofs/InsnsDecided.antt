@@ -14,8 +14,8 @@ use Rattle.program_types.specs.Formed.{insn_at, insn_payload, RefersToPayload, P
 use Rattle.code_rules.specs.First.{AllHold}
 use Rattle.code_rules.specs.Branches.{BranchHolds, SwitchLands, IsOrigin}
 use Rattle.code_read.specs.Walk.{Walks, starts, raw_at, address}
-use Rattle.code_read.specs.Symbols.{linked, Says, InsnHasName}
-use Rattle.code_read.specs.Linked.{lead, NameHolds, AreLinked, KeepRules, SpellsInsns}
+use Rattle.code_read.specs.Symbols.{linked, Resolves, InsnHasName}
+use Rattle.code_read.specs.Linked.{target_number, NameHolds, AreLinked, KeepRules, SpellsInsns}
 use Rattle.code_read.specs.InsnFaults.{insn_fault, NamesBreak, BranchBreaks, LinkedBreak, InsnsBreak}
 use Rattle.code_read.specs.inner.InsnReading.{AreHalfLinked}
 use Rattle.code_read.proofs.LinkLaws.{kind-linked, all-linked}
@@ -26,7 +26,7 @@ use Rattle.code_read.proofs.RulesDecided.{AreNamesDecided, decide-name, decide-s
 -- ---- where all indices have rows, the instructions can be linked
 
 -- a raw instruction, linked, with a name that its index stands for
-link : (N : ℕ → Name → Type 0) (T : ℤ → ℕ) (r : Raw) → InsnHasName N r → (i : Insn) × Says N T r i
+link : (N : ℕ → Name → Type 0) (T : ℤ → ℕ) (r : Raw) → InsnHasName N r → (i : Insn) × Resolves N T r i
 unfolding linked
 link N T (raw.I21c op a index) n = (made.I21c op a n.0, record { symbol = refl; named = n.1 })
 link N T (raw.I22c op a b index) n = (made.I22c op a b n.0, record { symbol = refl; named = n.1 })
@@ -57,17 +57,17 @@ origin-found is k = elim (decide-switch (insn_payload (insn_at is k))) [
 
 module _ (N : ℕ → Name → Type 0) (rs : List Raw) (names : (k : ℕ) → k < length rs → NameHolds N rs k) where
   -- each from itself
-  pub half : (is : List Insn) × (length is ≡ length rs) × ((k : ℕ) → k < length rs → Says N (lead (starts rs) (address rs k)) (raw_at rs k) (insn_at is k))
-  half = build (made.I10x 0) (λ k i. Says N (lead (starts rs) (address rs k)) (raw_at rs k) i) (length rs) (λ k l. link N _ (raw_at rs k) (names k l))
+  pub half : (is : List Insn) × (length is ≡ length rs) × ((k : ℕ) → k < length rs → Resolves N (target_number (starts rs) (address rs k)) (raw_at rs k) (insn_at is k))
+  half = build (made.I10x 0) (λ k i. Resolves N (target_number (starts rs) (address rs k)) (raw_at rs k) i) (length rs) (λ k l. link N _ (raw_at rs k) (names k l))
 
   half-linked : AreHalfLinked N rs half.0
-  half-linked = record { count = half.1; each = λ k l. let s = half.2 k l in record { kind = ap insn_payload (sym s.symbol) ∙ kind-linked _ _ (raw_at rs k); says = λ _. s } }
+  half-linked = record { count = half.1; each = λ k l. let s = half.2 k l in record { kind = ap insn_payload (sym s.symbol) ∙ kind-linked _ _ (raw_at rs k); resolves = λ _. s } }
 
   origins : (js : List ℕ) × (length js ≡ length half.0) × ((k : ℕ) → k < length half.0 → IsOrigin half.0 k (get_or js k 0))
   origins = build 0 (IsOrigin half.0) (length half.0) (λ k l. origin-found half.0 k)
 
-  whole : (is : List Insn) × (length is ≡ length rs) × ((k : ℕ) → k < length rs → Says N (lead (starts rs) (address rs (get_or origins.0 k 0))) (raw_at rs k) (insn_at is k))
-  whole = build (made.I10x 0) (λ k i. Says N (lead (starts rs) (address rs (get_or origins.0 k 0))) (raw_at rs k) i) (length rs) (λ k l. link N _ (raw_at rs k) (names k l))
+  whole : (is : List Insn) × (length is ≡ length rs) × ((k : ℕ) → k < length rs → Resolves N (target_number (starts rs) (address rs (get_or origins.0 k 0))) (raw_at rs k) (insn_at is k))
+  whole = build (made.I10x 0) (λ k i. Resolves N (target_number (starts rs) (address rs (get_or origins.0 k 0))) (raw_at rs k) i) (length rs) (λ k l. link N _ (raw_at rs k) (names k l))
 
   pub linked-found : (is : List Insn) × AreLinked N rs is
   linked-found = (whole.0, all-linked N rs half.0 whole.0 origins.0 half-linked (record { count = origins.1; each = origins.2 }) whole.1 whole.2)

@@ -12,9 +12,9 @@ use Rattle.program_types.specs.Operands.{IsOfIndexKind}
 use Rattle.code_rules.specs.Branches.{IsOrigin}
 use Rattle.tables_rows.specs.Names.{Names, NameIsAt}
 use Rattle.code_read.specs.Walk.{Walks, starts, raw_at, address}
-use Rattle.code_read.specs.Symbols.{linked, Says, IndexStandsFor, name_in}
+use Rattle.code_read.specs.Symbols.{linked, Resolves, IndexStandsFor, name_in}
 use Rattle.code_read.specs.inner.Symbols.{IsFunctional}
-use Rattle.code_read.specs.Linked.{lead, payload_of, AreLinked, SpellsInsns}
+use Rattle.code_read.specs.Linked.{target_number, payload_of, AreLinked, SpellsInsns}
 use Rattle.code_read.proofs.Runs.{run-once}
 use Rattle.code_read.proofs.LinkLaws.{IsLike, kind-linked, wants-linked, reach-linked, own-origin, origin-like}
 use Rattle.std.proofs.lemmas.List.{ext_get_or}
@@ -43,14 +43,14 @@ named-one N op n v w f p q = by (index_kind_of op) p.kind q.kind
 same-name : (T : ℤ → ℕ) (r : Raw) (i j : Insn) → name_in i ≡ name_in j → linked T (name_in i) r ≡ i → linked T (name_in j) r ≡ j → i ≡ j
 same-name T r i j e p q = sym p ∙ ap (λ (w : Name). linked T w r) e ∙ q
 
-pub says-one : (N : ℕ → Name → Type 0) (T : ℤ → ℕ) (r : Raw) (i j : Insn) → IsFunctional N → Says N T r i → Says N T r j → i ≡ j
+pub resolves-one : (N : ℕ → Name → Type 0) (T : ℤ → ℕ) (r : Raw) (i j : Insn) → IsFunctional N → Resolves N T r i → Resolves N T r j → i ≡ j
 unfolding linked
-says-one N T (raw.I21c op a n) i j f p q = same-name T (raw.I21c op a n) i j (named-one N op n _ _ f p.named q.named) p.symbol q.symbol
-says-one N T (raw.I22c op a b n) i j f p q = same-name T (raw.I22c op a b n) i j (named-one N op n _ _ f p.named q.named) p.symbol q.symbol
-says-one N T (raw.I31c op a n) i j f p q = same-name T (raw.I31c op a n) i j (named-one N op n _ _ f p.named q.named) p.symbol q.symbol
-says-one N T (raw.I35c op m regs n) i j f p q = same-name T (raw.I35c op m regs n) i j (named-one N op n _ _ f p.named q.named) p.symbol q.symbol
-says-one N T (raw.I3rc op m first n) i j f p q = same-name T (raw.I3rc op m first n) i j (named-one N op n _ _ f p.named q.named) p.symbol q.symbol
-says-one N T r i j f p q = sym p.symbol ∙ q.symbol
+resolves-one N T (raw.I21c op a n) i j f p q = same-name T (raw.I21c op a n) i j (named-one N op n _ _ f p.named q.named) p.symbol q.symbol
+resolves-one N T (raw.I22c op a b n) i j f p q = same-name T (raw.I22c op a b n) i j (named-one N op n _ _ f p.named q.named) p.symbol q.symbol
+resolves-one N T (raw.I31c op a n) i j f p q = same-name T (raw.I31c op a n) i j (named-one N op n _ _ f p.named q.named) p.symbol q.symbol
+resolves-one N T (raw.I35c op m regs n) i j f p q = same-name T (raw.I35c op m regs n) i j (named-one N op n _ _ f p.named q.named) p.symbol q.symbol
+resolves-one N T (raw.I3rc op m first n) i j f p q = same-name T (raw.I3rc op m first n) i j (named-one N op n _ _ f p.named q.named) p.symbol q.symbol
+resolves-one N T r i j f p q = sym p.symbol ∙ q.symbol
 
 module _ (N : ℕ → Name → Type 0) (rs : List Raw) (is js : List Insn) (p : AreLinked N rs is) (q : AreLinked N rs js) where
   like : (k : ℕ) → k < length is → IsLike (insn_at is k) (insn_at js k)
@@ -59,14 +59,14 @@ module _ (N : ℕ → Name → Type 0) (rs : List Raw) (is js : List Insn) (p : 
       let x = p.each k (omega (arith, l, n)) in
       let y = q.each k (omega (arith, l, n)) in
       record {
-        kind = ap insn_payload (sym x.says.symbol) ∙ kind-linked _ _ (raw_at rs k) ∙ sym (kind-linked _ _ (raw_at rs k)) ∙ ap insn_payload y.says.symbol;
-        wants = ap insn_wants (sym x.says.symbol) ∙ wants-linked _ _ _ _ (raw_at rs k) ∙ ap insn_wants y.says.symbol;
+        kind = ap insn_payload (sym x.resolves.symbol) ∙ kind-linked _ _ (raw_at rs k) ∙ sym (kind-linked _ _ (raw_at rs k)) ∙ ap insn_payload y.resolves.symbol;
+        wants = ap insn_wants (sym x.resolves.symbol) ∙ wants-linked _ _ _ _ (raw_at rs k) ∙ ap insn_wants y.resolves.symbol;
         reach = λ e.
-            let none : payload_of (raw_at rs k) ≡ None = sym (kind-linked _ _ (raw_at rs k)) ∙ ap insn_payload x.says.symbol ∙ e in
-            let other : insn_payload (insn_at js k) ≡ None = ap insn_payload (sym y.says.symbol) ∙ kind-linked _ _ (raw_at rs k) ∙ none in
+            let none : payload_of (raw_at rs k) ≡ None = sym (kind-linked _ _ (raw_at rs k)) ∙ ap insn_payload x.resolves.symbol ∙ e in
+            let other : insn_payload (insn_at js k) ≡ None = ap insn_payload (sym y.resolves.symbol) ∙ kind-linked _ _ (raw_at rs k) ∙ none in
             let same : x.origin ≡ y.origin = own-origin is k x.origin x.counts e ∙ sym (own-origin js k y.origin y.counts other) in
-            ap insn_reach (sym x.says.symbol) ∙ ap (λ (o : ℕ). insn_reach (linked (lead (starts rs) (address rs o)) (name_in (insn_at is k)) (raw_at rs k))) same
-            ∙ reach-linked _ _ _ (raw_at rs k) ∙ ap insn_reach y.says.symbol;
+            ap insn_reach (sym x.resolves.symbol) ∙ ap (λ (o : ℕ). insn_reach (linked (target_number (starts rs) (address rs o)) (name_in (insn_at is k)) (raw_at rs k))) same
+            ∙ reach-linked _ _ _ (raw_at rs k) ∙ ap insn_reach y.resolves.symbol;
       }
 
   pub linked-one : IsFunctional N → is ≡ js
@@ -77,7 +77,7 @@ module _ (N : ℕ → Name → Type 0) (rs : List Raw) (is js : List Insn) (p : 
       let x = p.each k (omega (arith, l, n)) in
       let y = q.each k (omega (arith, l, n)) in
       let o : x.origin ≡ y.origin = origin-one js k x.origin y.origin (origin-like is js k x.origin (n ∙ sym m) like l x.counts) y.counts in
-      says-one N (lead (starts rs) (address rs y.origin)) (raw_at rs k) _ _ f (subst (λ (z : ℕ). Says N (lead (starts rs) (address rs z)) (raw_at rs k) (insn_at is k)) o x.says) y.says)
+      resolves-one N (target_number (starts rs) (address rs y.origin)) (raw_at rs k) _ _ f (subst (λ (z : ℕ). Resolves N (target_number (starts rs) (address rs z)) (raw_at rs k) (insn_at is k)) o x.resolves) y.resolves)
 
 pub walks-one : (us : List ℕ) (rs ss : List Raw) → Walks us rs → Walks us ss → rs ≡ ss
 walks-one us rs ss p q = run-once us 0 rs ss (length us / 2) p.run q.run

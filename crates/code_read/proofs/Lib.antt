@@ -23,12 +23,12 @@ pub mod HandlersDecided
 pub mod InsnsDecided
 pub mod ItemLaws
 pub mod ListReading
-pub mod LookLaws
+pub mod VisitLaws
 pub mod NamesHaveRows
 pub mod OneItemFault
 pub mod PastLaws
 pub mod RulesDecided
-pub mod SaidLaws
+pub mod ResolvedLaws
 pub mod StandLaws
 pub mod TriesDecided
 pub mod TriesOnce

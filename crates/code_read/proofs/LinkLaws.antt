@@ -14,8 +14,8 @@ use Rattle.program_types.specs.declared.payload.Payload.{Payload}
 use Rattle.code_rules.specs.Branches.{IsOrigin}
 use Rattle.code_rules.specs.inner.Branches.{AreOrigins}
 use Rattle.code_read.specs.Walk.{starts, raw_at, address}
-use Rattle.code_read.specs.Symbols.{linked, ints, ints_from, name_in, Says, InsnNames, InsnHasName}
-use Rattle.code_read.specs.Linked.{lead, payload_of, AreLinked}
+use Rattle.code_read.specs.Symbols.{linked, ints, ints_from, name_in, Resolves, InsnNames, InsnHasName}
+use Rattle.code_read.specs.Linked.{target_number, payload_of, AreLinked}
 use Rattle.code_read.specs.inner.InsnReading.{IsHalfLinked, AreHalfLinked}
 
 pub at_raw : (xs : List RawInsn) (k : ℕ) → raw_at (map raw.raw xs) k ≡ raw.raw (get_or xs k (held.I10x 0))
@@ -110,29 +110,29 @@ own-origin is k o (inl s) e = absurd (subst IsSwitch e s.0)
 own-origin is k o (inr s) e = s.1
 
 module _ (N : ℕ → Name → Type 0) (rs : List Raw) (half is : List Insn) (js : List ℕ) (h : AreHalfLinked N rs half) (origins : AreOrigins half js) (count : length is ≡ length rs)
-    (says : (k : ℕ) → k < length rs → Says N (lead (starts rs) (address rs (get_or js k 0))) (raw_at rs k) (insn_at is k)) where
+    (resolves : (k : ℕ) → k < length rs → Resolves N (target_number (starts rs) (address rs (get_or js k 0))) (raw_at rs k) (insn_at is k)) where
   like : (k : ℕ) → k < length half → IsLike (insn_at half k) (insn_at is k)
   like k l =
       let n = h.count in
       let m : k < length rs = omega (arith, l, n) in
       let x = h.each k m in
-      let s = says k m in
+      let s = resolves k m in
       let kind : insn_payload (insn_at is k) ≡ payload_of (raw_at rs k) = ap insn_payload (sym s.symbol) ∙ kind-linked _ _ (raw_at rs k) in
       record {
         kind = x.kind ∙ sym kind;
         wants = elim (option-cases (payload_of (raw_at rs k))) [
-          | inl plain ↦ ap insn_wants (sym (x.says plain).symbol) ∙ wants-linked _ _ _ _ (raw_at rs k) ∙ ap insn_wants s.symbol
+          | inl plain ↦ ap insn_wants (sym (x.resolves plain).symbol) ∙ wants-linked _ _ _ _ (raw_at rs k) ∙ ap insn_wants s.symbol
           | inr p ↦ no-wants _ p.0 (x.kind ∙ p.1) ∙ sym (no-wants _ p.0 (kind ∙ p.1))
         ];
         reach = λ e.
             let own : get_or js k 0 ≡ k = own-origin half k _ (origins.each k l) e in
-            ap insn_reach (sym (x.says (sym x.kind ∙ e)).symbol) ∙ reach-linked _ _ _ (raw_at rs k) ∙ ap (λ (o : ℕ). insn_reach (linked (lead (starts rs) (address rs o)) (name_in (insn_at is k)) (raw_at rs k))) (sym own) ∙ ap insn_reach s.symbol;
+            ap insn_reach (sym (x.resolves (sym x.kind ∙ e)).symbol) ∙ reach-linked _ _ _ (raw_at rs k) ∙ ap (λ (o : ℕ). insn_reach (linked (target_number (starts rs) (address rs o)) (name_in (insn_at is k)) (raw_at rs k))) (sym own) ∙ ap insn_reach s.symbol;
       }
 
   pub all-linked : AreLinked N rs is
   all-linked = record {
     count = count;
-    each = λ k l. record { origin = get_or js k 0; counts = let n = h.count in origin-like half is k _ (n ∙ sym count) like (omega (arith, l, n)) (origins.each k (omega (arith, l, n))); says = says k l };
+    each = λ k l. record { origin = get_or js k 0; counts = let n = h.count in origin-like half is k _ (n ∙ sym count) like (omega (arith, l, n)) (origins.each k (omega (arith, l, n))); resolves = resolves k l };
   }
 
 -- ---- of all instructions
@@ -147,7 +147,7 @@ starts-same at (i ∷ is) (r ∷ rs) e h =
 
 pub addresses-same : (N : ℕ → Name → Type 0) (rs : List Raw) (is : List Insn) → AreLinked N rs is → starts rs ≡ addresses_of is
 unfolding raw_at
-addresses-same N rs is a = starts-same 0 is rs a.count (λ k l. units-linked _ _ (get_or rs k (raw.I10x 0)) ∙ ap insn_units (a.each k l).says.symbol)
+addresses-same N rs is a = starts-same 0 is rs a.count (λ k l. units-linked _ _ (get_or rs k (raw.I10x 0)) ∙ ap insn_units (a.each k l).resolves.symbol)
 
 -- an index that stands for a name stands for some name
 pub has-name : (N : ℕ → Name → Type 0) (r : Raw) (w : Name) → InsnNames N r w → InsnHasName N r
@@ -164,4 +164,4 @@ unfolding payload_of
 half-named N ss at (raw.Packed first offsets) i h = tt
 half-named N ss at (raw.Sparse keys offsets) i h = tt
 half-named N ss at (raw.Data width bytes) i h = tt
-half-named N ss at r i h = has-name N r (name_in i) (h.says refl).named
+half-named N ss at r i h = has-name N r (name_in i) (h.resolves refl).named

@@ -16,7 +16,7 @@ use Rattle.code_read.specs.Handlers.{Handler, SpellsHandlers, handler_at}
 use Rattle.code_read.specs.inner.Handlers.{SpellsCatch, SpellsHandler}
 use Rattle.code_read.specs.Tries.{SpellsTries, handler_of}
 use Rattle.code_read.specs.Code.{SpellsBody, CodeStands}
-use Rattle.code_read.proofs.SaidLaws.{names-said}
+use Rattle.code_read.proofs.ResolvedLaws.{names-said}
 use Rattle.dex_base.proofs.ListFacts.{all_map, all_append}
 
 -- what holds in each part holds in all of them
@@ -45,7 +45,7 @@ module _ (N : ℕ → Name → Type 0) where
       (λ k l.
       let n = s.linked.count in
       let x = s.linked.each k (omega (arith, l, n)) in
-      subst (λ (i : Insn). AllByRecursion HasIndex (names_of_insn i)) x.says.symbol (names-said N _ (name_in (insn_at is k)) (raw_at rs k) x.says.named))
+      subst (λ (i : Insn). AllByRecursion HasIndex (names_of_insn i)) x.resolves.symbol (names-said N _ (name_in (insn_at is k)) (raw_at rs k) x.resolves.named))
 
   -- the types of catches
   CatchesHave : List Catch → Type 0

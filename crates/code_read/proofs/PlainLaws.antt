@@ -13,9 +13,9 @@ use Rattle.program_types.specs.declared.payload.Payload.{Payload}
 use Rattle.code_rules.specs.inner.Branches.{BranchStays}
 use Rattle.code_rules.specs.First.{AllHold}
 use Rattle.code_read.specs.Walk.{Run, raw_at, address, starts}
-use Rattle.code_read.specs.Symbols.{linked, Says}
-use Rattle.code_read.specs.Linked.{lead, AreLinked, KeepRules}
-use Rattle.code_read.specs.inner.Plain.{is_plain, SaysAtOnce, ArePlain}
+use Rattle.code_read.specs.Symbols.{linked, Resolves}
+use Rattle.code_read.specs.Linked.{target_number, AreLinked, KeepRules}
+use Rattle.code_read.specs.inner.Plain.{is_plain, ResolvesAtOnce, ArePlain}
 use Rattle.code_read.proofs.Runs.{run-more, starts-more, length-of_starts, table-of}
 use Rattle.std.proofs.lemmas.Option.{IfSome_then}
 
@@ -42,21 +42,21 @@ no-targets (content.Sparse keys to) e = absurd cc
 no-targets _ e = refl
 
 -- what is said of each raw instruction of a code
-pub record SaidPlainly (N : ℕ → Name → Type 0) (rs : List Raw) (is : List Insn) : Type 0 where
+pub record ResolvesPlainly (N : ℕ → Name → Type 0) (rs : List Raw) (is : List Insn) : Type 0 where
   pub count : length is ≡ length rs
   pub plain : (k : ℕ) → k < length rs → is_plain (raw_at rs k) ≡ true
   pub leads : (k : ℕ) → k < length rs → BranchStays (length rs) k (insn_at is k)
-  pub says : (k : ℕ) → k < length rs → Says N (lead (starts rs) (address rs k)) (raw_at rs k) (insn_at is k)
+  pub resolves : (k : ℕ) → k < length rs → Resolves N (target_number (starts rs) (address rs k)) (raw_at rs k) (insn_at is k)
 
-module _ (N : ℕ → Name → Type 0) (rs : List Raw) (is : List Insn) (s : SaidPlainly N rs is) where
+module _ (N : ℕ → Name → Type 0) (rs : List Raw) (is : List Insn) (s : ResolvesPlainly N rs is) where
   no-payload : (k : ℕ) → k < length rs → insn_payload (insn_at is k) ≡ None
-  no-payload k l = ap insn_payload (sym (s.says k l).symbol) ∙ (plain-kind _ _ (raw_at rs k) (s.plain k l)).0
+  no-payload k l = ap insn_payload (sym (s.resolves k l).symbol) ∙ (plain-kind _ _ (raw_at rs k) (s.plain k l)).0
 
   no-wants : (k : ℕ) → k < length rs → insn_wants (insn_at is k) ≡ None
-  no-wants k l = ap insn_wants (sym (s.says k l).symbol) ∙ (plain-kind _ _ (raw_at rs k) (s.plain k l)).1
+  no-wants k l = ap insn_wants (sym (s.resolves k l).symbol) ∙ (plain-kind _ _ (raw_at rs k) (s.plain k l)).1
 
   pub are-linked : AreLinked N rs is
-  are-linked = record { count = s.count; each = λ k l. record { origin = k; counts = inr (λ i x. subst IsSwitch (no-payload k l) x.0, refl); says = s.says k l } }
+  are-linked = record { count = s.count; each = λ k l. record { origin = k; counts = inr (λ i x. subst IsSwitch (no-payload k l) x.0, refl); resolves = s.resolves k l } }
 
   pub keep : KeepRules is
   keep = record {
@@ -100,29 +100,29 @@ pub record PlainRun (N : ℕ → Name → Type 0) (us begins : List ℕ) (count 
   pub said : length is ≡ k
   pub run : Run us 0 raws at
   pub begins_are : take k begins ≡ starts raws
-  pub each : AllHold (λ j. SaysAtOnce N begins count (get_or begins j 0) j (raw_at raws j) (insn_at is j)) k
+  pub each : AllHold (λ j. ResolvesAtOnce N begins count (get_or begins j 0) j (raw_at raws j) (insn_at is j)) k
 
 module _ (N : ℕ → Name → Type 0) (us begins : List ℕ) (count : ℕ) where
   pub begun : PlainRun N us begins count [] 0 0
   begun = record { raws = []; count_is = refl; said = refl; run = refl; begins_are = refl; each = λ j lt. absurd (omega (arith, lt)) }
 
   module _ (is : List Insn) (k at : ℕ) (r : Raw) (i : Insn) (p : PlainRun N us begins count is k at) where
-    each_more : SaysAtOnce N begins count (get_or begins k 0) k r i → (j : ℕ) → j < k + 1 → SaysAtOnce N begins count (get_or begins j 0) j (raw_at (p.raws ++ r ∷ []) j) (insn_at (is ++ i ∷ []) j)
+    each_more : ResolvesAtOnce N begins count (get_or begins k 0) k r i → (j : ℕ) → j < k + 1 → ResolvesAtOnce N begins count (get_or begins j 0) j (raw_at (p.raws ++ r ∷ []) j) (insn_at (is ++ i ∷ []) j)
     each_more one j lt =
         let c = p.count_is in
         let d = p.said in
         elim (cases_lt j k) [
           | inl l ↦
-              subst (λ (x : Raw). SaysAtOnce N begins count (get_or begins j 0) j x (insn_at (is ++ i ∷ []) j)) (sym (raw_front p.raws r j (omega (arith, l, c))))
-              (subst (λ (x : Insn). SaysAtOnce N begins count (get_or begins j 0) j (raw_at p.raws j) x) (sym (insn_front is i j (omega (arith, l, d)))) (p.each j l))
+              subst (λ (x : Raw). ResolvesAtOnce N begins count (get_or begins j 0) j x (insn_at (is ++ i ∷ []) j)) (sym (raw_front p.raws r j (omega (arith, l, c))))
+              (subst (λ (x : Insn). ResolvesAtOnce N begins count (get_or begins j 0) j (raw_at p.raws j) x) (sym (insn_front is i j (omega (arith, l, d)))) (p.each j l))
           | inr g ↦
               let last : k ≡ j = omega (arith, lt, g) in
-              subst (λ (n : ℕ). SaysAtOnce N begins count (get_or begins n 0) n (raw_at (p.raws ++ r ∷ []) n) (insn_at (is ++ i ∷ []) n)) last
-              (subst (λ (x : Raw). SaysAtOnce N begins count (get_or begins k 0) k x (insn_at (is ++ i ∷ []) k)) (sym (subst (λ (n : ℕ). raw_at (p.raws ++ r ∷ []) n ≡ r) c (raw_last p.raws r)))
-              (subst (λ (x : Insn). SaysAtOnce N begins count (get_or begins k 0) k r x) (sym (subst (λ (n : ℕ). insn_at (is ++ i ∷ []) n ≡ i) d (insn_last is i))) one))
+              subst (λ (n : ℕ). ResolvesAtOnce N begins count (get_or begins n 0) n (raw_at (p.raws ++ r ∷ []) n) (insn_at (is ++ i ∷ []) n)) last
+              (subst (λ (x : Raw). ResolvesAtOnce N begins count (get_or begins k 0) k x (insn_at (is ++ i ∷ []) k)) (sym (subst (λ (n : ℕ). raw_at (p.raws ++ r ∷ []) n ≡ r) c (raw_last p.raws r)))
+              (subst (λ (x : Insn). ResolvesAtOnce N begins count (get_or begins k 0) k r x) (sym (subst (λ (n : ℕ). insn_at (is ++ i ∷ []) n ≡ i) d (insn_last is i))) one))
         ]
 
-    pub turned : k < length begins → get_or begins k 0 ≡ at → InsnStands us at r → SaysAtOnce N begins count (get_or begins k 0) k r i → PlainRun N us begins count (is ++ i ∷ []) (k + 1) (at + units r)
+    pub turned : k < length begins → get_or begins k 0 ≡ at → InsnStands us at r → ResolvesAtOnce N begins count (get_or begins k 0) k r i → PlainRun N us begins count (is ++ i ∷ []) (k + 1) (at + units r)
     turned inside here stands one = record {
       raws = p.raws ++ r ∷ [];
       count_is = length_push p.raws r ∙ ap (λ (n : ℕ). n + 1) p.count_is;
@@ -140,7 +140,7 @@ module _ (N : ℕ → Name → Type 0) (us begins : List ℕ) (count : ℕ) wher
     run_all : Run us 0 p.raws (length us / 2)
     run_all = subst (λ (n : ℕ). Run us 0 p.raws n) end p.run
 
-    said_all : SaidPlainly N p.raws is
+    said_all : ResolvesPlainly N p.raws is
     said_all =
         let c = p.count_is in
         let size : length begins ≡ length p.raws = ap length begins_all ∙ length-of_starts p.raws in
@@ -148,7 +148,7 @@ module _ (N : ℕ → Name → Type 0) (us begins : List ℕ) (count : ℕ) wher
           count = p.said ∙ sym c;
           plain = λ j l. (p.each j (omega (arith, l, c))).plain;
           leads = λ j l. subst (λ (n : ℕ). BranchStays n j (insn_at is j)) size (p.each j (omega (arith, l, c))).leads;
-          says = λ j l. subst (λ (ss : List ℕ). Says N (lead ss (get_or ss j 0)) (raw_at p.raws j) (insn_at is j)) begins_all (p.each j (omega (arith, l, c))).says;
+          resolves = λ j l. subst (λ (ss : List ℕ). Resolves N (target_number ss (get_or ss j 0)) (raw_at p.raws j) (insn_at is j)) begins_all (p.each j (omega (arith, l, c))).resolves;
         }
 
     pub plain_all : ArePlain N us begins count is

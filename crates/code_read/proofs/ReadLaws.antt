@@ -11,8 +11,8 @@ use Rattle.program_types.specs.Formed.{insn_at, insn_payload}
 use Rattle.code_rules.specs.inner.Branches.{AreOrigins}
 use Rattle.code_read.specs.Walk.{starts, raw_at}
 use Rattle.code_read.specs.inner.Walk.{IsTable}
-use Rattle.code_read.specs.Symbols.{Says}
-use Rattle.code_read.specs.Linked.{lead, payload_of, NameHolds, AreLinked}
+use Rattle.code_read.specs.Symbols.{Resolves}
+use Rattle.code_read.specs.Linked.{target_number, payload_of, NameHolds, AreLinked}
 use Rattle.code_read.specs.InsnFaults.{NamesBreak}
 use Rattle.code_read.specs.inner.InsnReading.{IsHalfLinked, AreHalfLinked}
 use Rattle.code_read.proofs.Lists.{EachSoFar}
@@ -34,10 +34,10 @@ no-payload _ e = refl
 
 module _ (N : ℕ → Name → Type 0) (xs : List RawInsn) where
   pub half-payload : (ss : List ℕ) (at k : ℕ) (i : Insn) → is_payload (raw (get_or xs k (held.I10x 0))) ≡ true → insn_payload i ≡ payload_of (raw (get_or xs k (held.I10x 0))) → IsHalfLinked N ss at (raw_at (map raw xs) k) i
-  half-payload ss at k i p e = rw at_raw (record { kind = e; says = λ none. absurd (some-payload _ p none) })
+  half-payload ss at k i p e = rw at_raw (record { kind = e; resolves = λ none. absurd (some-payload _ p none) })
 
-  pub half-plain : (ss : List ℕ) (at k : ℕ) (i : Insn) → Says N (lead ss at) (raw (get_or xs k (held.I10x 0))) i → IsHalfLinked N ss at (raw_at (map raw xs) k) i
-  half-plain ss at k i s = rw at_raw (record { kind = ap insn_payload (sym s.symbol) ∙ kind-linked _ _ _; says = λ _. s })
+  pub half-plain : (ss : List ℕ) (at k : ℕ) (i : Insn) → Resolves N (target_number ss at) (raw (get_or xs k (held.I10x 0))) i → IsHalfLinked N ss at (raw_at (map raw xs) k) i
+  half-plain ss at k i s = rw at_raw (record { kind = ap insn_payload (sym s.symbol) ∙ kind-linked _ _ _; resolves = λ _. s })
 
   module _ (begins : List ℕ) (table : IsTable begins (map raw xs)) where
     pub half-all : (is : List Insn) (k : ℕ) → k ≡ length xs → EachSoFar (λ j. IsHalfLinked N begins (get_or begins j 0) (raw_at (map raw xs) j)) is k → AreHalfLinked N (map raw xs) is
@@ -52,16 +52,16 @@ module _ (N : ℕ → Name → Type 0) (xs : List RawInsn) where
         record { number = k; within = omega (arith, l, n, m); breaks = record { broken = bad; is = e }; before = λ j i. half-named N begins _ _ (insn_at is j) (s.each j i) }
 
     module _ (half : List Insn) (js : List ℕ) (h : AreHalfLinked N (map raw xs) half) (origins : AreOrigins half js) where
-      pub own-linked : (k : ℕ) (i : Insn) → k < length xs → is_payload (raw (get_or xs k (held.I10x 0))) ≡ false → insn_at half k ≡ i → Says N (lead begins (get_or begins (get_or js k 0) 0)) (raw_at (map raw xs) k) i
+      pub own-linked : (k : ℕ) (i : Insn) → k < length xs → is_payload (raw (get_or xs k (held.I10x 0))) ≡ false → insn_at half k ≡ i → Resolves N (target_number begins (get_or begins (get_or js k 0) 0)) (raw_at (map raw xs) k) i
       own-linked k i l p e =
           let n = h.count in let m = length-map xs raw in
           let x = h.each k (omega (arith, l, m)) in
           let none : payload_of (raw_at (map raw xs) k) ≡ None = rw at_raw (no-payload _ p) in
           let own : get_or js k 0 ≡ k = own-origin half k _ (origins.each k (omega (arith, l, m, n))) (x.kind ∙ none) in
-          rw (own, table.is) (subst (Says N (lead (starts (map raw xs)) (get_or (starts (map raw xs)) k 0)) (raw_at (map raw xs) k)) e (x.says none))
+          rw (own, table.is) (subst (Resolves N (target_number (starts (map raw xs)) (get_or (starts (map raw xs)) k 0)) (raw_at (map raw xs) k)) e (x.resolves none))
 
-      pub linked-all : (is : List Insn) (k : ℕ) → k ≡ length xs → EachSoFar (λ j. Says N (lead begins (get_or begins (get_or js j 0) 0)) (raw_at (map raw xs) j)) is k → AreLinked N (map raw xs) is
+      pub linked-all : (is : List Insn) (k : ℕ) → k ≡ length xs → EachSoFar (λ j. Resolves N (target_number begins (get_or begins (get_or js j 0) 0)) (raw_at (map raw xs) j)) is k → AreLinked N (map raw xs) is
       linked-all is k e s =
           let m = length-map xs raw in
           all-linked N (map raw xs) half is js h origins (s.count ∙ e ∙ sym m)
-          (λ j l. subst (λ (ss : List ℕ). Says N (lead ss (get_or ss (get_or js j 0) 0)) (raw_at (map raw xs) j) (insn_at is j)) table.is (s.each j (omega (arith, l, m, e))))
+          (λ j l. subst (λ (ss : List ℕ). Resolves N (target_number ss (get_or ss (get_or js j 0) 0)) (raw_at (map raw xs) j) (insn_at is j)) table.is (s.each j (omega (arith, l, m, e))))

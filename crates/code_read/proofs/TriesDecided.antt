@@ -37,22 +37,22 @@ module _ (ss : List ℕ) (size : ℕ) (items : List ℕ) where
       (decide_both (decide_le (try_start items i + try_count items i) size) (decide-after i))))
 
 module _ (N : ℕ → Name → Type 0) (names : AreNamesDecided N) (functional : IsFunctional N) (ss : List ℕ) where
-  abbrev Leads : List (ℕ × Handler) → List ℕ → ℕ → Type 0
-  Leads hs items i = (h : Handler) × (handler_at hs (try_handler items i) ≡ Some h)
+  abbrev Targets : List (ℕ × Handler) → List ℕ → ℕ → Type 0
+  Targets hs items i = (h : Handler) × (handler_at hs (try_handler items i) ≡ Some h)
 
   decide-handlers : (n : ℕ) (items rest : List ℕ) → Decided (HasHandlers N ss n items rest)
   decide-handlers n items rest = elim (decide-list N names functional ss rest) [
     | inr none ↦ inr (λ h. none h.handlers h.after (record { front = h.list; whole = h.joined; spelled = h.spelled }))
-    | inl x ↦ elim (decide-all-below (Leads x.0 items) (λ i. decide-there (handler_at x.0 (try_handler items i))) n) [
+    | inl x ↦ elim (decide-all-below (Targets x.0 items) (λ i. decide-there (handler_at x.0 (try_handler items i))) n) [
       | inl all ↦ inl (record { list = x.2.front; after = x.1; joined = x.2.whole; handlers = x.0; spelled = x.2.spelled; each = all })
       | inr nay ↦ inr (λ h.
           let same = (SpellsList-unique N ss functional h.list x.2.front h.after x.1 h.handlers x.0 h.spelled x.2.spelled (sym h.joined ∙ x.2.whole)).1 in
-          nay (subst (λ (hs : List (ℕ × Handler)). AllHold (Leads hs items) n) same h.each))
+          nay (subst (λ (hs : List (ℕ × Handler)). AllHold (Targets hs items) n) same h.each))
     ]
   ]
 
   -- where all rules hold, tries are spelled
-  try-of : (size : ℕ) (items : List ℕ) (hs : List (ℕ × Handler)) (i : ℕ) → TryHolds ss size items i → Leads hs items i → (t : Try) × SpellsTry ss items hs i t
+  try-of : (size : ℕ) (items : List ℕ) (hs : List (ℕ × Handler)) (i : ℕ) → TryHolds ss size items i → Targets hs items i → (t : Try) × SpellsTry ss items hs i t
   try-of size items hs i t l = (
     record { from = t.begins.0; to = count_below (try_start items i + try_count items i) ss; catches = l.0.catches; catch_all = l.0.all },
     record { from = t.begins.1; to = refl; handler = l.1 },

@@ -22,7 +22,7 @@ HasAll (pos zero) = ⊤
 HasAll (pos (suc n)) = ⊥
 HasAll (negsuc n) = ⊤
 
--- U and S are the spellings of unsigned and signed numbers, N says which index stands for which name, ss are the addresses of the
+-- U and S are the spellings of unsigned and signed numbers, N relates an index to its name, ss are the addresses of the
 -- instructions.
 module _ (U : List ℕ → ℕ → Type 0) (S : List ℕ → ℤ → Type 0) (N : ℕ → Name → Type 0) (ss : List ℕ) where
   -- an instruction, by its address
@@ -42,7 +42,7 @@ module _ (U : List ℕ → ℕ → Type 0) (S : List ℕ → ℤ → Type 0) (N 
   AllBy z bytes None = (¬ HasAll z) × (bytes ≡ [])
   AllBy z bytes (Some n) = HasAll z × AddressBy bytes n
 
-  -- the catches that the number says, and what is for all others
+  -- as many catches as the number has, and the handler of all others
   abbrev pub PartsBy : ℤ → List ℕ → List Catch × Option ℕ → Type 0
   PartsBy z = Pair (Many CatchBy (catches_of z)) (AllBy z)
 

@@ -13,11 +13,11 @@ use Rattle.code_rules.specs.First.{AllHold}
 use Rattle.code_rules.specs.Branches.{IsOrigin}
 use Rattle.code_read.specs.Places.{target_at}
 use Rattle.code_read.specs.Walk.{Walks, starts, raw_at, address}
-use Rattle.code_read.specs.Symbols.{Says, InsnHasName}
+use Rattle.code_read.specs.Symbols.{Resolves, InsnHasName}
 
 -- the number of the target instruction of an offset from the address `base`: if there is none, the number after the last
-unfoldable pub lead : List ℕ → ℕ → ℤ → ℕ
-lead ss base offset = unwrap_or (target_at ss base offset) (length ss)
+unfoldable pub target_number : List ℕ → ℕ → ℤ → ℕ
+target_number ss base offset = unwrap_or (target_at ss base offset) (length ss)
 
 -- which payload it is
 unfoldable pub payload_of : Raw → Option Payload
@@ -34,7 +34,7 @@ NameHolds N rs k = InsnHasName N (raw_at rs k)
 pub record IsLinked (N : ℕ → Name → Type 0) (rs : List Raw) (is : List Insn) (k : ℕ) : Type 0 where
   pub origin : ℕ
   pub counts : IsOrigin is k origin
-  pub says : Says N (lead (starts rs) (address rs origin)) (raw_at rs k) (insn_at is k)
+  pub resolves : Resolves N (target_number (starts rs) (address rs origin)) (raw_at rs k) (insn_at is k)
 
 -- The instructions are the raw ones, linked.
 pub record AreLinked (N : ℕ → Name → Type 0) (rs : List Raw) (is : List Insn) : Type 0 where

@@ -92,6 +92,6 @@ linked T which (raw.Sparse keys offsets) = made.Sparse (ints keys) (map T (ints 
 linked T which (raw.Data width bytes) = made.Data width bytes
 
 -- The raw instruction means the symbolic one; T gives the target instruction of an offset.
-pub record Says (N : ℕ → Name → Type 0) (T : ℤ → ℕ) (r : Raw) (i : Insn) : Type 0 where
+pub record Resolves (N : ℕ → Name → Type 0) (T : ℤ → ℕ) (r : Raw) (i : Insn) : Type 0 where
   pub symbol : linked T (name_in i) r ≡ i
   pub named : InsnNames N r (name_in i)

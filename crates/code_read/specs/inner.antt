@@ -6,7 +6,7 @@ pub mod Handlers
 pub mod InsnReading
 pub mod ItemChecking
 pub mod ItemReading
-pub mod Looking
+pub mod Visiting
 pub mod Places
 pub mod Plain
 pub mod Symbols

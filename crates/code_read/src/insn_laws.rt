@@ -6,7 +6,7 @@ ghost use Rattle.dex_insn.specs.Registers.{named_registers};
 ghost use Rattle.program_types.specs.Content.{Name, Code, Insn};
 ghost use Rattle.program_types.specs.Formed.{insn_registers};
 ghost use Rattle.tables_rows.specs.Names.{Names, NameIsAt};
-ghost use Rattle.code_read.specs.inner.ByAddress.{LeadsByAddress, SpellsInsnsByAddress};
+ghost use Rattle.code_read.specs.inner.ByAddress.{TargetsByAddress, SpellsInsnsByAddress};
 ghost use Rattle.code_read.specs.Code.{SpellsCode};
 ghost use Rattle.code_read.specs.InsnFaults.{InsnsBreak};
 ghost use Rattle.code_read.specs.Linked.{SpellsInsns};
@@ -14,7 +14,7 @@ ghost use Rattle.code_read.specs.Symbols.{linked};
 
 /// A raw instruction names the registers that the linked instruction names: so the rule of registers is the same for files and for
 /// programs.
-pub fn registers_are_said()
+pub fn linked_registers_are_named()
     ensures { (T : ℤ → ℕ) (name : Name) (r : Raw) → named_registers r ≡ insn_registers (linked T name r) }
 {}
 
@@ -25,8 +25,8 @@ pub fn insns_break_one_rule()
 
 /// By address, as on the page: in a code of a file each branch, each target of a switch and each reference to a payload refers to the
 /// instruction whose address is the sum, and to no other. An offset counts from its instruction, a switch's target from the switch.
-pub fn offsets_lead_by_address()
-    ensures { (names : Names) (bytes : List ℕ) (c : Code) (s : SpellsCode (NameIsAt names) bytes c) (k : ℕ) → k < length c.insns → LeadsByAddress s.body.raws c.insns k }
+pub fn offsets_target_by_address()
+    ensures { (names : Names) (bytes : List ℕ) (c : Code) (s : SpellsCode (NameIsAt names) bytes c) (k : ℕ) → k < length c.insns → TargetsByAddress s.body.raws c.insns k }
 {}
 
 /// The same as a definition: units are instructions if and only if they are by address. There each is the raw instruction with a name

@@ -7,7 +7,7 @@ ghost use Rattle.tables_rows.specs.Names.{NameIsAt};
 ghost use Rattle.code_read.specs.inner.ItemChecking.{IsClear, code_with};
 
 use crate::item::Item;
-use crate::looking::are_clear;
+use crate::visiting::are_clear;
 use bumpalo::Bump;
 use bumpalo::collections::into_bump_slice;
 use program_types::{Code, Insn, Try};
@@ -40,7 +40,7 @@ pub(crate) trait Keep<'a> {
     fn keep_insns(all: Vec<Insn<'a>, &'a Bump>) -> Self::Insns
         ensures { insns result (map view.insn all.entry.items) };
 
-    /// The instructions of an item that is clear; none where it isn't, and where that isn't asked.
+    /// The instructions of an item that is clear; `None` if it is not, or if instructions are kept.
     fn clear_insns(
         arena: &Bump,
         tables: &Tables<'_>,

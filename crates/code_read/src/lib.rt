@@ -21,17 +21,17 @@ mod plain;
 mod symbols;
 mod targets;
 
-// All instructions of a code: looked at, read, and what holds of them.
+// All instructions of a code: checked, read, and their laws.
 mod insn_laws;
 mod insns;
-mod looking;
+mod visiting;
 
 // The fixed parts of a code item, its tries and handlers.
 mod handlers;
 mod item;
 mod tries;
 
-// A whole code item: kept, or only looked at, what holds of it, and of all that a file has.
+// A whole code item: kept or only checked, and its laws and those of all code items of a file.
 mod file_laws;
 mod item_laws;
 mod keeping;
@@ -43,7 +43,8 @@ pub use file_laws::{
 };
 pub use handlers::{read_number, read_signed};
 pub use insn_laws::{
-    insns_are_spelled_by_address, insns_break_one_rule, offsets_lead_by_address, registers_are_said,
+    insns_are_spelled_by_address, insns_break_one_rule, linked_registers_are_named,
+    offsets_target_by_address,
 };
 pub use item::{Item, item_of};
 pub use item_laws::{

@@ -1,7 +1,7 @@
 //! From addresses to the numbers of instructions.
 
 ghost use Rattle.std.specs.Prelude.{◌≡◌, ◌≤◌, length, pos, ◌+ℤ◌, ◌<ℤ◌, IfNone, IfSome};
-ghost use Rattle.code_read.specs.Linked.{lead};
+ghost use Rattle.code_read.specs.Linked.{target_number};
 ghost use Rattle.code_read.specs.Places.{Rises, count_below, position, target_at};
 ghost use Rattle.code_read.specs.inner.Places.{IsCountBelow};
 
@@ -70,11 +70,11 @@ fn target_at(starts: &[u32], base: u32, offset: i32) -> Option<u32>
 }
 
 /// The number of the instruction that is `offset` units from the address `base`; if there is none, the number after the last.
-#[tactic(auto, unfolding(crate::specs::Linked::lead))]
-pub(crate) fn lead(starts: &[u32], base: u32, offset: i32) -> u32
+#[tactic(auto, unfolding(crate::specs::Linked::target_number))]
+pub(crate) fn target_number(starts: &[u32], base: u32, offset: i32) -> u32
     requires rises { Rises starts.now }
     requires few { length starts.now ≤ 4294967295 }
-    ensures { result ≡ lead starts.now base offset }
+    ensures { result ≡ target_number starts.now base offset }
 {
     match target_at(starts, base, offset) {
         Some(to) => to,

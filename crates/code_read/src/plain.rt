@@ -8,7 +8,7 @@ ghost use Rattle.dex_insn.specs.Raw as spelled;
 ghost use Rattle.dex_insn.specs.Raw.{raw, Raw};
 ghost use Rattle.dex_insn.specs.RawInsns.{InsnStands};
 ghost use Rattle.code_read.specs.Places.{Rises};
-ghost use Rattle.code_read.specs.inner.Plain.{is_plain, SaysAtOnce, ArePlain};
+ghost use Rattle.code_read.specs.inner.Plain.{is_plain, ResolvesAtOnce, ArePlain};
 
 use crate::keeping::Keep;
 use crate::symbols::link;
@@ -58,7 +58,7 @@ struct Link<'t, 'a, 's> {
 impl<'a, 'b> Take<'b> for Link<'_, 'a, '_> {
     type Out = Option<Seen<'a>>;
 
-    ghost takes = { λ l r out. IfSome out (λ s. SaysAtOnce (NameIsAt l.tables.now) l.starts.now l.registers l.at l.k r (insn s.insn) × (s.units ≡ spelled.units r)) };
+    ghost takes = { λ l r out. IfSome out (λ s. ResolvesAtOnce (NameIsAt l.tables.now) l.starts.now l.registers l.at l.k r (insn s.insn) × (s.units ≡ spelled.units r)) };
 
     #[inline(always)]
     fn take(self, one: RawInsn<'b>) -> Option<Seen<'a>> {
@@ -90,7 +90,7 @@ fn insn_at<'a>(
 ) -> Option<Seen<'a>>
     requires rises { Rises starts.now }
     requires few { length starts.now ≤ 4294967295 }
-    ensures { IfSome result (λ s. (r : Raw) × InsnStands units.now at r × SaysAtOnce (NameIsAt tables.now) starts.now registers at k r (insn s.insn) × (s.units ≡ spelled.units r)) }
+    ensures { IfSome result (λ s. (r : Raw) × InsnStands units.now at r × ResolvesAtOnce (NameIsAt tables.now) starts.now registers at k r (insn s.insn) × (s.units ≡ spelled.units r)) }
 {
     let link = Link {
         tables,

@@ -7,13 +7,13 @@ ghost use Rattle.program_types.specs.View.{insn};
 ghost use Rattle.program_types.specs.View as view;
 ghost use Rattle.tables_rows.specs.Names.{NameIsAt};
 ghost use Rattle.dex_insn.specs.Raw.{raw, is_payload};
-ghost use Rattle.code_read.specs.Linked.{lead};
+ghost use Rattle.code_read.specs.Linked.{target_number};
 ghost use Rattle.code_read.specs.Places.{Rises};
-ghost use Rattle.code_read.specs.Symbols.{linked, Says, InsnHasName};
+ghost use Rattle.code_read.specs.Symbols.{linked, Resolves, InsnHasName};
 ghost use Rattle.code_read.specs.inner.Symbols.{has_offset, has_index};
 
 use crate::names::named;
-use crate::places::lead;
+use crate::places::target_number;
 use dex_insn::RawInsn;
 use program_types::{Insn, Name};
 use tables_rows::Tables;
@@ -91,12 +91,12 @@ pub(crate) fn link<'a>(tables: &Tables<'a>, starts: &[u32], base: u32, one: &Raw
     requires rises { Rises starts.now }
     requires few { length starts.now ≤ 4294967295 }
     requires plain { is_payload (raw one.now) ≡ false }
-    ensures some { IfSome result (λ i. Says (NameIsAt tables.now) (lead starts.now base) (raw one.now) (insn i)) }
+    ensures some { IfSome result (λ i. Resolves (NameIsAt tables.now) (target_number starts.now base) (raw one.now) (insn i)) }
     ensures none { IfNone result (InsnHasName (NameIsAt tables.now) (raw one.now) → ⊥) }
 {
     match *one {
         RawInsn::I10t { offset, .. } | RawInsn::I20t { offset, .. } | RawInsn::I21t { offset, .. } | RawInsn::I22t { offset, .. }
-        | RawInsn::I30t { offset, .. } | RawInsn::I31t { offset, .. } => Some(leading(one, lead(starts, base, offset))),
+        | RawInsn::I30t { offset, .. } | RawInsn::I31t { offset, .. } => Some(leading(one, target_number(starts, base, offset))),
         RawInsn::I21c { op, index, .. } | RawInsn::I22c { op, index, .. } | RawInsn::I31c { op, index, .. }
         | RawInsn::I35c { op, index, .. } | RawInsn::I3rc { op, index, .. } => Some(naming(one, named(tables, op, index)?)),
         _ => Some(plain(one)),

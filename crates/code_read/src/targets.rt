@@ -6,11 +6,11 @@ ghost use Rattle.dex_insn.specs.Raw.{raw, is_payload};
 ghost use Rattle.program_types.specs.Formed.{insn_payload};
 ghost use Rattle.program_types.specs.View.{insn};
 ghost use Rattle.tables_rows.specs.Names.{NameIsAt};
-ghost use Rattle.code_read.specs.Linked.{lead, payload_of};
+ghost use Rattle.code_read.specs.Linked.{target_number, payload_of};
 ghost use Rattle.code_read.specs.Places.{Rises};
-ghost use Rattle.code_read.specs.Symbols.{ints, Says};
+ghost use Rattle.code_read.specs.Symbols.{ints, Resolves};
 
-use crate::places::lead;
+use crate::places::target_number;
 use bumpalo::Bump;
 use bumpalo::collections::into_bump_slice;
 use byteorder::{ByteOrder, LittleEndian};
@@ -48,12 +48,12 @@ fn read_targets<'a>(
 ) -> Result<&'a [u32], AllocError>
     requires rises { Rises starts.now }
     requires few { length starts.now ≤ 4294967295 }
-    ensures ok { IfOk result (λ found. found.now ≡ map (lead starts.now base) (ints offsets.now)) }
+    ensures ok { IfOk result (λ found. found.now ≡ map (target_number starts.now base) (ints offsets.now)) }
 {
     let n = offsets.len() / 4;
     let mut all = Vec::with_capacity(arena, n)?;
     for i in 0..n {
-        all.push(lead(starts, base, int_at(offsets, i)))?;
+        all.push(target_number(starts, base, int_at(offsets, i)))?;
     }
     Ok(into_bump_slice(all))
 }
@@ -105,7 +105,7 @@ pub(crate) fn link_payload<'a>(
     requires rises { Rises starts.now }
     requires few { length starts.now ≤ 4294967295 }
     requires payload { is_payload (raw one.now) ≡ true }
-    ensures ok { IfOk result (λ i. Says (NameIsAt tables.now) (lead starts.now base) (raw one.now) (insn i)) }
+    ensures ok { IfOk result (λ i. Resolves (NameIsAt tables.now) (target_number starts.now base) (raw one.now) (insn i)) }
 {
     // Only for the proof: what holds of each value of its type.
     let _tables = tables;

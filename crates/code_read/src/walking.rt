@@ -29,7 +29,7 @@ pub(crate) fn walk<'b>(alloc: Global, units: &'b [u8], base: u64) -> Result<Walk
     ensures table { IfOk result (λ w. IsTable w.starts.items (map raw w.insns.items)) }
     ensures err { IfErr result (λ e. e ≢ memory → IsWalkFault units.now base e) }
 {
-    // Room at once for what most codes hold; a long payload asks for no more.
+    // Memory at once for most codes; a long payload needs no more.
     let room = (units.len() / 4).min(MOST_AT_ONCE);
     let mut insns = Vec::with_capacity(alloc, room)?;
     let mut starts = Vec::with_capacity(alloc, room)?;

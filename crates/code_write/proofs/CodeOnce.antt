@@ -41,7 +41,7 @@ module _ (N : ℕ → Name → Type 0) (inj : IsInjective N) where
       let e = origin-one is k p.origin q.origin p.counts q.counts in
       let m = q.lowers in
       let l = subst (λ (j : ℕ). Lowers N ss (slice_index ss j) (insn_at is k) t) (sym e) m in
-      raw_once N inj ss (slice_index ss p.origin) (insn_at is k) r t h p.lowers.says l.says p.lowers.fits l.fits a b
+      raw_once N inj ss (slice_index ss p.origin) (insn_at is k) r t h p.lowers.resolves l.resolves p.lowers.fits l.fits a b
 
   pub code_once : (c : Code) (a b : List ℕ) → IsFormed c → AreBytes a → AreBytes b → PacksCode N a c → PacksCode N b c → a ≡ b
   code_once c a b formed i j p q =

@@ -86,12 +86,12 @@ addresses-small is f h k l = let n = length-addresses is in let r = starts-small
 
 -- ---- one by one, in memory and in content
 
-module _ {A B : Type 0} (view : A → B) (xs : List A) (P : ℕ → Type 0) (r : Bool) (says : IsTrue r ↔ ((k : ℕ) → k < length xs → P k)) where
+module _ {A B : Type 0} (view : A → B) (xs : List A) (P : ℕ → Type 0) (r : Bool) (resolves : IsTrue r ↔ ((k : ℕ) → k < length xs → P k)) where
   pub held : r ≡ true → (k : ℕ) → k < length (map view xs) → P k
-  held is k l = let n = length-map xs view in says.0 is k (omega arith)
+  held is k l = let n = length-map xs view in resolves.0 is k (omega arith)
 
   pub told : ((k : ℕ) → k < length (map view xs) → P k) → r ≡ true
-  told h = let n = length-map xs view in says.1 (λ k l. h k (omega arith))
+  told h = let n = length-map xs view in resolves.1 (λ k l. h k (omega arith))
 
 pub count-of : (xs : List HeldInsn) (ss : List ℕ) → ss ≡ addresses_of (map insn xs) → length ss ≡ length xs
 count-of xs ss e = ap length e ∙ length-addresses (map insn xs) ∙ length-map xs insn

@@ -11,7 +11,7 @@ use Rattle.program_types.specs.Content as made
 use Rattle.program_types.specs.Operands.{IsOperand}
 use Rattle.program_types.specs.Formed.{insn_payload}
 use Rattle.program_types.specs.Sizes.{insn_units}
-use Rattle.code_read.specs.Linked.{lead, payload_of}
+use Rattle.code_read.specs.Linked.{target_number, payload_of}
 use Rattle.code_read.specs.Symbols.{linked, ints, ints_from}
 use Rattle.code_write.specs.Packs.{Lowers}
 use Rattle.code_write.specs.inner.Writing.{PutInsn}
@@ -26,28 +26,28 @@ unfolding ints
 ints-at b keys i e l = let z : 0 + i ≡ i = omega arith in ap (λ (zs : List ℤ). slice_get zs i) (sym e) ∙ from-at b 0 (length b / 4) i l ∙ ap (λ (m : ℕ). Some (int_at b m)) z
 
 module _ (N : ℕ → Name → Type 0) (ss : List ℕ) (at count : ℕ) where
-  pub packed-lowers : (first : ℤ) (targets : List ℕ) (offsets : List ℕ) (zs : List ℤ) → IsOperand count (made.Packed first targets) → ints offsets ≡ zs → length offsets ≡ 4 * length zs → length zs ≡ length targets → map (lead ss at) zs ≡ targets
+  pub packed-lowers : (first : ℤ) (targets : List ℕ) (offsets : List ℕ) (zs : List ℤ) → IsOperand count (made.Packed first targets) → ints offsets ≡ zs → length offsets ≡ 4 * length zs → length zs ≡ length targets → map (target_number ss at) zs ≡ targets
       → Lowers N ss at (made.Packed first targets) (raw.Packed first offsets)
   unfolding linked units insn_units payload_of insn_payload
   packed-lowers first targets offsets zs o e l m p =
       let few = o.1 in
       let n : length offsets / 4 ≡ length targets = omega arith in
       record {
-        says = record { symbol = ap (λ (to : List ℕ). made.Packed first to) (ap (map (lead ss at)) e ∙ p); named = tt };
+        resolves = record { symbol = ap (λ (to : List ℕ). made.Packed first to) (ap (map (target_number ss at)) e ∙ p); named = tt };
         fits = (o.0, omega arith, omega arith);
         size = omega arith;
         kind = refl;
       }
 
   pub sparse-lowers : (keys : List ℤ) (targets : List ℕ) (bytes offsets : List ℕ) (zs : List ℤ) → IsOperand count (made.Sparse keys targets) → ints bytes ≡ keys → length bytes ≡ 4 * length keys
-      → ints offsets ≡ zs → length offsets ≡ 4 * length zs → length zs ≡ length targets → map (lead ss at) zs ≡ targets → Lowers N ss at (made.Sparse keys targets) (raw.Sparse bytes offsets)
+      → ints offsets ≡ zs → length offsets ≡ 4 * length zs → length zs ≡ length targets → map (target_number ss at) zs ≡ targets → Lowers N ss at (made.Sparse keys targets) (raw.Sparse bytes offsets)
   unfolding linked units insn_units payload_of insn_payload
   sparse-lowers keys targets bytes offsets zs o k kl e l m p =
       let same = o.0 in let few = o.1 in
       let n : length bytes / 4 ≡ length keys = omega arith in
       let rise : SwitchKeysRise bytes (length bytes / 4) = λ i j. o.3 i _ _ (ints-at bytes keys i k (omega arith)) (ints-at bytes keys (i + 1) k j) in
       record {
-        says = record { symbol = ap (λ (to : List ℕ). made.Sparse (ints bytes) to) (ap (map (lead ss at)) e ∙ p) ∙ ap (λ (ks : List ℤ). made.Sparse ks targets) k; named = tt };
+        resolves = record { symbol = ap (λ (to : List ℕ). made.Sparse (ints bytes) to) (ap (map (target_number ss at)) e ∙ p) ∙ ap (λ (ks : List ℤ). made.Sparse ks targets) k; named = tt };
         fits = (omega arith, omega arith, omega arith, rise);
         size = omega arith;
         kind = refl;
@@ -62,7 +62,7 @@ module _ (N : ℕ → Name → Type 0) (ss : List ℕ) (at count : ℕ) where
   pub array-lowers : (width : ℕ) (bytes : List ℕ) → IsOperand count (made.Data width bytes) → Lowers N ss at (made.Data width bytes) (raw.Data width bytes)
   unfolding linked units insn_units payload_of insn_payload
   array-lowers width bytes o = record {
-    says = record { symbol = refl; named = tt };
+    resolves = record { symbol = refl; named = tt };
     fits = (o.0, o.1, width-fits (length bytes) width o.0 o.2);
     size = refl;
     kind = refl;
@@ -70,7 +70,7 @@ module _ (N : ℕ → Name → Type 0) (ss : List ℕ) (at count : ℕ) where
 
   -- ---- what is appended
 
-  pub put-packed : (first : ℤ) (targets : List ℕ) (old new o p : List ℕ) (zs ys : List ℤ) → IsOperand count (made.Packed first targets) → p ≡ o → ints o ≡ ys → ys ≡ zs → length o ≡ 4 * length ys → length zs ≡ length targets → map (lead ss at) zs ≡ targets
+  pub put-packed : (first : ℤ) (targets : List ℕ) (old new o p : List ℕ) (zs ys : List ℤ) → IsOperand count (made.Packed first targets) → p ≡ o → ints o ≡ ys → ys ≡ zs → length o ≡ 4 * length ys → length zs ≡ length targets → map (target_number ss at) zs ≡ targets
       → new ≡ old ++ written (raw.Packed first p) → PutInsn N ss at (made.Packed first targets) old new
   put-packed first targets old new o p zs ys h q e f l m t n =
       let k : length o ≡ 4 * length zs = l ∙ ap (λ (x : List ℤ). 4 * length x) f in
@@ -81,7 +81,7 @@ module _ (N : ℕ → Name → Type 0) (ss : List ℕ) (at count : ℕ) where
       }
 
   pub put-sparse : (keys : List ℤ) (targets : List ℕ) (old new b c o p : List ℕ) (zs ys : List ℤ) → IsOperand count (made.Sparse keys targets) → c ≡ b → ints b ≡ keys → length b ≡ 4 * length keys
-      → p ≡ o → ints o ≡ ys → ys ≡ zs → length o ≡ 4 * length ys → length zs ≡ length targets → map (lead ss at) zs ≡ targets
+      → p ≡ o → ints o ≡ ys → ys ≡ zs → length o ≡ 4 * length ys → length zs ≡ length targets → map (target_number ss at) zs ≡ targets
       → new ≡ old ++ written (raw.Sparse c p) → PutInsn N ss at (made.Sparse keys targets) old new
   put-sparse keys targets old new b c o p zs ys h r g kl q e f l m t n =
       let k : length o ≡ 4 * length zs = l ∙ ap (λ (x : List ℤ). 4 * length x) f in

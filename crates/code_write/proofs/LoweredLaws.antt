@@ -5,8 +5,8 @@ use Rattle.program_types.specs.Content.{Name, Insn}
 use Rattle.program_types.specs.Sizes.{addresses_of}
 use Rattle.program_types.specs.Formed.{insn_at, TargetHolds, PayloadHolds}
 use Rattle.code_read.specs.Walk.{raw_at}
-use Rattle.code_read.specs.Symbols.{Says}
-use Rattle.code_read.specs.Linked.{lead, SpellsInsns}
+use Rattle.code_read.specs.Symbols.{Resolves}
+use Rattle.code_read.specs.Linked.{target_number, SpellsInsns}
 use Rattle.code_write.specs.Packs.{AreLowered, joined}
 use Rattle.code_write.proofs.WrittenLaws.{lowered-walks, lowered-starts}
 
@@ -20,7 +20,7 @@ lowered-spells N is rs low targets payloads = record {
         record {
           origin = x.origin;
           counts = x.counts;
-          says = subst (λ (ss : List ℕ). Says N (lead ss (get_or ss x.origin 0)) (raw_at rs k) (insn_at is k)) (sym (lowered-starts N is rs low)) x.lowers.says;
+          resolves = subst (λ (ss : List ℕ). Resolves N (target_number ss (get_or ss x.origin 0)) (raw_at rs k) (insn_at is k)) (sym (lowered-starts N is rs low)) x.lowers.resolves;
         };
   };
   keep = record { targets = targets; payloads = payloads };

@@ -2,7 +2,7 @@
 use Rattle.std.proofs.Common.{◌≡◌, ℕ, zero, suc, ◌+◌, ◌<◌, ◌≤◌, ◌++◌, List, [], ◌∷◌, map, length, get_or, take, drop, ap, sym, ◌∙◌, arith, append_assoc}
 use Rattle.std.proofs.lemmas.List.{append-nil, take_more, map-append}
 use Rattle.std.specs.List.{AllZip, flat_map}
-use Rattle.program_types.specs.Content.{Name, Insn as Said}
+use Rattle.program_types.specs.Content.{Name, Insn as SpecInsn}
 use Rattle.program_types.specs.Mentions.{names_of_insn}
 use Rattle.program_types.specs.View.{insn}
 use Rattle.program_types.specs.declared.insn.Insn.{Insn}
@@ -37,7 +37,7 @@ module _ (s : Five) where
 
 -- ---- so far
 
-flat_push : (is : List Said) (i : Said) → flat_map names_of_insn (is ++ i ∷ []) ≡ flat_map names_of_insn is ++ names_of_insn i
+flat_push : (is : List SpecInsn) (i : SpecInsn) → flat_map names_of_insn (is ++ i ∷ []) ≡ flat_map names_of_insn is ++ names_of_insn i
 flat_push [] i = append-nil (names_of_insn i)
 flat_push (j ∷ is) i = ap (λ l. names_of_insn j ++ l) (flat_push is i) ∙ sym (append_assoc (names_of_insn j) (flat_map names_of_insn is) (names_of_insn i))
 

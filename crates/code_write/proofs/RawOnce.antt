@@ -9,11 +9,11 @@ use Rattle.dex_insn.specs.Written.{written, IsRaw, bytes_of}
 use Rattle.program_types.specs.Content.{Name, Insn}
 use Rattle.program_types.specs.Content as made
 use Rattle.program_types.specs.Formed.{insn_leads}
-use Rattle.code_read.specs.Linked.{lead}
+use Rattle.code_read.specs.Linked.{target_number}
 use Rattle.code_read.specs.Symbols as symbols
-use Rattle.code_read.specs.Symbols.{Says, linked, name_in}
+use Rattle.code_read.specs.Symbols.{Resolves, linked, name_in}
 use Rattle.code_read.proofs.PlaceLaws.{target-there}
-use Rattle.code_write.proofs.DistanceLaws.{gap-is, lead-there}
+use Rattle.code_write.proofs.DistanceLaws.{gap-is, target_number-there}
 use Rattle.code_write.proofs.HandlerOnce.{IsInjective}
 use Rattle.code_write.proofs.WordOnce.{ints_once}
 use Rattle.dex_base.proofs.ListFacts.{all_front, all_back}
@@ -79,19 +79,19 @@ built T w _ i e = built_by _ i 0 (pos 0) [] [] e
 
 -- ---- offsets
 
-led_one : (ss : List ℕ) (at : ℕ) (y z : ℤ) (n : ℕ) → n < length ss → lead ss at y ≡ n → lead ss at z ≡ n → y ≡ z
+led_one : (ss : List ℕ) (at : ℕ) (y z : ℤ) (n : ℕ) → n < length ss → target_number ss at y ≡ n → target_number ss at z ≡ n → y ≡ z
 led_one ss at y z n l p q =
-    let a = (target-there ss at y n (lead-there ss at n y p l)).1 in let b = (target-there ss at z n (lead-there ss at n z q l)).1 in
+    let a = (target-there ss at y n (target_number-there ss at n y p l)).1 in let b = (target-there ss at z n (target_number-there ss at n z q l)).1 in
     gap-is (get_or ss n 0) at y (sym a) ∙ sym (gap-is (get_or ss n 0) at z (sym b))
 
-all_led : (ss : List ℕ) (at : ℕ) (ys zs : List ℤ) (ns : List ℕ) → AllByRecursion (λ n. n < length ss) ns → map (lead ss at) ys ≡ ns → map (lead ss at) zs ≡ ns → ys ≡ zs
+all_led : (ss : List ℕ) (at : ℕ) (ys zs : List ℤ) (ns : List ℕ) → AllByRecursion (λ n. n < length ss) ns → map (target_number ss at) ys ≡ ns → map (target_number ss at) zs ≡ ns → ys ≡ zs
 all_led ss at [] [] ns h p q = refl
 all_led ss at [] (z ∷ zs) ns h p q = let e = ap length (p ∙ sym q) in absurd (omega (arith, e))
 all_led ss at (y ∷ ys) [] ns h p q = let e = ap length (p ∙ sym q) in absurd (omega (arith, e))
 all_led ss at (y ∷ ys) (z ∷ zs) [] h p q = let e = ap length p in absurd (omega (arith, e))
 all_led ss at (y ∷ ys) (z ∷ zs) (n ∷ ns) h p q =
-    let a : lead ss at y ≡ n = cc in let b : lead ss at z ≡ n = cc in
-    let c : map (lead ss at) ys ≡ ns = cc in let d : map (lead ss at) zs ≡ ns = cc in
+    let a : target_number ss at y ≡ n = cc in let b : target_number ss at z ≡ n = cc in
+    let c : map (target_number ss at) ys ≡ ns = cc in let d : map (target_number ss at) zs ≡ ns = cc in
     let here = led_one ss at y z n h.0 a b in
     let rest = all_led ss at ys zs ns h.1 c d in
     (λ k. here k ∷ rest k)
@@ -109,7 +109,7 @@ sparse_part k o h = all_back (λ (n : ℕ). n < 256) (bytes_of (0x0200 ∷ (leng
 -- ---- one raw instruction
 
 module _ (N : ℕ → Name → Type 0) (inj : IsInjective N) (ss : List ℕ) (at : ℕ) where
-  same : (i : Insn) (x y : ℕ) (z w : ℤ) (k l o p : List ℕ) → AllByRecursion (λ n. n < length ss) (insn_leads i) → Says N (lead ss at) (rebuild i x z k o) i → Says N (lead ss at) (rebuild i y w l p) i
+  same : (i : Insn) (x y : ℕ) (z w : ℤ) (k l o p : List ℕ) → AllByRecursion (λ n. n < length ss) (insn_leads i) → Resolves N (target_number ss at) (rebuild i x z k o) i → Resolves N (target_number ss at) (rebuild i y w l p) i
       → IsRaw (rebuild i x z k o) → IsRaw (rebuild i y w l p) → AllBytes (written (rebuild i x z k o)) → AllBytes (written (rebuild i y w l p)) → rebuild i x z k o ≡ rebuild i y w l p
   unfolding linked
   same (made.I21c op q which) x y z w k l o p h s t a b f g = ap (λ (n : ℕ). raw.I21c op q n) (inj x y which s.named.stands t.named.stands)
@@ -117,23 +117,23 @@ module _ (N : ℕ → Name → Type 0) (inj : IsInjective N) (ss : List ℕ) (at
   same (made.I31c op q which) x y z w k l o p h s t a b f g = ap (λ (n : ℕ). raw.I31c op q n) (inj x y which s.named.stands t.named.stands)
   same (made.I35c op n regs which) x y z w k l o p h s t a b f g = ap (λ (m : ℕ). raw.I35c op n regs m) (inj x y which s.named.stands t.named.stands)
   same (made.I3rc op n first which) x y z w k l o p h s t a b f g = ap (λ (m : ℕ). raw.I3rc op n first m) (inj x y which s.named.stands t.named.stands)
-  same (made.I10t op to) x y z w k l o p h s t a b f g = let u = s.symbol in let v = t.symbol in let c : lead ss at z ≡ to = cc in let d : lead ss at w ≡ to = cc in ap (λ (n : ℤ). raw.I10t op n) (led_one ss at z w to h.0 c d)
-  same (made.I20t op to) x y z w k l o p h s t a b f g = let u = s.symbol in let v = t.symbol in let c : lead ss at z ≡ to = cc in let d : lead ss at w ≡ to = cc in ap (λ (n : ℤ). raw.I20t op n) (led_one ss at z w to h.0 c d)
-  same (made.I21t op q to) x y z w k l o p h s t a b f g = let u = s.symbol in let v = t.symbol in let c : lead ss at z ≡ to = cc in let d : lead ss at w ≡ to = cc in ap (λ (n : ℤ). raw.I21t op q n) (led_one ss at z w to h.0 c d)
-  same (made.I22t op q r to) x y z w k l o p h s t a b f g = let u = s.symbol in let v = t.symbol in let c : lead ss at z ≡ to = cc in let d : lead ss at w ≡ to = cc in ap (λ (n : ℤ). raw.I22t op q r n) (led_one ss at z w to h.0 c d)
-  same (made.I30t op to) x y z w k l o p h s t a b f g = let u = s.symbol in let v = t.symbol in let c : lead ss at z ≡ to = cc in let d : lead ss at w ≡ to = cc in ap (λ (n : ℤ). raw.I30t op n) (led_one ss at z w to h.0 c d)
-  same (made.I31t op q to) x y z w k l o p h s t a b f g = let u = s.symbol in let v = t.symbol in let c : lead ss at z ≡ to = cc in let d : lead ss at w ≡ to = cc in ap (λ (n : ℤ). raw.I31t op q n) (led_one ss at z w to h.0 c d)
+  same (made.I10t op to) x y z w k l o p h s t a b f g = let u = s.symbol in let v = t.symbol in let c : target_number ss at z ≡ to = cc in let d : target_number ss at w ≡ to = cc in ap (λ (n : ℤ). raw.I10t op n) (led_one ss at z w to h.0 c d)
+  same (made.I20t op to) x y z w k l o p h s t a b f g = let u = s.symbol in let v = t.symbol in let c : target_number ss at z ≡ to = cc in let d : target_number ss at w ≡ to = cc in ap (λ (n : ℤ). raw.I20t op n) (led_one ss at z w to h.0 c d)
+  same (made.I21t op q to) x y z w k l o p h s t a b f g = let u = s.symbol in let v = t.symbol in let c : target_number ss at z ≡ to = cc in let d : target_number ss at w ≡ to = cc in ap (λ (n : ℤ). raw.I21t op q n) (led_one ss at z w to h.0 c d)
+  same (made.I22t op q r to) x y z w k l o p h s t a b f g = let u = s.symbol in let v = t.symbol in let c : target_number ss at z ≡ to = cc in let d : target_number ss at w ≡ to = cc in ap (λ (n : ℤ). raw.I22t op q r n) (led_one ss at z w to h.0 c d)
+  same (made.I30t op to) x y z w k l o p h s t a b f g = let u = s.symbol in let v = t.symbol in let c : target_number ss at z ≡ to = cc in let d : target_number ss at w ≡ to = cc in ap (λ (n : ℤ). raw.I30t op n) (led_one ss at z w to h.0 c d)
+  same (made.I31t op q to) x y z w k l o p h s t a b f g = let u = s.symbol in let v = t.symbol in let c : target_number ss at z ≡ to = cc in let d : target_number ss at w ≡ to = cc in ap (λ (n : ℤ). raw.I31t op q n) (led_one ss at z w to h.0 c d)
   same (made.Packed first to) x y z w k l o p h s t a b f g =
       let u = s.symbol in let v = t.symbol in
-      let c : map (lead ss at) (symbols.ints o) ≡ to = cc in
-      let d : map (lead ss at) (symbols.ints p) ≡ to = cc in
+      let c : map (target_number ss at) (symbols.ints o) ≡ to = cc in
+      let d : map (target_number ss at) (symbols.ints p) ≡ to = cc in
       let e = all_led ss at (symbols.ints o) (symbols.ints p) to h c d in
       ap (λ (m : List ℕ). raw.Packed first m) (ints_once o p (packed_part first o f) (packed_part first p g) a.1 b.1 e)
   same (made.Sparse keys to) x y z w k l o p h s t a b f g =
       let u = s.symbol in let v = t.symbol in
       let firsts : symbols.ints k ≡ symbols.ints l = cc in
-      let c : map (lead ss at) (symbols.ints o) ≡ to = cc in
-      let d : map (lead ss at) (symbols.ints p) ≡ to = cc in
+      let c : map (target_number ss at) (symbols.ints o) ≡ to = cc in
+      let d : map (target_number ss at) (symbols.ints p) ≡ to = cc in
       let e = all_led ss at (symbols.ints o) (symbols.ints p) to h c d in
       let f1 = sparse_part k o f in let g1 = sparse_part l p g in
       let ks = ints_once k l (all_front (λ (n : ℕ). n < 256) k o f1) (all_front (λ (n : ℕ). n < 256) l p g1) a.0 b.0 firsts in
@@ -143,11 +143,11 @@ module _ (N : ℕ → Name → Type 0) (inj : IsInjective N) (ss : List ℕ) (at
       (λ j. raw.Sparse (ks j) (os j))
   same _ x y z w k l o p h s t a b f g = refl
 
-  pub raw_once : (i : Insn) (r t : Raw) → AllByRecursion (λ n. n < length ss) (insn_leads i) → Says N (lead ss at) r i → Says N (lead ss at) t i → IsRaw r → IsRaw t → AllBytes (written r) → AllBytes (written t) → r ≡ t
+  pub raw_once : (i : Insn) (r t : Raw) → AllByRecursion (λ n. n < length ss) (insn_leads i) → Resolves N (target_number ss at) r i → Resolves N (target_number ss at) t i → IsRaw r → IsRaw t → AllBytes (written r) → AllBytes (written t) → r ≡ t
   raw_once i r t h p q a b f g =
-      let u = built (lead ss at) (name_in i) r i p.symbol in
-      let v = built (lead ss at) (name_in i) t i q.symbol in
+      let u = built (target_number ss at) (name_in i) r i p.symbol in
+      let v = built (target_number ss at) (name_in i) t i q.symbol in
       u.is ∙ same i u.index v.index u.offset v.offset u.keys v.keys u.offsets v.offsets h
-      (subst (λ (x : Raw). Says N (lead ss at) x i) u.is p) (subst (λ (x : Raw). Says N (lead ss at) x i) v.is q)
+      (subst (λ (x : Raw). Resolves N (target_number ss at) x i) u.is p) (subst (λ (x : Raw). Resolves N (target_number ss at) x i) v.is q)
       (subst IsRaw u.is a) (subst IsRaw v.is b) (subst (λ (x : Raw). AllBytes (written x)) u.is f) (subst (λ (x : Raw). AllBytes (written x)) v.is g)
       ∙ sym v.is

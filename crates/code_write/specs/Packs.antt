@@ -10,8 +10,8 @@ use Rattle.program_types.specs.Formed.{insn_at, try_at, insn_payload}
 use Rattle.program_types.specs.Sizes.{insn_units, addresses_of, length_of}
 use Rattle.code_read.specs.Places.{Rises}
 use Rattle.code_read.specs.Walk.{raw_at}
-use Rattle.code_read.specs.Symbols.{Says}
-use Rattle.code_read.specs.Linked.{lead, payload_of}
+use Rattle.code_read.specs.Symbols.{Resolves}
+use Rattle.code_read.specs.Linked.{target_number, payload_of}
 use Rattle.code_rules.specs.Branches.{IsOrigin}
 use Rattle.code_read.specs.Handlers.{Handler, PacksHandlers, handler_at}
 use Rattle.code_read.specs.Tries.{handler_of}
@@ -25,7 +25,7 @@ joined (r ∷ rs) = written r ++ joined rs
 
 -- The raw instruction means the instruction, whose targets count from the address `at`, and can be written.
 pub record Lowers (N : ℕ → Name → Type 0) (ss : List ℕ) (at : ℕ) (i : Insn) (r : Raw) : Type 0 where
-  pub says : Says N (lead ss at) r i
+  pub resolves : Resolves N (target_number ss at) r i
   pub fits : IsRaw r
   pub size : units r ≡ insn_units i
   pub kind : payload_of r ≡ insn_payload i

@@ -12,8 +12,8 @@ ghost use Rattle.tables_names.specs.Closure.{NameRanks};
 ghost use Rattle.tables_names.specs.Noted.{AreRanks};
 ghost use Rattle.dex_insn.specs.Raw.{raw, units};
 ghost use Rattle.dex_insn.specs.Written.{IsRaw};
-ghost use Rattle.code_read.specs.Linked.{lead, payload_of};
-ghost use Rattle.code_read.specs.Symbols.{linked, Says};
+ghost use Rattle.code_read.specs.Linked.{target_number, payload_of};
+ghost use Rattle.code_read.specs.Symbols.{linked, Resolves};
 ghost use Rattle.code_write.specs.Fits.{HasIndexBelow, BranchFits, distance_of};
 ghost use Rattle.code_write.specs.inner.Fits.{NameFits};
 
@@ -49,7 +49,7 @@ pub(crate) fn distance(starts: &Begins<'_>, at: u32, to: u32) -> i32
     requires inside { to < length starts.now }
     requires fits { FitsSigned w32 (distance_of starts.now at to) }
     ensures value { result ≡ distance_of starts.now at to }
-    ensures leads { lead starts.now at result ≡ to }
+    ensures leads { target_number starts.now at result ≡ to }
 {
     gap(starts.at(to), at)
 }
@@ -64,7 +64,7 @@ pub(crate) fn lower(ranks: &Ranks<'_>, indices: &[usize], starts: &Begins<'_>, a
     requires name { NameFits (NameRanks ranks.now) (insn one.now) }
     requires branch { BranchFits starts.now at (insn one.now) }
     ensures fits { IsRaw (raw result) }
-    ensures says { Says (NameRanks ranks.now) (lead starts.now at) (raw result) (insn one.now) }
+    ensures resolves { Resolves (NameRanks ranks.now) (target_number starts.now at) (raw result) (insn one.now) }
     ensures size { units (raw result) ≡ insn_units (insn one.now) }
     ensures plain { payload_of (raw result) ≡ insn_payload (insn one.now) }
 {

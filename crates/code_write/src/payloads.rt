@@ -4,7 +4,7 @@ ghost use Rattle.std.specs.Prelude.{◌≡◌, ◌<◌, ◌*◌, length, map, Fi
 ghost use Rattle.std.specs.Int.{w32};
 ghost use Rattle.std.specs.List.{AllByRecursion};
 ghost use Rattle.dex_base.specs.Fault.{memory};
-ghost use Rattle.code_read.specs.Linked.{lead};
+ghost use Rattle.code_read.specs.Linked.{target_number};
 ghost use Rattle.code_read.specs.Symbols.{ints};
 ghost use Rattle.code_write.specs.Fits.{distance_of};
 
@@ -36,7 +36,7 @@ pub(crate) fn distances(
 ) -> Result<Vec<i32>, AllocError>
     requires inside { AllByRecursion (λ to. to < length starts.now) targets.now }
     requires fits { AllByRecursion (λ to. FitsSigned w32 (distance_of starts.now at to)) targets.now }
-    ensures ok { IfOk result (λ zs. map (lead starts.now at) zs.items ≡ targets.now) }
+    ensures ok { IfOk result (λ zs. map (target_number starts.now at) zs.items ≡ targets.now) }
     ensures count { IfOk result (λ zs. length zs.items ≡ length targets.now) }
 {
     let mut all = Vec::with_capacity(alloc, targets.len())?;

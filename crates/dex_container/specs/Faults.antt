@@ -1,5 +1,5 @@
 -- The faults of header, map and checksums. Each condition is that a rule of Frame doesn't hold. Past the
--- end bytes count as 0, so each has a meaning for any bytes; where a fault of a lower number stands, nobody asks.
+-- end bytes count as 0, so each has a meaning for any bytes; if there is a lower fault, it has no effect.
 use Rattle.std.specs.Prelude.{◌≡◌, ℕ, ◌+◌, ◌<◌, ◌≤◌, ◌==◌, List, length, MatchBool, ◌⊎◌}
 use Rattle.dex_base.specs.declared.fault.Fault.{Fault}
 use Rattle.dex_base.specs.Fields.{u32_at}

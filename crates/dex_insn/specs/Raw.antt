@@ -1,4 +1,4 @@
--- What a raw instruction says, without where its bytes lie in memory: the operands by the names that the page
+-- The content of a raw instruction, without the place of its bytes in memory: the operands by the names that the page
 -- "Dalvik Executable instruction formats" gives them, and the payloads of the page "Dalvik bytecode".
 use Rattle.std.specs.Prelude.{ℕ, ℤ, List, length, Bool, true, false, ◌+◌, ◌*◌, ◌/◌}
 use Rattle.dex_insn.specs.declared.raw.RawInsn.{RawInsn}

@@ -1,5 +1,5 @@
 -- Which units spell a raw instruction. The lists are bytes, two to a unit, from the instruction's first unit on; what stands
--- after the instruction isn't looked at. The formats are those of the page "Dalvik Executable instruction formats", the
+-- after the instruction is ignored. The formats are those of the page "Dalvik Executable instruction formats", the
 -- payloads those of the page "Dalvik bytecode".
 use Rattle.std.specs.Prelude.{ℕ, ◌≡◌, ◌≤◌, ◌<◌, ◌*◌, ◌+◌, ◌%◌, Some, List, [], ◌∷◌, length, drop, slice_range, nat_lt, if◌then◌else◌, ◌⊎◌}
 use Rattle.dex_insn.specs.Fields.{number, field, signed, SwitchKeysRise}

@@ -8,20 +8,20 @@ use Rattle.listing_words.specs.Names.{SpellsUnits, IsProtoText, IsFieldText, IsM
 
 -- The text is ASCII and denotes these units: `\uXXXX` one unit, any other character itself.
 abbrev pub SpellsInAscii : List ℕ → Units → Type 0
-SpellsInAscii said units = IsAscii said × SpellsUnits said units
+SpellsInAscii written units = IsAscii written × SpellsUnits written units
 
 -- The text is the descriptor of a type.
 abbrev pub SpellsType : List ℕ → Descriptor → Type 0
-SpellsType said d = SpellsInAscii said d × IsDescriptor d
+SpellsType written d = SpellsInAscii written d × IsDescriptor d
 
 -- The text denotes a prototype: `(P..)R`
 abbrev pub SpellsProto : List ℕ → Proto → Type 0
-SpellsProto said p = (units : Units) × SpellsInAscii said units × IsProtoText units p
+SpellsProto written p = (units : Units) × SpellsInAscii written units × IsProtoText units p
 
 -- The text denotes a field: `C->n:T`
 abbrev pub SpellsField : List ℕ → FieldRef → Type 0
-SpellsField said f = (units : Units) × SpellsInAscii said units × IsFieldText units f
+SpellsField written f = (units : Units) × SpellsInAscii written units × IsFieldText units f
 
 -- The text denotes a method: `C->n(P..)R`
 abbrev pub SpellsMethod : List ℕ → MethodRef → Type 0
-SpellsMethod said m = (units : Units) × SpellsInAscii said units × IsMethodText units m
+SpellsMethod written m = (units : Units) × SpellsInAscii written units × IsMethodText units m

@@ -2,7 +2,7 @@
 ghost use Rattle.std.specs.Prelude.{◌≡◌, [], false, None};
 ghost use Rattle.dexasm_world.specs.inner.State.{unknown_files};
 
-use dexasm_world::{Dress, Handle, Look, NotMade, NotReplaced, Reading, Refusal, World};
+use dexasm_world::{Dress, FileKind, Handle, NotMade, NotReplaced, Reading, Refusal, World};
 use std::alloc::Global;
 use std::cell::Cell;
 use std::fs::{File, Metadata, OpenOptions, Permissions};
@@ -67,9 +67,9 @@ impl World for Machine<'_> {
 
     ghost apart = { λ world path n known. Prim.cc };
 
-    fn look(&self, path: &str) -> Result<Look, Refusal> {
+    fn kind_of(&self, path: &str) -> Result<FileKind, Refusal> {
         match self.noted(fs::symlink_metadata(self.rt, path)) {
-            Ok(there) => Ok(look_of(&there)),
+            Ok(there) => Ok(kind_of_metadata(&there)),
             Err(error) => Err(refusal(&error)),
         }
     }
@@ -158,20 +158,20 @@ impl World for Machine<'_> {
     }
 }
 
-fn look_of(there: &Metadata) -> Look {
+fn kind_of_metadata(there: &Metadata) -> FileKind {
     let dress = Dress {
         mode: there.mode(),
         user: there.uid(),
         group: there.gid(),
     };
     if there.is_symlink() {
-        Look::Link
+        FileKind::Link
     } else if !there.is_file() {
-        Look::Device
+        FileKind::Device
     } else if there.nlink() == 1 {
-        Look::Alone(dress)
+        FileKind::Alone(dress)
     } else {
-        Look::Shared(dress)
+        FileKind::Shared(dress)
     }
 }
 

@@ -10,7 +10,7 @@
 
 mod machine;
 
-use dexasm_command::{RunFault, Seed, Sink, Terminals, Watched, serve, tell, write_all};
+use dexasm_command::{RunFault, Seed, Sink, Terminals, Watched, report, serve, write_all};
 use machine::Machine;
 use std::io::IsTerminal;
 use std::process::ExitCode;
@@ -31,13 +31,13 @@ fn run(rt: &HostRuntime) -> u8 {
     let mut words: Vec<String> = Vec::new(rt.alloc());
     for word in args {
         if words.push(word).is_err() {
-            return tell(rt.alloc(), &RunFault::Memory, None, false, &mut errors);
+            return report(rt.alloc(), &RunFault::Memory, None, false, &mut errors);
         }
     }
     let mut texts = Vec::new(rt.alloc());
     for word in &words {
         if texts.push(word.as_str()).is_err() {
-            return tell(rt.alloc(), &RunFault::Memory, None, false, &mut errors);
+            return report(rt.alloc(), &RunFault::Memory, None, false, &mut errors);
         }
     }
     let terminals = Terminals {
@@ -68,7 +68,7 @@ fn drawn(rt: &HostRuntime) -> Seed {
 /// Words that could not be read: out of memory, or no text.
 fn no_words<E: Sink>(rt: &HostRuntime, error: &io::Error, errors: &mut E) -> u8 {
     if error.kind() == io::ErrorKind::OutOfMemory {
-        return tell(rt.alloc(), &RunFault::Memory, None, false, errors);
+        return report(rt.alloc(), &RunFault::Memory, None, false, errors);
     }
     let _ = write_all(b"dexasm: an argument is not UTF-8\n", errors);
     2

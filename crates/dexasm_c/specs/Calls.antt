@@ -14,8 +14,8 @@ abbrev pub none : CFault
 none = record { code = 0; place = 0 }
 
 -- the fault that is reported
-abbrev pub told : CFault → Fault
-told fault = record { code = fault.code; place = fault.place }
+abbrev pub as_fault : CFault → Fault
+as_fault fault = record { code = fault.code; place = fault.place }
 
 -- Bytes are put: all of them at the front of the buffer, which is as it was after them; or none, where it is too small for them.
 -- Their number is reported.
@@ -32,13 +32,13 @@ Ends Answered job given old new needed fault =
     (made : List ℕ) × Answer job given made × Puts Answered made old new needed × (fault ≡ none)
 Ends TooSmall job given old new needed fault =
     (made : List ℕ) × Answer job given made × Puts TooSmall made old new needed × (fault ≡ none)
-Ends Refused job given old new needed fault = Refusal job given (told fault) × (new ≡ old) × (needed ≡ 0)
-Ends Memory job given old new needed fault = (told fault ≡ memory) × (new ≡ old) × (needed ≡ 0)
+Ends Refused job given old new needed fault = Refusal job given (as_fault fault) × (new ≡ old) × (needed ≡ 0)
+Ends Memory job given old new needed fault = (as_fault fault ≡ memory) × (new ≡ old) × (needed ≡ 0)
 
 -- The result of a check of the input bytes: they are a file; or they are refused with the reported fault; or out of memory, which is
 -- reported.
 abbrev pub Checks : Ending → List ℕ → CFault → Type 0
 Checks Answered given fault = (made : List ℕ) × Answer Check given made × (fault ≡ none)
-Checks Refused given fault = Refusal Check given (told fault)
-Checks Memory given fault = told fault ≡ memory
+Checks Refused given fault = Refusal Check given (as_fault fault)
+Checks Memory given fault = as_fault fault ≡ memory
 Checks TooSmall given fault = ⊥

@@ -1,6 +1,6 @@
 //! What the calls do, with the ending as a word.
 ghost use Rattle.dexasm_c.specs.Calls.{Checks, Ends, Puts};
-ghost use Rattle.dexasm_c.specs.inner.Calls.{Tells};
+ghost use Rattle.dexasm_c.specs.inner.Calls.{Reports};
 
 use crate::ending::{CFault, Ending};
 use dex_base::Fault;
@@ -35,7 +35,7 @@ pub(crate) fn answer_into(
         }
         Err(refused) => {
             *needed = 0;
-            tell(refused, fault)
+            report(refused, fault)
         }
     }
 }
@@ -49,7 +49,7 @@ pub(crate) fn check_only(alloc: Global, given: &[u8], fault: &mut CFault) -> End
             *fault = NONE;
             Ending::Answered
         }
-        Err(refused) => tell(refused, fault),
+        Err(refused) => report(refused, fault),
     }
 }
 
@@ -66,8 +66,8 @@ pub(crate) fn put(made: &[u8], out: &mut [u8], needed: &mut usize) -> Ending
 }
 
 /// The fault for C. Out of memory is no refusal of the bytes.
-fn tell(refused: Fault, fault: &mut CFault) -> Ending
-    ensures { Tells result refused fault.new }
+fn report(refused: Fault, fault: &mut CFault) -> Ending
+    ensures { Reports result refused fault.new }
 {
     if refused.code == 255 {
         *fault = MEMORY;

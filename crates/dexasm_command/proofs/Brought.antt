@@ -40,18 +40,18 @@ failed_by (Ok x) fault h = absurd h
 failed_by (Err e) fault h = ap (λ x. Err x) h
 
 -- what an answer to be delivered failed by, the whole run fails by
-as_told : (known : Type 0) (f : Files) (path : Path) (fault : RunFault) → FailsToRead {T = Vec ℕ Global} known f path (Err fault) → FailsToRead {T = Unit {0}} known f path (Err fault)
-as_told known f path (Refused fault) h = absurd (elim h [ inl t ↦ (let e = t.0 in cc) | inr t ↦ (let e = t in cc) ])
-as_told known f path Input h = elim h [ inl t ↦ inl (refl, t.1) | inr t ↦ absurd (let e = t in cc) ]
-as_told known f path Output h = absurd (elim h [ inl t ↦ (let e = t.0 in cc) | inr t ↦ (let e = t in cc) ])
-as_told known f path Memory h = inr refl
+as_reported : (known : Type 0) (f : Files) (path : Path) (fault : RunFault) → FailsToRead {T = Vec ℕ Global} known f path (Err fault) → FailsToRead {T = Unit {0}} known f path (Err fault)
+as_reported known f path (Refused fault) h = absurd (elim h [ inl t ↦ (let e = t.0 in cc) | inr t ↦ (let e = t in cc) ])
+as_reported known f path Input h = elim h [ inl t ↦ inl (refl, t.1) | inr t ↦ absurd (let e = t in cc) ]
+as_reported known f path Output h = absurd (elim h [ inl t ↦ (let e = t.0 in cc) | inr t ↦ (let e = t in cc) ])
+as_reported known f path Memory h = inr refl
 
 -- the same of what FILE holds
 pub file_unmade : (job : Job) (path : Path) (out : Option (Bor Path)) (a b : Around) (fault : RunFault)
     → RunsOnFile (a.known ≡ true) a.files path job out a.taken b.taken b.output_failed (Err fault) → b.files ≡ a.files → b.left ≡ a.left
     → IsUnreadable {T = Unit {0}} path a b (Err fault) ⊎ AnswersFile {T = Unit {0}} job path out a b (Err fault)
 file_unmade job path out a b fault run same unread = elim run [
-  | inl u ↦ inl (record { told = as_told (a.known ≡ true) a.files path fault u.0; untouched = same; kept = u.1 })
+  | inl u ↦ inl (record { reported = as_reported (a.known ≡ true) a.files path fault u.0; untouched = same; kept = u.1 })
   | inr w ↦ inr (unread, w.0, w.1, unmade job out (Some w.0) (Some []) false a b fault w.2 same)
 ]
 

@@ -9,8 +9,8 @@ use Rattle.dexasm_run.specs.Runs.{IsAllGiven, MatchRun}
 use Rattle.dexasm_run.specs.declared.error.RunFault.{RunFault}
 use Rattle.dexasm_run.specs.declared.error.RunFault.TheVariants.{Refused, Input, Output, Memory}
 use Rattle.dexasm_world.specs.State.{Path, Files, place_of}
-use Rattle.dexasm_world.specs.Looks.{IsBarredAt, IsHeld, RefusedFor}
-use Rattle.dexasm_world.specs.inner.Looks.{Gives}
+use Rattle.dexasm_world.specs.FileKinds.{IsBarredAt, IsHeld, RefusedFor}
+use Rattle.dexasm_world.specs.inner.FileKinds.{Gives}
 use Rattle.dexasm_world.specs.declared.world.Refusal.{Refusal}
 use Rattle.dexasm_world.specs.declared.world.Refusal.TheVariants.{Missing, Memory as NoMemory, Other}
 use Rattle.dexasm_command.specs.inner.Running.{FailsToRead, RunsOn, RunsOnFile, failure_of, file_outcome}

@@ -4,7 +4,7 @@ use Rattle.std.specs.Prelude.{Result}
 use Rattle.dexasm_run.specs.Runs.{WritesAll}
 use Rattle.dexasm_run.specs.declared.error.RunFault.{RunFault}
 use Rattle.dexasm_run.specs.declared.error.RunFault.TheVariants.{Refused, Input, Output, Memory}
-use Rattle.dexasm_command.specs.Told.{IsMore, PutsLine}
+use Rattle.dexasm_command.specs.Reported.{IsMore, PutsLine}
 
 pub puts : {T : Type 0} (held holds : Option (List ℕ)) (failed : Bool) (text : List ℕ) (r : Result T RunFault) → WritesAll held holds failed text r → PutsLine held holds failed text
 puts held holds failed text (Ok x) h = inl h

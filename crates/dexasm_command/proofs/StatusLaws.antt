@@ -15,13 +15,13 @@ use Rattle.dexasm_run.specs.Status.{exit_status}
 use Rattle.dexasm_run.specs.declared.error.RunFault.{RunFault}
 use Rattle.dexasm_run.specs.declared.error.RunFault.TheVariants.{Refused, Input, Output, Memory}
 use Rattle.dexasm_world.specs.State.{Path, Files, Passes}
-use Rattle.dexasm_world.specs.Safe.{IsSafe, IsGivenUp}
-use Rattle.dexasm_world.specs.Looks.{IsHeld, CantBeRead}
+use Rattle.dexasm_world.specs.Safe.{IsSafe, IsAbandoned}
+use Rattle.dexasm_world.specs.FileKinds.{IsHeld, CantBeRead}
 use Rattle.dexasm_command.specs.Streams.{path_of}
 use Rattle.dexasm_command.specs.Carried.{CarriesOut, AnswersFrom, IsUnreadable}
-use Rattle.dexasm_command.specs.Told.{EndsTold}
+use Rattle.dexasm_command.specs.Reported.{EndsReported}
 use Rattle.dexasm_command.specs.Served.{CommandRun, DoesNothing}
-use Rattle.dexasm_command.specs.Statuses.{IsInput, HasCome, HasBegun, TellsIn, IsAnswered, IsJobRefused, CantRead, CantWrite, IsKeptSafe, ZeroTells, OneTells, ThreeTells, FourTells, OutIsNeverLost}
+use Rattle.dexasm_command.specs.Statuses.{IsInput, HasCome, HasBegun, ReportsIn, IsAnswered, IsJobRefused, CantRead, CantWrite, IsKeptSafe, ZeroMeans, OneMeans, ThreeMeans, FourMeans, OutIsNeverLost}
 
 -- all that known bytes give is they
 all_of : (bytes given : List ℕ) → IsAllGiven (Some bytes) (Some []) given → given ≡ bytes
@@ -66,7 +66,7 @@ record IsSafeFrom (r : CommandRun) (job : Job) (out : Option (Bor Path)) (had le
   answered : Answer job given answer
   is : out ≡ Some path
   moments : Passes r.before.files r.after.files (IsSafe r.before.files path.now answer)
-  ended : IsGivenUp r.before.files path.now answer r.after.files
+  ended : IsAbandoned r.before.files path.now answer r.after.files
 
 safe_from : (r : CommandRun) (job : Job) (out : Option (Bor Path)) (had left : Option (List ℕ)) (failed : Bool) (res : Result (Unit {0}) RunFault)
     → AnswersFrom {T = Unit {0}} job out had left failed r.before r.after res → r.before.known ≡ true → (r.after.files ≡ r.before.files) ⊎ IsSafeFrom r job out had left
@@ -86,7 +86,7 @@ safe_from r job (Some path) had left failed (Err Memory) h k = elim h.0 [
 
 -- what can't be opened ends so
 opened : (path : Path) (r : CommandRun) (res : Result (Unit {0}) RunFault) → res ≢ Err Input → res ≢ Err Memory → IsUnreadable path r.before r.after res → ⊥
-opened path r res no_input no_memory c = elim c.told [ inl t ↦ no_input t.0 | inr t ↦ no_memory t ]
+opened path r res no_input no_memory c = elim c.reported [ inl t ↦ no_input t.0 | inr t ↦ no_memory t ]
 
 -- a job on FILE or on standard input, by how it ended
 answered_by : (r : CommandRun) (job : Job) (file out : Option (Bor Path)) (x : Unit {0}) → CarriesOut {T = Unit {0}} job file out r.before r.after (Ok x)
@@ -113,7 +113,7 @@ unread_by : (r : CommandRun) (job : Job) (file out : Option (Bor Path)) → Carr
     → MatchOption file (r.after.input_failed ≡ true) (λ path. r.before.known ≡ true → CantBeRead r.before.files path.now) × DoesNothing r
 unread_by r job None out h = unread r job out r.before.left r.after.left r.after.input_failed h
 unread_by r job (Some path) out h = elim h [
-  | inl c ↦ (elim c.told [ inl t ↦ t.1 | inr t ↦ absurd (let e = t in cc) ], record { files = c.untouched; output = c.kept })
+  | inl c ↦ (elim c.reported [ inl t ↦ t.1 | inr t ↦ absurd (let e = t in cc) ], record { files = c.untouched; output = c.kept })
   | inr w ↦ absurd (let e = (unread r job out (Some w.1) (Some []) false w.3).0 in cc)
 ]
 
@@ -164,11 +164,11 @@ kept_safe r plan planned (Some path) is res h k = elim h [
 ]
 
 -- a failure has its own status, or that of want of memory
-other_status : (r : CommandRun) (fault : RunFault) (n : ℕ) → exit_status fault ≢ n → 4 ≢ n → EndsTold {T = Unit {0}} r.terminals.errors (Err fault) r.said r.says r.errors_failed r.status → r.status ≡ n → ⊥
+other_status : (r : CommandRun) (fault : RunFault) (n : ℕ) → exit_status fault ≢ n → 4 ≢ n → EndsReported {T = Unit {0}} r.terminals.errors (Err fault) r.errors_before r.errors_after r.errors_failed r.status → r.status ≡ n → ⊥
 other_status r fault n a b ended is = elim ended [ inl t ↦ a (sym t.0 ∙ is) | inr t ↦ b (sym t.0 ∙ is) ]
 
 zero_of : (r : CommandRun) (plan : Plan) → Plans (subcommand_of dexasm r.words) plan → (res : Result (Unit {0}) RunFault) → CarriesOut plan.job (path_of plan.file) (path_of plan.output) r.before r.after res
-    → EndsTold r.terminals.errors res r.said r.says r.errors_failed r.status → r.status ≡ 0 → IsAnswered r
+    → EndsReported r.terminals.errors res r.errors_before r.errors_after r.errors_failed r.status → r.status ≡ 0 → IsAnswered r
 zero_of r plan planned (Ok x) h ended is =
     let a = answered_by r plan.job (path_of plan.file) (path_of plan.output) x h in
     record { plan = plan; planned = planned; given = a.0; answer = a.1; input = a.2; answered = a.3; come = a.4; silent = ended.1 }
@@ -178,7 +178,7 @@ zero_of r plan planned (Err Output) h ended is = absurd (other_status r Output 0
 zero_of r plan planned (Err Memory) h ended is = absurd (other_status r Memory 0 (λ e. cc) (λ e. cc) ended is)
 
 one_of : (r : CommandRun) (plan : Plan) → Plans (subcommand_of dexasm r.words) plan → (res : Result (Unit {0}) RunFault) → CarriesOut plan.job (path_of plan.file) (path_of plan.output) r.before r.after res
-    → EndsTold r.terminals.errors res r.said r.says r.errors_failed r.status → r.status ≡ 1 → IsJobRefused r
+    → EndsReported r.terminals.errors res r.errors_before r.errors_after r.errors_failed r.status → r.status ≡ 1 → IsJobRefused r
 one_of r plan planned (Ok x) h ended is = absurd (let e = sym ended.0 ∙ is in cc)
 one_of r plan planned (Err (Refused fault)) h ended is =
     let a = refused_by r plan.job (path_of plan.file) (path_of plan.output) fault h in
@@ -190,19 +190,19 @@ one_of r plan planned (Err (Refused fault)) h ended is =
       input = a.1;
       refused = a.2;
       nothing = a.3;
-      told = elim ended [ inl t ↦ t.1 | inr t ↦ absurd (let e = sym t.0 ∙ is in cc) ];
+      reported = elim ended [ inl t ↦ t.1 | inr t ↦ absurd (let e = sym t.0 ∙ is in cc) ];
     }
 one_of r plan planned (Err Input) h ended is = absurd (other_status r Input 1 (λ e. cc) (λ e. cc) ended is)
 one_of r plan planned (Err Output) h ended is = absurd (other_status r Output 1 (λ e. cc) (λ e. cc) ended is)
 one_of r plan planned (Err Memory) h ended is = absurd (other_status r Memory 1 (λ e. cc) (λ e. cc) ended is)
 
 three_of : (r : CommandRun) (plan : Plan) → Plans (subcommand_of dexasm r.words) plan → (res : Result (Unit {0}) RunFault) → CarriesOut plan.job (path_of plan.file) (path_of plan.output) r.before r.after res
-    → EndsTold r.terminals.errors res r.said r.says r.errors_failed r.status → r.status ≡ 3 → CantRead r ⊎ CantWrite r
+    → EndsReported r.terminals.errors res r.errors_before r.errors_after r.errors_failed r.status → r.status ≡ 3 → CantRead r ⊎ CantWrite r
 three_of r plan planned (Ok x) h ended is = absurd (let e = sym ended.0 ∙ is in cc)
 three_of r plan planned (Err (Refused fault)) h ended is = absurd (other_status r (Refused fault) 3 (λ e. cc) (λ e. cc) ended is)
 three_of r plan planned (Err Input) h ended is =
     let a = unread_by r plan.job (path_of plan.file) (path_of plan.output) h in
-    inl (record { plan = plan; planned = planned; failed = a.0; nothing = a.1; told = elim ended [ inl t ↦ t.1 | inr t ↦ absurd (let e = sym t.0 ∙ is in cc) ] })
+    inl (record { plan = plan; planned = planned; failed = a.0; nothing = a.1; reported = elim ended [ inl t ↦ t.1 | inr t ↦ absurd (let e = sym t.0 ∙ is in cc) ] })
 three_of r plan planned (Err Output) h ended is =
     let a = begun_by r plan.job (path_of plan.file) (path_of plan.output) h in
     inr (record {
@@ -213,48 +213,48 @@ three_of r plan planned (Err Output) h ended is =
       input = a.2;
       answered = a.3;
       begun = a.4;
-      told = elim ended [ inl t ↦ t.1 | inr t ↦ absurd (let e = sym t.0 ∙ is in cc) ];
+      reported = elim ended [ inl t ↦ t.1 | inr t ↦ absurd (let e = sym t.0 ∙ is in cc) ];
     })
 three_of r plan planned (Err Memory) h ended is = absurd (other_status r Memory 3 (λ e. cc) (λ e. cc) ended is)
 
-four_of : (r : CommandRun) (res : Result (Unit {0}) RunFault) → EndsTold r.terminals.errors res r.said r.says r.errors_failed r.status → r.status ≡ 4 → TellsIn r Memory
+four_of : (r : CommandRun) (res : Result (Unit {0}) RunFault) → EndsReported r.terminals.errors res r.errors_before r.errors_after r.errors_failed r.status → r.status ≡ 4 → ReportsIn r Memory
 four_of r (Ok x) ended is = absurd (let e = sym ended.0 ∙ is in cc)
 four_of r (Err (Refused fault)) ended is = elim ended [ inl t ↦ absurd (let e = sym t.0 ∙ is in cc) | inr t ↦ t.1 ]
 four_of r (Err Input) ended is = elim ended [ inl t ↦ absurd (let e = sym t.0 ∙ is in cc) | inr t ↦ t.1 ]
 four_of r (Err Output) ended is = elim ended [ inl t ↦ absurd (let e = sym t.0 ∙ is in cc) | inr t ↦ t.1 ]
 four_of r (Err Memory) ended is = elim ended [ inl t ↦ t.1 | inr t ↦ t.1 ]
 
-pub zero : ZeroTells
+pub zero : ZeroMeans
 zero r s is = elim s [
   | inl c ↦ inl (zero_of r c.plan c.planned c.result c.carried c.ended is)
   | inr o ↦ elim o [
     | inl shown ↦ inr shown
-    | inr p ↦ absurd (elim p [ inl m ↦ (let e = sym m.status ∙ is in cc) | inr q ↦ elim q [ inl u ↦ (let e = sym u.told.0 ∙ is in cc) | inr b ↦ (let e = sym b.status ∙ is in cc) ] ])
+    | inr p ↦ absurd (elim p [ inl m ↦ (let e = sym m.status ∙ is in cc) | inr q ↦ elim q [ inl u ↦ (let e = sym u.reported.0 ∙ is in cc) | inr b ↦ (let e = sym b.status ∙ is in cc) ] ])
   ]
 ]
 
-pub one : OneTells
+pub one : OneMeans
 one r s is = elim s [
   | inl c ↦ one_of r c.plan c.planned c.result c.carried c.ended is
   | inr o ↦ absurd (elim o [
     | inl shown ↦ elim shown.shown [ inl put ↦ (let e = sym put.1 ∙ is in cc) | inr lost ↦ other_status r Output 1 (λ e. cc) (λ e. cc) lost.3 is ]
-    | inr p ↦ elim p [ inl m ↦ (let e = sym m.status ∙ is in cc) | inr q ↦ elim q [ inl u ↦ (let e = sym u.told.0 ∙ is in cc) | inr b ↦ (let e = sym b.status ∙ is in cc) ] ]
+    | inr p ↦ elim p [ inl m ↦ (let e = sym m.status ∙ is in cc) | inr q ↦ elim q [ inl u ↦ (let e = sym u.reported.0 ∙ is in cc) | inr b ↦ (let e = sym b.status ∙ is in cc) ] ]
   ])
 ]
 
-pub three : ThreeTells
+pub three : ThreeMeans
 three r s is = elim s [
   | inl c ↦ elim (three_of r c.plan c.planned c.result c.carried c.ended is) [ inl reading ↦ inl reading | inr writing ↦ inr (inl writing) ]
   | inr o ↦ elim o [
     | inl shown ↦ elim shown.shown [
       | inl put ↦ absurd (let e = sym put.1 ∙ is in cc)
-      | inr lost ↦ inr (inr (record { files = shown.files; failed = lost.0; told = elim lost.3 [ inl t ↦ t.1 | inr t ↦ absurd (let e = sym t.0 ∙ is in cc) ] }))
+      | inr lost ↦ inr (inr (record { files = shown.files; failed = lost.0; reported = elim lost.3 [ inl t ↦ t.1 | inr t ↦ absurd (let e = sym t.0 ∙ is in cc) ] }))
     ]
-    | inr p ↦ absurd (elim p [ inl m ↦ (let e = sym m.status ∙ is in cc) | inr q ↦ elim q [ inl u ↦ (let e = sym u.told.0 ∙ is in cc) | inr b ↦ (let e = sym b.status ∙ is in cc) ] ])
+    | inr p ↦ absurd (elim p [ inl m ↦ (let e = sym m.status ∙ is in cc) | inr q ↦ elim q [ inl u ↦ (let e = sym u.reported.0 ∙ is in cc) | inr b ↦ (let e = sym b.status ∙ is in cc) ] ])
   ]
 ]
 
-pub four : FourTells
+pub four : FourMeans
 four r s is = elim s [
   | inl c ↦ four_of r c.result c.ended is
   | inr o ↦ elim o [
@@ -264,7 +264,7 @@ four r s is = elim s [
     ]
     | inr p ↦ elim p [
       | inl m ↦ absurd (let e = sym m.status ∙ is in cc)
-      | inr q ↦ elim q [ inl u ↦ u.told.1 | inr b ↦ absurd (let e = sym b.status ∙ is in cc) ]
+      | inr q ↦ elim q [ inl u ↦ u.reported.1 | inr b ↦ absurd (let e = sym b.status ∙ is in cc) ]
     ]
   ]
 ]

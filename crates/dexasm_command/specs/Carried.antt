@@ -8,8 +8,8 @@ use Rattle.dexasm_run.specs.Runs.{MatchRun, IsAllGiven, Answers, BeginsAnswer, R
 use Rattle.dexasm_run.specs.declared.error.RunFault.{RunFault}
 use Rattle.dexasm_run.specs.declared.error.RunFault.TheVariants.{Input, Memory}
 use Rattle.dexasm_world.specs.State.{Path, Files, Passes}
-use Rattle.dexasm_world.specs.Safe.{IsSafe, IsDelivered, IsTidy, IsGivenUp}
-use Rattle.dexasm_world.specs.Looks.{IsHeld, CantBeRead, CauseAt}
+use Rattle.dexasm_world.specs.Safe.{IsSafe, IsDelivered, IsTidy, IsAbandoned}
+use Rattle.dexasm_world.specs.FileKinds.{IsHeld, CantBeRead, CauseAt}
 
 -- What is around a command at a moment: the files, whether clauses can speak of them, what standard input has left, what standard output
 -- has taken, and whether a call on these two has failed.
@@ -48,8 +48,8 @@ GoesTo job had left failed known f g out result = MatchRun result
     ((answer : List ℕ) × IsOnItsWay known job had left f g out answer × (known → IsDelivered f out answer g.now × IsTidy f out g))
     (λ fault. Refuses job had left fault × (g ≡ f))
     ((failed ≡ true) × (g ≡ f))
-    ((answer : List ℕ) × IsOnItsWay known job had left f g out answer × (known → CauseAt out f g × IsGivenUp f out answer g))
-    ((g ≡ f) ⊎ ((answer : List ℕ) × IsOnItsWay known job had left f g out answer × (known → IsGivenUp f out answer g)))
+    ((answer : List ℕ) × IsOnItsWay known job had left f g out answer × (known → CauseAt out f g × IsAbandoned f out answer g))
+    ((g ≡ f) ⊎ ((answer : List ℕ) × IsOnItsWay known job had left f g out answer × (known → IsAbandoned f out answer g)))
 
 -- and standard output takes nothing
 abbrev pub ToOut : {T : Type 0} → Job → Option (List ℕ) → Option (List ℕ) → Bool → Around → Around → Path → Result T RunFault → Type 0
@@ -63,7 +63,7 @@ AnswersFrom job out had left failed a b result = MatchOption out
 
 -- FILE can't be read, and nothing is done
 pub record IsUnreadable {T : Type 0} (path : Path) (a b : Around) (result : Result T RunFault) : Type 0 where
-  pub told : ((result ≡ Err Input) × (a.known ≡ true → CantBeRead a.files path)) ⊎ (result ≡ Err Memory)
+  pub reported : ((result ≡ Err Input) × (a.known ≡ true → CantBeRead a.files path)) ⊎ (result ≡ Err Memory)
   pub untouched : b.files ≡ a.files
   pub kept : Keeps a.taken b.taken
 

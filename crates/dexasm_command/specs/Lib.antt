@@ -1,6 +1,6 @@
 pub mod Streams
 pub mod Carried
-pub mod Told
+pub mod Reported
 pub mod Served
 pub mod Statuses
 pub mod inner

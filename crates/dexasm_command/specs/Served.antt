@@ -11,7 +11,7 @@ use Rattle.dexasm_run.specs.declared.error.RunFault.{RunFault}
 use Rattle.dexasm_run.specs.declared.error.RunFault.TheVariants.{Memory}
 use Rattle.dexasm_command.specs.Streams.{path_of, puts_file}
 use Rattle.dexasm_command.specs.Carried.{Around, CarriesOut}
-use Rattle.dexasm_command.specs.Told.{PutsLine, TellsFault, EndsTold, Shows, terminal_line}
+use Rattle.dexasm_command.specs.Reported.{PutsLine, ReportsFault, EndsReported, Shows, terminal_line}
 use Rattle.dexasm_command.specs.declared.terminals.Terminals.{Terminals}
 
 -- a run of the program: its words, which streams are terminals, what is around it before and after, what standard error had and has,
@@ -21,8 +21,8 @@ pub record CommandRun : Type 0 where
   pub terminals : Terminals
   pub before : Around
   pub after : Around
-  pub said : Option (List ℕ)
-  pub says : Option (List ℕ)
+  pub errors_before : Option (List ℕ)
+  pub errors_after : Option (List ℕ)
   pub errors_failed : Bool
   pub status : ℕ
 
@@ -43,7 +43,7 @@ pub record IsCarried (r : CommandRun) : Type 0 where
   pub allowed : is_held_back r.terminals plan ≡ false
   pub result : Result (Unit {0}) RunFault
   pub carried : CarriesOut plan.job (path_of plan.file) (path_of plan.output) r.before r.after result
-  pub ended : EndsTold r.terminals.errors result r.said r.says r.errors_failed r.status
+  pub ended : EndsReported r.terminals.errors result r.errors_before r.errors_after r.errors_failed r.status
 
 -- the words are a job whose output, a .dex file, would go to a terminal
 pub record IsHeldBack (r : CommandRun) : Type 0 where
@@ -53,17 +53,17 @@ pub record IsHeldBack (r : CommandRun) : Type 0 where
   pub held_back : is_held_back r.terminals plan ≡ true
   pub nothing : DoesNothing r
   pub unread : r.after.left ≡ r.before.left
-  pub told : PutsLine r.said r.says r.errors_failed terminal_line
+  pub reported : PutsLine r.errors_before r.errors_after r.errors_failed terminal_line
   pub status : r.status ≡ 2
 
 -- the words request help or the version, which goes to standard output
 pub record IsShown (r : CommandRun) : Type 0 where
   pub kind : ErrorKind
-  pub asked : IsAmong kind (fault_of dexasm r.words)
+  pub requested : IsAmong kind (fault_of dexasm r.words)
   pub is : (kind ≡ DisplayHelp) ⊎ (kind ≡ DisplayVersion)
   pub files : r.after.files ≡ r.before.files
   pub text : List ℕ
-  pub shown : Shows r.terminals.errors r.before.taken r.after.taken r.after.output_failed r.said r.says r.errors_failed text r.status
+  pub shown : Shows r.terminals.errors r.before.taken r.after.taken r.after.output_failed r.errors_before r.errors_after r.errors_failed text r.status
 
 -- the words are wrong
 pub record IsMisused (r : CommandRun) : Type 0 where
@@ -77,7 +77,7 @@ pub record IsMisused (r : CommandRun) : Type 0 where
 -- the words couldn't be read for want of memory
 pub record IsUnread (r : CommandRun) : Type 0 where
   pub nothing : DoesNothing r
-  pub told : TellsFault r.terminals.errors Memory r.said r.says r.errors_failed r.status
+  pub reported : ReportsFault r.terminals.errors Memory r.errors_before r.errors_after r.errors_failed r.status
 
 -- The effects of a command line.
 abbrev pub Serves : CommandRun → Type 0

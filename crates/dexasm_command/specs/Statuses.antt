@@ -12,15 +12,15 @@ use Rattle.dexasm_run.specs.Runs.{IsAllGiven}
 use Rattle.dexasm_run.specs.declared.error.RunFault.{RunFault}
 use Rattle.dexasm_run.specs.declared.error.RunFault.TheVariants.{Refused, Input, Output, Memory}
 use Rattle.dexasm_world.specs.State.{Path, Passes}
-use Rattle.dexasm_world.specs.Safe.{IsSafe, IsDelivered, IsTidy, IsGivenUp}
-use Rattle.dexasm_world.specs.Looks.{IsHeld, CantBeRead, CauseAt}
+use Rattle.dexasm_world.specs.Safe.{IsSafe, IsDelivered, IsTidy, IsAbandoned}
+use Rattle.dexasm_world.specs.FileKinds.{IsHeld, CantBeRead, CauseAt}
 use Rattle.dexasm_command.specs.Streams.{path_of}
-use Rattle.dexasm_command.specs.Told.{PutsFault}
+use Rattle.dexasm_command.specs.Reported.{PutsFault}
 use Rattle.dexasm_command.specs.Served.{CommandRun, Serves, DoesNothing, IsShown, IsMisused, IsHeldBack}
 
 -- standard error has the fault's line, or a front of it if it failed
-abbrev pub TellsIn : CommandRun → RunFault → Type 0
-TellsIn r fault = PutsFault r.terminals.errors fault r.said r.says r.errors_failed
+abbrev pub ReportsIn : CommandRun → RunFault → Type 0
+ReportsIn r fault = PutsFault r.terminals.errors fault r.errors_before r.errors_after r.errors_failed
 
 -- the output has reached OUT, safe at each moment, and nothing is left beside it
 pub record IsBrought (r : CommandRun) (out : Path) (answer : List ℕ) : Type 0 where
@@ -32,7 +32,7 @@ pub record IsBrought (r : CommandRun) (out : Path) (answer : List ℕ) : Type 0 
 pub record IsNotBrought (r : CommandRun) (out : Path) (answer : List ℕ) : Type 0 where
   pub moments : Passes r.before.files r.after.files (IsSafe r.before.files out answer)
   pub cause : CauseAt out r.before.files r.after.files
-  pub given_up : IsGivenUp r.before.files out answer r.after.files
+  pub given_up : IsAbandoned r.before.files out answer r.after.files
 
 -- these bytes are what FILE holds, or all that standard input gave
 abbrev pub IsInput : CommandRun → Option (Bor Path) → List ℕ → Type 0
@@ -55,7 +55,7 @@ pub record IsAnswered (r : CommandRun) : Type 0 where
   pub input : IsInput r (path_of plan.file) given
   pub answered : Answer plan.job given answer
   pub come : HasCome r (path_of plan.output) answer
-  pub silent : Keeps r.said r.says
+  pub silent : Keeps r.errors_before r.errors_after
 
 -- the words are a job, which refuses the bytes that were read, and nothing was done but a line reports it
 pub record IsJobRefused (r : CommandRun) : Type 0 where
@@ -66,7 +66,7 @@ pub record IsJobRefused (r : CommandRun) : Type 0 where
   pub input : IsInput r (path_of plan.file) given
   pub refused : Refusal plan.job given fault
   pub nothing : DoesNothing r
-  pub told : TellsIn r (Refused fault)
+  pub reported : ReportsIn r (Refused fault)
 
 -- the words are a job, and what it is to read couldn't be read: standard input failed, or there is a cause why FILE couldn't be read
 pub record CantRead (r : CommandRun) : Type 0 where
@@ -74,7 +74,7 @@ pub record CantRead (r : CommandRun) : Type 0 where
   pub planned : Plans (subcommand_of dexasm r.words) plan
   pub failed : MatchOption (path_of plan.file) (r.after.input_failed ≡ true) (λ path. r.before.known ≡ true → CantBeRead r.before.files path.now)
   pub nothing : DoesNothing r
-  pub told : TellsIn r Input
+  pub reported : ReportsIn r Input
 
 -- The output has not arrived completely. Standard output, which failed, has a front of it, or each moment of OUT was safe, and there is
 -- a cause.
@@ -92,13 +92,13 @@ pub record CantWrite (r : CommandRun) : Type 0 where
   pub input : IsInput r (path_of plan.file) given
   pub answered : Answer plan.job given answer
   pub begun : HasBegun r (path_of plan.output) answer
-  pub told : TellsIn r Output
+  pub reported : ReportsIn r Output
 
 -- the words request help or the version, and standard output failed
 pub record CantShow (r : CommandRun) : Type 0 where
   pub files : r.after.files ≡ r.before.files
   pub failed : r.after.output_failed ≡ true
-  pub told : TellsIn r Output
+  pub reported : ReportsIn r Output
 
 -- each moment of OUT is safe during the delivery of the job's output, and in the end nothing is left beside it, whether the output has
 -- arrived or not
@@ -112,27 +112,27 @@ pub record IsKeptSafe (r : CommandRun) : Type 0 where
   pub answered : Answer plan.job given answer
   pub is : path_of plan.output ≡ Some out
   pub moments : Passes r.before.files r.after.files (IsSafe r.before.files out.now answer)
-  pub left : IsGivenUp r.before.files out.now answer r.after.files
+  pub left : IsAbandoned r.before.files out.now answer r.after.files
 
 -- status 0: the output has arrived, or help or the version is shown
-abbrev pub ZeroTells : Type 0
-ZeroTells = (r : CommandRun) → Serves r → r.status ≡ 0 → IsAnswered r ⊎ IsShown r
+abbrev pub ZeroMeans : Type 0
+ZeroMeans = (r : CommandRun) → Serves r → r.status ≡ 0 → IsAnswered r ⊎ IsShown r
 
 -- status 1: the input is refused, and nothing is done
-abbrev pub OneTells : Type 0
-OneTells = (r : CommandRun) → Serves r → r.status ≡ 1 → IsJobRefused r
+abbrev pub OneMeans : Type 0
+OneMeans = (r : CommandRun) → Serves r → r.status ≡ 1 → IsJobRefused r
 
 -- status 2: the words are wrong, or would put a .dex file on a terminal, and nothing is done
-abbrev pub TwoTells : Type 0
-TwoTells = (r : CommandRun) → Serves r → r.status ≡ 2 → IsMisused r ⊎ IsHeldBack r
+abbrev pub TwoMeans : Type 0
+TwoMeans = (r : CommandRun) → Serves r → r.status ≡ 2 → IsMisused r ⊎ IsHeldBack r
 
 -- status 3: reading or writing failed
-abbrev pub ThreeTells : Type 0
-ThreeTells = (r : CommandRun) → Serves r → r.status ≡ 3 → CantRead r ⊎ CantWrite r ⊎ CantShow r
+abbrev pub ThreeMeans : Type 0
+ThreeMeans = (r : CommandRun) → Serves r → r.status ≡ 3 → CantRead r ⊎ CantWrite r ⊎ CantShow r
 
 -- status 4: out of memory, which a line reports
-abbrev pub FourTells : Type 0
-FourTells = (r : CommandRun) → Serves r → r.status ≡ 4 → TellsIn r Memory
+abbrev pub FourMeans : Type 0
+FourMeans = (r : CommandRun) → Serves r → r.status ≡ 4 → ReportsIn r Memory
 
 -- there is no other status
 abbrev pub NoOther : Type 0

@@ -1,4 +1,4 @@
 -- What no promise reaches: the contracts of inner functions, and proofs, name it.
 pub mod Carried
 pub mod Running
-pub mod Told
+pub mod Reported

@@ -1,6 +1,6 @@
 //! FILE as the source of a run.
 ghost use Rattle.std.specs.Prelude.{◌≡◌, ◌&&◌, ◌||◌, true, false, cond, is_some, None, Some};
-ghost use Rattle.dexasm_world.specs.Looks.{IsBarredAt, RefusedFor};
+ghost use Rattle.dexasm_world.specs.FileKinds.{IsBarredAt, RefusedFor};
 ghost use Rattle.dexasm_world.specs.declared.world.Refusal.{Refusal};
 
 use dexasm_run::Source;

@@ -16,9 +16,9 @@ mod file_source;
 mod heap;
 mod streams;
 
-// What is told of a failure, on a terminal and elsewhere.
+// The report of a failure, on a terminal and elsewhere.
+mod reporting;
 mod shown;
-mod telling;
 mod terminals;
 
 // A command line carried out, and what holds of its status and of OUT.
@@ -32,7 +32,7 @@ pub use dexasm_run::{
     Line, RunFault, Sink, Source, Watched, answer, line_text, run, run_seeded, status, write_all,
 };
 pub use dexasm_world::{Job, deliver};
-pub use laws::{out_is_never_lost, statuses_tell};
+pub use laws::{out_is_never_lost, statuses_have_meanings};
+pub use reporting::report;
 pub use serving::serve;
-pub use telling::tell;
 pub use terminals::Terminals;

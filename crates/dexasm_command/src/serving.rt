@@ -2,15 +2,15 @@
 ghost use Rattle.std.specs.Prelude.{◌≡◌, false, true, Result, Option};
 ghost use Rattle.clap.specs.Words.{kind_of};
 ghost use Rattle.dexasm_plan.specs.Plans.{texts_of};
-ghost use Rattle.dexasm_command.specs.Told.{EndsTold, PutsLine, Shows, terminal_line};
-ghost use Rattle.dexasm_command.specs.inner.Told.{Misuses};
+ghost use Rattle.dexasm_command.specs.Reported.{EndsReported, PutsLine, Shows, terminal_line};
+ghost use Rattle.dexasm_command.specs.inner.Reported.{Misuses};
 ghost use Rattle.dexasm_command.specs.Carried.{around};
 ghost use Rattle.dexasm_command.specs.Served.{Serves};
 
 use crate::carrying::carry_out;
+use crate::reporting::report;
 use crate::shown::shown;
 use crate::streams::{path_of, puts_file};
-use crate::telling::tell;
 use crate::terminals::Terminals;
 use clap::Error;
 use dex_base::Seed;
@@ -44,8 +44,8 @@ pub fn serve<W: World, I: Source, O: Sink, E: Sink>(
       terminals = terminals;
       before = around W.is_known (W.files world.old) (I.remaining input.old) (I.failed input.old) (O.contents output.old) (O.failed output.old);
       after = around W.is_known (W.files world.new) (I.remaining input.new) (I.failed input.new) (O.contents output.new) (O.failed output.new);
-      said = E.contents errors.old;
-      says = E.contents errors.new;
+      errors_before = E.contents errors.old;
+      errors_after = E.contents errors.new;
       errors_failed = E.failed errors.new;
       status = result;
     }) }
@@ -66,7 +66,7 @@ pub fn serve<W: World, I: Source, O: Sink, E: Sink>(
 
 /// Reports that a .dex file is not for a terminal.
 fn hold_back<E: Sink>(errors: &mut E) -> u8
-    ensures told { PutsLine (E.contents errors.old) (E.contents errors.new) (E.failed errors.new) terminal_line }
+    ensures reported { PutsLine (E.contents errors.old) (E.contents errors.new) (E.failed errors.new) terminal_line }
     ensures status { result ≡ 2 }
 {
     // Wrong words stay wrong words where nobody can read what is wrong with them.
@@ -99,11 +99,11 @@ fn end<E: Sink>(
     is_terminal: bool,
     errors: &mut E,
 ) -> u8
-    ensures { EndsTold is_terminal done (E.contents errors.old) (E.contents errors.new) (E.failed errors.new) result }
+    ensures { EndsReported is_terminal done (E.contents errors.old) (E.contents errors.new) (E.failed errors.new) result }
 {
     match done {
         Ok(()) => 0,
-        Err(fault) => tell(alloc, &fault, error, is_terminal, errors),
+        Err(fault) => report(alloc, &fault, error, is_terminal, errors),
     }
 }
 
@@ -121,14 +121,14 @@ fn misuse<O: Sink, E: Sink>(
     let wrong = error.use_stderr();
     let status = usage_status(error);
     if wrong && status == 4 {
-        return tell(alloc, &RunFault::Memory, None, is_terminal, errors);
+        return report(alloc, &RunFault::Memory, None, is_terminal, errors);
     }
     let Ok(text) = error.to_string(alloc) else {
-        return tell(alloc, &RunFault::Memory, None, is_terminal, errors);
+        return report(alloc, &RunFault::Memory, None, is_terminal, errors);
     };
     if wrong {
         let Ok(text) = shown(alloc, &text) else {
-            return tell(alloc, &RunFault::Memory, None, is_terminal, errors);
+            return report(alloc, &RunFault::Memory, None, is_terminal, errors);
         };
         // Wrong words stay wrong words where nobody can read what is wrong with them.
         let _ = write_all(text.as_bytes(), errors);

@@ -21,9 +21,9 @@ pub is_free_command : is_simple_and_free dexasm ≡ true
 unfolding dexasm clap_on_literals
 is_free_command = refl
 
-pub asks_subcommand : dexasm.top.subcommand_required ≡ true
+pub requests_subcommand : dexasm.top.subcommand_required ≡ true
 unfolding dexasm
-asks_subcommand = refl
+requests_subcommand = refl
 
 -- each name among the shapes has the property
 abbrev Named : (Text → Type 0) → List Shape → Type 0

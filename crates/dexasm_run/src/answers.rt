@@ -36,8 +36,8 @@ use std::alloc::{AllocError, Global};
 /// use dexasm_run::answer;
 ///
 /// let file = write(alloc, &Program { classes: &[] })?;
-/// let said = answer(alloc, Job::Check, &file)?;
-/// assert_eq!(rt; said.len(), 3); // ok and a line feed
+/// let output = answer(alloc, Job::Check, &file)?;
+/// assert_eq!(rt; output.len(), 3); // ok and a line feed
 /// ```
 pub fn answer(alloc: Global, job: Job, given: &[u8]) -> Result<Vec<u8>, Fault>
     ensures answered { IfOk result (λ made. Answer job given.now made.items) }

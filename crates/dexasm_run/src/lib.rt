@@ -9,7 +9,7 @@
 //! docs/MAP.md has this crate's place among the others.
 #![tactic(auto)]
 
-// The answer to each job, and what holds of answers.
+// The output of each job, and its laws.
 mod answers;
 mod laws;
 

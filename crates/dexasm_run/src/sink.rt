@@ -65,7 +65,7 @@ pub trait Writer {
     // What a call may do: the writer before and after it, the piece, and how many bytes it took, where it didn't fail.
     ghost writes: { Self → Self → List ℕ → Option ℕ → Type 0 };
 
-    /// Writes a front of the piece, and tells how many bytes.
+    /// Writes a front of the piece, and returns how many bytes.
     fn write_piece(&mut self, piece: &[u8]) -> io::Result<usize>
         ensures bound { WritesAtMost result piece.now }
         ensures bytes { WriteAppends (held self.old) (held self.new) result piece.now }
@@ -91,7 +91,7 @@ impl<W: Writer> Sink for Watched<W> {
         ensures bound { WritesAtMost result piece.now }
         ensures bytes { WriteAppends (W.held (watched_inner self.old)) (W.held (watched_inner self.new)) result piece.now }
         ensures failed { watched_failed self.new ≡ (watched_failed self.old || (call_failed result || moved_none result piece.now)) }
-        ensures asked { W.writes (watched_inner self.old) (watched_inner self.new) piece.now (moved_by result) }
+        ensures handed_on { W.writes (watched_inner self.old) (watched_inner self.new) piece.now (moved_by result) }
     {
         let taken = self.inner.write_piece(piece);
         match &taken {

@@ -56,7 +56,7 @@ pub trait Reader {
     // What a call may do: the reader before and after it, the piece after it, and how many bytes it gave, where it didn't fail.
     ghost reads: { Self → Self → List ℕ → Option ℕ → Type 0 };
 
-    /// Reads bytes into the piece, and tells how many.
+    /// Reads bytes into the piece, and returns how many.
     fn read_piece(&mut self, piece: &mut [u8]) -> io::Result<usize>
         ensures bound { ReadsAtMost result piece.new }
         ensures bytes { ReadConsumes (left self.old) (left self.new) result piece.new }
@@ -85,7 +85,7 @@ impl<R: Reader> Source for Watched<R> {
         ensures bytes { ReadConsumes (R.left (watched_inner self.old)) (R.left (watched_inner self.new)) result piece.new }
         ensures failed { watched_failed self.new ≡ (watched_failed self.old || call_failed result) }
         ensures ended { watched_ended self.new ≡ (watched_ended self.old || moved_none result piece.old) }
-        ensures asked { R.reads (watched_inner self.old) (watched_inner self.new) piece.new (moved_by result) }
+        ensures handed_on { R.reads (watched_inner self.old) (watched_inner self.new) piece.new (moved_by result) }
     {
         let taken = self.inner.read_piece(piece);
         match &taken {

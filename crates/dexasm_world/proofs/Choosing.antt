@@ -7,7 +7,7 @@ use Rattle.std.proofs.lemmas.Slice.Eq.{bytes_eq-Decides}
 use Rattle.dexasm_world.specs.State.{Path, Paths, FileState, Stored, Files, Passes, place_of}
 use Rattle.dexasm_world.specs.Steps.{private_mode}
 use Rattle.dexasm_world.specs.inner.Steps.{Same, Made, MadeAs}
-use Rattle.dexasm_world.specs.Safe.{part_path, name_count, target_of, IsTaken, IsNarrow, IsPartPlace, IsAsBefore, KeepsFile, IsAlone, HasRoomBeside, CanGive, IsSafe, IsDelivered}
+use Rattle.dexasm_world.specs.Safe.{part_path, name_count, target_of, IsTaken, IsNarrow, IsPartPlace, IsAsBefore, KeepsFile, IsAlone, HasSpaceBeside, CanGive, IsSafe, IsDelivered}
 use Rattle.std.specs.Option.{IsSomeAnd}
 use Rattle.dexasm_world.specs.declared.world.Dress.{Dress}
 use Rattle.dexasm_world.specs.inner.Parts.{HasPartFile, Overwrites, HoldsBytes, Dresses, Brings, HasBrought}
@@ -190,7 +190,7 @@ delivered f b c path part n answer D P paths new give alone q h₀ =
     }
 
 -- where there is no room beside, OUT is written where it is
-pub in_place : (f b c : Files) (path : Path) (answer : List ℕ) → (HasRoomBeside f path → ⊥) → b.now ≡ f.now → Passes f b (IsSafe f path answer)
+pub in_place : (f b c : Files) (path : Path) (answer : List ℕ) → (HasSpaceBeside f path → ⊥) → b.now ≡ f.now → Passes f b (IsSafe f path answer)
     → Passes b c (Overwrites (place_of b path) b.now) → Passes f c (IsSafe f path answer)
 in_place f b c path answer none same p q =
     let q₁ = subst (λ (x : Paths). Passes b c (Overwrites (x.place path) b.now)) p.same_paths q in
@@ -205,7 +205,7 @@ in_place f b c path answer none same p q =
       narrow = λ x part. narrow_free f path x t part (λ away. h.names x away);
     })
 
-pub in_place_delivered : (f b : Files) (path : Path) (answer : List ℕ) (t : FileState) → (HasRoomBeside f path → ⊥) → b.paths ≡ f.paths → b.now ≡ f.now
+pub in_place_delivered : (f b : Files) (path : Path) (answer : List ℕ) (t : FileState) → (HasSpaceBeside f path → ⊥) → b.paths ≡ f.paths → b.now ≡ f.now
     → Overwrites (place_of b path) b.now t → HoldsBytes (place_of b path) answer false b.now t → IsDelivered f path answer t
 in_place_delivered f b path answer t none p same o₀ h₀ =
     let place = ap (λ (y : Paths). y.place path) p in
@@ -225,9 +225,9 @@ in_place_delivered f b path answer t none p same o₀ h₀ =
     }
 
 -- no room is where the folder takes no file beside
-pub no_room : (f : Files) (path part : Path) (n : ℕ) → n < name_count → part ≡ part_path path n → f.paths.is_plain path ≡ true → ((k : ℕ) → k < n → IsTaken f (part_path path k))
-    → f.paths.is_closed part ≡ true → HasRoomBeside f path → ⊥
-no_room f path part n low is plain taken closed room =
+pub no_space : (f : Files) (path part : Path) (n : ℕ) → n < name_count → part ≡ part_path path n → f.paths.is_plain path ≡ true → ((k : ℕ) → k < n → IsTaken f (part_path path k))
+    → f.paths.is_closed part ≡ true → HasSpaceBeside f path → ⊥
+no_space f path part n low is plain taken closed room =
     let same = sym (target_plain f path plain) in
     let named = is ∙ ap (λ (x : Path). part_path x n) same in
     let before = λ (k : ℕ) (below : k < n). subst (λ (x : Path). IsTaken f (part_path x k)) same (taken k below) in

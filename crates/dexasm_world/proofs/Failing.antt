@@ -1,7 +1,7 @@
 -- Why a call failed, where it was this.
 use Rattle.std.specs.Prelude.{Result}
 use Rattle.std.proofs.Common.{Ok, Err}
-use Rattle.dexasm_world.specs.Looks.{RefusedFor, Caused}
+use Rattle.dexasm_world.specs.FileKinds.{RefusedFor, Caused}
 use Rattle.dexasm_world.specs.declared.world.Refusal.{Refusal}
 use Rattle.dexasm_world.specs.declared.world.Refusal.TheVariants.{Missing, Memory, Other}
 

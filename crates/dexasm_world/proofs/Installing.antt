@@ -3,7 +3,7 @@ use Rattle.std.specs.Prelude.{⊤}
 use Rattle.std.proofs.Common.{◌≡◌, ◌≢◌, ◌⊎◌, inl, inr, ℕ, List, Some, true, subst, refl, sym, ◌∙◌}
 use Rattle.dexasm_world.specs.State.{Path, Paths, FileState, Files, IsThere, Passes, place_of}
 use Rattle.dexasm_world.specs.inner.Steps.{Same, Moved, Removed}
-use Rattle.dexasm_world.specs.inner.Looks.{CanReplace}
+use Rattle.dexasm_world.specs.inner.FileKinds.{CanReplace}
 use Rattle.dexasm_world.specs.Safe.{KeepsFile, IsWholeAt, IsNarrow}
 use Rattle.dexasm_world.specs.inner.Parts.{HasPartFile, HasFullPart, Brings, HasBrought}
 use Rattle.dexasm_world.proofs.Passing.{weaker, goes_on, removed_on}

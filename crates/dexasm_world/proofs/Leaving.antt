@@ -4,10 +4,10 @@ use Rattle.std.proofs.Common.{false, true, ◌≡◌, ◌≢◌, ◌⊎◌, ◌<
 use Rattle.dexasm_world.specs.State.{Path, Paths, FileState, Files, Passes, place_of}
 use Rattle.dexasm_world.specs.inner.Steps.{Same, Removed}
 use Rattle.dexasm_world.specs.Safe.{IsPartPlace, HasAnswer, CanGive, IsTidy, StandsBeside, Leaves}
-use Rattle.dexasm_world.specs.inner.Looks.{IsLinkTarget}
+use Rattle.dexasm_world.specs.inner.FileKinds.{IsLinkTarget}
 use Rattle.dexasm_world.specs.inner.Parts.{Brings, IsGone, LeavesPart}
 use Rattle.dexasm_world.specs.declared.world.Refusal.{Refusal}
-use Rattle.dexasm_world.proofs.Passing.{leads_on, plain_on}
+use Rattle.dexasm_world.proofs.Passing.{resolves_on, plain_on}
 use Rattle.dexasm_world.proofs.Bringing.{brings_since, carry_answer}
 use Rattle.dexasm_world.proofs.Choosing.{IsNewBeside, same_place_or_not}
 use Rattle.dexasm_world.proofs.Leading.{give_at_target, one_target, part_beside}
@@ -15,7 +15,7 @@ use Rattle.dexasm_world.proofs.Leading.{give_at_target, one_target, part_beside}
 -- a name was to be taken away
 pub gone_since : {T : Type 0} (f b d : Files) (P : FileState → Type 0) (part : Path) (r : Result T Refusal) → Passes f b P → f.paths.is_plain part ≡ true
     → (b.paths.is_plain part ≡ true → OnOk r (Removed (place_of b part) b.now d.now)) → OnErr r (b.leftovers < d.leftovers) → IsGone (place_of f part) f d
-gone_since f b d P part (Ok x) p plain done left = inl (sym (ap d.now.stands (leads_on f b P part p)) ∙ (done (plain_on f b P part true p plain)).gone)
+gone_since f b d P part (Ok x) p plain done left = inl (sym (ap d.now.stands (resolves_on f b P part p)) ∙ (done (plain_on f b P part true p plain)).gone)
 gone_since f b d P part (Err e) p plain done left = inr (omega (arith, p.no_fewer, left))
 
 gone_from : (f b d : Files) (part : Path) → b.paths ≡ f.paths → f.leftovers ≤ b.leftovers → IsGone (place_of b part) b d → IsGone (place_of f part) f d

@@ -9,7 +9,7 @@ use Rattle.std.proofs.lemmas.List.Elements.{All-nil, All-cons}
 use Rattle.dexasm_world.specs.State.{Path, FileState, Stored, Files, place_of}
 use Rattle.dexasm_world.specs.Steps.{private_mode}
 use Rattle.dexasm_world.specs.inner.Steps.{Same, TouchesOnly, Made, MadeAs, Wrote, Emptied, Dressed, Kept, Moved, Removed, Begun}
-use Rattle.dexasm_world.specs.inner.Possible.{MayLead, CanMake, CanDress, CanAppend, CanKeep, CanMove, CanRemove, CanBegin, CanFail}
+use Rattle.dexasm_world.specs.inner.Possible.{CanBecome, CanMake, CanDress, CanAppend, CanKeep, CanMove, CanRemove, CanBegin, CanFail}
 
 module _ {A : Type 0} (x y : A) where
   if_is : (r : Bool) (P : Type 0) → Decides r P → P → (if r then x else y) ≡ x
@@ -41,8 +41,8 @@ file_away : (n : ℕ) (x : Stored) (file : ℕ → Stored) (m : ℕ) → m ≢ n
 file_away n x file m away = if_not x (file m) (m == n) (m ≡ n) (Decides-eqb m n) away
 
 -- a call leads there at once
-leads : (f : Files) (t : FileState) (P Q : FileState → Type 0) → P t → Q t → MayLead f P Q
-leads f t P Q p q = (
+resolves : (f : Files) (t : FileState) (P Q : FileState → Type 0) → P t → Q t → CanBecome f P Q
+resolves f t P Q p q = (
   record { paths = f.paths; now = t; past = f.past ++ f.now ∷ []; faults = f.faults; leftovers = f.leftovers },
   record { same_paths = refl; moments = t ∷ []; goes_on = append_assoc f.past (f.now ∷ []) (t ∷ []); each = All-cons P t [] p (All-nil P); last = p; later = omega arith; no_fewer = omega arith },
   q,
@@ -72,7 +72,7 @@ can_make f is_private path n plain free own =
     let s = f.now in
     let t : FileState = record { stands = stands_at (place_of f path) (Some n) s.stands; file = file_at n new_file s.file } in
     let m : MadeAs is_private (place_of f path) n s t = record { made = made_so (place_of f path) n s free own; mode = λ is. ap (λ (x : Stored). x.mode) (file_here n new_file s.file) } in
-    leads f t (λ u. Same s u ⊎ ((k : ℕ) × (f.paths.is_plain path ≡ true) × MadeAs is_private (place_of f path) k s u)) (MadeAs is_private (place_of f path) n s) (inr (n, plain, m)) m
+    resolves f t (λ u. Same s u ⊎ ((k : ℕ) × (f.paths.is_plain path ≡ true) × MadeAs is_private (place_of f path) k s u)) (MadeAs is_private (place_of f path) n s) (inr (n, plain, m)) m
 
 pub can_dress : CanDress
 can_dress f n mode =
@@ -80,7 +80,7 @@ can_dress f n mode =
     let x : Stored = record { bytes = (s.file n).bytes; mode = mode; kept = (s.file n).kept } in
     let t : FileState = record { stands = s.stands; file = file_at n x s.file } in
     let d : Dressed n mode s t = record { only = changes n x s; bytes = ap (λ (y : Stored). y.bytes) (file_here n x s.file); has = ap (λ (y : Stored). y.mode) (file_here n x s.file) } in
-    leads f t (λ u. Same s u ⊎ Dressed n mode s u) (Dressed n mode s) (inr d) d
+    resolves f t (λ u. Same s u ⊎ Dressed n mode s u) (Dressed n mode s) (inr d) d
 
 pub can_put : CanAppend
 can_put f n k piece within =
@@ -88,7 +88,7 @@ can_put f n k piece within =
     let x : Stored = record { bytes = (s.file n).bytes ++ take k piece; mode = (s.file n).mode; kept = false } in
     let t : FileState = record { stands = s.stands; file = file_at n x s.file } in
     let w : Wrote n (take k piece) s t = record { only = changes n x s; bytes = ap (λ (y : Stored). y.bytes) (file_here n x s.file); mode = ap (λ (y : Stored). y.mode) (file_here n x s.file) } in
-    leads f t (λ u. (j : ℕ) × (j ≤ length piece) × Wrote n (take j piece) s u) (Wrote n (take k piece) s) (k, within, w) w
+    resolves f t (λ u. (j : ℕ) × (j ≤ length piece) × Wrote n (take j piece) s u) (Wrote n (take k piece) s) (k, within, w) w
 
 pub can_keep : CanKeep
 can_keep f n =
@@ -97,7 +97,7 @@ can_keep f n =
     let t : FileState = record { stands = s.stands; file = file_at n x s.file } in
     let bytes = ap (λ (y : Stored). y.bytes) (file_here n x s.file) in
     let mode = ap (λ (y : Stored). y.mode) (file_here n x s.file) in
-    leads f t (λ u. Wrote n [] s u) (Kept n s) (record { only = changes n x s; bytes = bytes ∙ sym (append-nil (s.file n).bytes); mode = mode })
+    resolves f t (λ u. Wrote n [] s u) (Kept n s) (record { only = changes n x s; bytes = bytes ∙ sym (append-nil (s.file n).bytes); mode = mode })
     (record { only = changes n x s; bytes = bytes; mode = mode; kept = ap (λ (y : Stored). y.kept) (file_here n x s.file) })
 
 pub can_move : CanMove
@@ -114,7 +114,7 @@ can_move f from to can =
       names = λ p from_here to_here. stands_away a None inner p from_here ∙ stands_away b (s.stands a) s.stands p to_here;
       files = λ k. refl;
     } in
-    leads f t (λ u. Same s u ⊎ Moved a b s u) (Moved a b s) (inr m) m
+    resolves f t (λ u. Same s u ⊎ Moved a b s u) (Moved a b s) (inr m) m
 
 pub can_remove : CanRemove
 can_remove f path =
@@ -122,11 +122,11 @@ can_remove f path =
     let a = place_of f path in
     let t : FileState = record { stands = stands_at a None s.stands; file = s.file } in
     let r : Removed a s t = record { gone = stands_here a None s.stands; names = λ p away. stands_away a None s.stands p away; files = λ k. refl } in
-    leads f t (λ u. Same s u ⊎ Removed a s u) (Removed a s) (inr r) r
+    resolves f t (λ u. Same s u ⊎ Removed a s u) (Removed a s) (inr r) r
 
 begins_so : (f : Files) (path : Path) (n : ℕ) (t : FileState) → Begun (place_of f path) n f.now t
-    → MayLead f (λ u. Same f.now u ⊎ ((m : ℕ) × Begun (place_of f path) m f.now u)) (Begun (place_of f path) n f.now)
-begins_so f path n t b = leads f t (λ u. Same f.now u ⊎ ((m : ℕ) × Begun (place_of f path) m f.now u)) (Begun (place_of f path) n f.now) (inr (n, b)) b
+    → CanBecome f (λ u. Same f.now u ⊎ ((m : ℕ) × Begun (place_of f path) m f.now u)) (Begun (place_of f path) n f.now)
+begins_so f path n t b = resolves f t (λ u. Same f.now u ⊎ ((m : ℕ) × Begun (place_of f path) m f.now u)) (Begun (place_of f path) n f.now) (inr (n, b)) b
 
 pub can_begin : CanBegin
 can_begin f path n h = elim h [

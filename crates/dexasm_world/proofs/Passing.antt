@@ -35,8 +35,8 @@ pub goes_on : (a b c : Files) (P Q : FileState → Type 0) → Passes a b P → 
 goes_on a b c P Q p q f = then a b c P p (weaker b c Q P f q)
 
 -- a path leads on to the same place, and is a link or not as before
-pub leads_on : (a b : Files) (P : FileState → Type 0) (path : Path) → Passes a b P → place_of b path ≡ place_of a path
-leads_on a b P path p = ap (λ (x : Paths). x.place path) p.same_paths
+pub resolves_on : (a b : Files) (P : FileState → Type 0) (path : Path) → Passes a b P → place_of b path ≡ place_of a path
+resolves_on a b P path p = ap (λ (x : Paths). x.place path) p.same_paths
 
 pub plain_on : (a b : Files) (P : FileState → Type 0) (path : Path) (v : Bool) → Passes a b P → a.paths.is_plain path ≡ v → b.paths.is_plain path ≡ v
 plain_on a b P path v p h = ap (λ (x : Paths). x.is_plain path) p.same_paths ∙ h
@@ -44,4 +44,4 @@ plain_on a b P path v p h = ap (λ (x : Paths). x.is_plain path) p.same_paths �
 -- a name is taken away, of a path that leads where it led
 pub removed_on : (f b c : Files) (P : FileState → Type 0) (part : Path) → Passes f b P → f.paths.is_plain part ≡ true
     → (b.paths.is_plain part ≡ true → Passes b c (λ t. Same b.now t ⊎ Removed (place_of b part) b.now t)) → Passes b c (λ t. Same b.now t ⊎ Removed (place_of f part) b.now t)
-removed_on f b c P part p plain q = subst (λ (x : Path). Passes b c (λ t. Same b.now t ⊎ Removed x b.now t)) (leads_on f b P part p) (q (plain_on f b P part true p plain))
+removed_on f b c P part p plain q = subst (λ (x : Path). Passes b c (λ t. Same b.now t ⊎ Removed x b.now t)) (resolves_on f b P part p) (q (plain_on f b P part true p plain))

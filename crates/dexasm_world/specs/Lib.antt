@@ -1,5 +1,5 @@
 pub mod State
 pub mod Steps
 pub mod Safe
-pub mod Looks
+pub mod FileKinds
 pub mod inner

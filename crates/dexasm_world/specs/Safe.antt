@@ -54,11 +54,11 @@ abbrev pub IsNarrow : Path → Path → FileState → FileState → Type 0
 IsNarrow out place s t = (k m : ℕ) → t.stands place ≡ Some k → s.stands out ≡ Some m
     → (((t.file k).bytes ≡ []) × ((t.file k).mode ≡ private_mode)) ⊎ ((t.file k).mode ≡ (s.file m).mode)
 
--- A new file can stand beside OUT: OUT is a file or nothing, and no link to nothing, and its folder takes a file of the first part name that
+-- A new file can be made beside OUT: OUT is a file or nothing, and no link to nothing, and its folder takes a file of the first part name that
 -- is free.
-pub record HasRoomBeside (f : Files) (out : Path) : Type 0 where
+pub record HasSpaceBeside (f : Files) (out : Path) : Type 0 where
   pub no_device : f.paths.is_device (place_of f out) ≡ false
-  pub leads : (f.paths.is_plain out ≡ true) ⊎ IsSome (f.now.stands (place_of f out))
+  pub resolves : (f.paths.is_plain out ≡ true) ⊎ IsSome (f.now.stands (place_of f out))
   pub takes : (n : ℕ) → n < name_count → ((k : ℕ) → k < n → IsTaken f (part_path (target_of f out) k)) → f.paths.is_closed (part_path (target_of f out) n) ≡ false
 
 -- no other name is one of the file at a place
@@ -67,7 +67,7 @@ IsAlone place s = (n : ℕ) (p : Path) → s.stands place ≡ Some n → s.stand
 
 -- and it can be put in OUT's place: OUT is a file with one name, or nothing, and the system lets it go
 pub record CanGive (f : Files) (out : Path) : Type 0 where
-  pub room : HasRoomBeside f out
+  pub room : HasSpaceBeside f out
   pub free : f.paths.is_fixed (place_of f out) ≡ false
   pub alone : IsAlone (place_of f out) f.now
 
@@ -78,7 +78,7 @@ pub record IsSafe (f : Files) (out : Path) (answer : List ℕ) (t : FileState) :
   -- No other file that was there is touched.
   pub files : (n : ℕ) → IsThere f.now n → f.now.stands (place_of f out) ≢ Some n → t.file n ≡ f.now.file n
   -- Nothing is lost: OUT holds what it held, or the complete output, or the complete output is beside it.
-  pub never_lost : HasRoomBeside f out → IsWholeAt (place_of f out) answer f.now t
+  pub never_lost : HasSpaceBeside f out → IsWholeAt (place_of f out) answer f.now t
       ⊎ ((p : Path) × IsPartPlace f out p × HasAnswer (place_of f out) answer f.now p t)
   -- And where OUT can be replaced, it is never in between, and what it gives way to leaves it as it was.
   pub whole : CanGive f out → IsWholeAt (place_of f out) answer f.now t
@@ -92,7 +92,7 @@ pub record IsDelivered (f : Files) (out : Path) (answer : List ℕ) (t : FileSta
   pub here : t.stands (place_of f out) ≡ Some number
   pub bytes : (t.file number).bytes ≡ answer
   pub mode : (n : ℕ) → f.now.stands (place_of f out) ≡ Some n → (t.file number).mode ≡ (f.now.file n).mode
-  pub kept : HasRoomBeside f out → IsSome (f.now.stands (place_of f out)) → (t.file number).kept ≡ true
+  pub kept : HasSpaceBeside f out → IsSome (f.now.stands (place_of f out)) → (t.file number).kept ≡ true
   -- Names of one file stay names of one file.
   pub together : (n : ℕ) (p : Path) → f.now.stands (place_of f out) ≡ Some n → f.now.stands p ≡ Some n → t.stands p ≡ t.stands (place_of f out)
   -- Where OUT could be replaced, nothing is left beside it.
@@ -115,10 +115,10 @@ pub record StandsBeside (f : Files) (out : Path) (answer : List ℕ) (t : FileSt
   pub clean : (p : Path) → p ≢ place_of f out → p ≢ place → t.stands p ≡ f.now.stands p
 
 -- The output has not arrived, and nothing is left of it beside OUT, unless a call failed that was to remove it, or OUT cannot be replaced.
-abbrev pub IsGivenUp : Files → Path → List ℕ → Files → Type 0
-IsGivenUp f out answer g = IsTidy f out g ⊎ StandsBeside f out answer g.now
+abbrev pub IsAbandoned : Files → Path → List ℕ → Files → Type 0
+IsAbandoned f out answer g = IsTidy f out g ⊎ StandsBeside f out answer g.now
 
 -- what is left beside OUT
 abbrev pub Leaves : {T : Type 0} → Files → Path → List ℕ → Files → Result T Refusal → Type 0
 Leaves f out answer g (Ok r) = IsTidy f out g
-Leaves f out answer g (Err refusal) = IsGivenUp f out answer g
+Leaves f out answer g (Err refusal) = IsAbandoned f out answer g

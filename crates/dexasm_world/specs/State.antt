@@ -37,7 +37,7 @@ pub record Paths : Type 0 where
   pub is_barred : Path → Bool
 
 -- the files as a run sees them: where paths lead, what there is now, each moment before now, the first one first, how often a call on
--- them has failed for a reason that isn't told here, as a full disk, and how often one has failed that may have left a name there: a file
+-- them has failed for a reason that isn't modelled here, as a full disk, and how often one has failed that may have left a name there: a file
 -- wasn't made, or a name wasn't taken away
 pub record Files : Type 0 where
   pub paths : Paths

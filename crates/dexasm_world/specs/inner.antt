@@ -1,5 +1,5 @@
 -- What no promise reaches: the contracts of inner functions, and proofs, name it.
-pub mod Looks
+pub mod FileKinds
 pub mod Parts
 pub mod Possible
 pub mod State

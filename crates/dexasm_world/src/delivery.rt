@@ -3,12 +3,12 @@ ghost use Rattle.std.specs.Prelude.{◌≡◌, true, false, [], Ok, IfOk, IsSome
 ghost use Rattle.dexasm_world.specs.State.{Passes, place_of};
 ghost use Rattle.dexasm_world.specs.Steps.{private_mode};
 ghost use Rattle.dexasm_world.specs.Safe.{part_path, IsAlone, IsSafe, IsDelivered, CanGive, Leaves};
-ghost use Rattle.dexasm_world.specs.Looks.{HasCauseAt};
-ghost use Rattle.dexasm_world.specs.inner.Looks.{Looks, HasCause, HasCauseBeside};
+ghost use Rattle.dexasm_world.specs.FileKinds.{HasCauseAt};
+ghost use Rattle.dexasm_world.specs.inner.FileKinds.{HasKind, HasCause, HasCauseBeside};
 ghost use Rattle.dexasm_world.specs.inner.Parts.{Overwrites, HoldsBytes, Fills, Stores, Dresses, HasPartFile, HasFullPart, Brings, HasBrought, LeavesPart};
 
 use crate::put::put_all;
-use crate::world::{Dress, Handle, Look, NotMade, NotReplaced, Refusal, World};
+use crate::world::{Dress, FileKind, Handle, NotMade, NotReplaced, Refusal, World};
 use std::alloc::{AllocError, Global};
 
 /// Delivers the output to OUT.
@@ -23,19 +23,19 @@ pub fn deliver<W: World>(
     ensures cause { W.is_known ≡ true → HasCauseAt out.now (W.files world.old) (W.files world.new) result }
     ensures left { W.is_known ≡ true → Leaves (W.files world.old) out.now answer.now (W.files world.new) result }
 {
-    match world.look(out) {
-        Ok(Look::Link) => match world.target(alloc, out) {
+    match world.kind_of(out) {
+        Ok(FileKind::Link) => match world.target(alloc, out) {
             Ok(target) => {
                 let path = target.as_str();
-                match world.look(path) {
-                    Ok(look) => deliver_over(alloc, world, path, look, answer),
+                match world.kind_of(path) {
+                    Ok(kind_of) => deliver_over(alloc, world, path, kind_of, answer),
                     Err(refusal) => Err(refusal),
                 }
             }
             Err(Refusal::Missing) => overwrite(world, out, answer, false),
             Err(refusal) => Err(refusal),
         },
-        Ok(look) => deliver_over(alloc, world, out, look, answer),
+        Ok(kind_of) => deliver_over(alloc, world, out, kind_of, answer),
         Err(Refusal::Missing) => deliver_beside(alloc, world, out, answer, None, false),
         Err(refusal) => Err(refusal),
     }
@@ -46,33 +46,33 @@ fn deliver_over<W: World>(
     alloc: Global,
     world: &mut W,
     path: &str,
-    look: Look,
+    kind_of: FileKind,
     answer: &[u8],
 ) -> Result<(), Refusal>
     requires plain { W.is_known ≡ true → (W.files world.old).paths.is_plain path.now ≡ true }
-    requires look { W.is_known ≡ true → Looks (W.files world.old) path.now (Ok look) }
+    requires kind_of { W.is_known ≡ true → HasKind (W.files world.old) path.now (Ok kind_of) }
     ensures moments { W.is_known ≡ true → Passes (W.files world.old) (W.files world.new) (IsSafe (W.files world.old) path.now answer.now) }
     ensures done { W.is_known ≡ true → OnOk result (IsDelivered (W.files world.old) path.now answer.now (W.files world.new).now) }
     ensures cause { W.is_known ≡ true → HasCauseAt path.now (W.files world.old) (W.files world.new) result }
     ensures left { W.is_known ≡ true → Leaves (W.files world.old) path.now answer.now (W.files world.new) result }
 {
-    match look {
-        Look::Alone(dress) => {
+    match kind_of {
+        FileKind::Alone(dress) => {
             if world.may_write(path) {
                 deliver_beside(alloc, world, path, answer, Some(dress), false)
             } else {
                 Err(Refusal::Other)
             }
         }
-        Look::Shared(dress) => {
+        FileKind::Shared(dress) => {
             if world.may_write(path) {
                 deliver_beside(alloc, world, path, answer, Some(dress), true)
             } else {
                 Err(Refusal::Other)
             }
         }
-        Look::Device => overwrite(world, path, answer, false),
-        Look::Link => Err(Refusal::Other),
+        FileKind::Device => overwrite(world, path, answer, false),
+        FileKind::Link => Err(Refusal::Other),
     }
 }
 

@@ -17,4 +17,4 @@ pub use delivery::deliver;
 pub use job::Job;
 pub use possible::each_call_is_possible;
 pub use put::put_all;
-pub use world::{Dress, Handle, Look, NotMade, NotReplaced, Reading, Refusal, World};
+pub use world::{Dress, FileKind, Handle, NotMade, NotReplaced, Reading, Refusal, World};

@@ -2,7 +2,7 @@
 ghost use Rattle.std.specs.Prelude.{◌≡◌, ◌≤◌, ℕ, true, length, take, OnOk};
 ghost use Rattle.dexasm_world.specs.State.{Passes};
 ghost use Rattle.dexasm_world.specs.inner.Steps.{Wrote};
-ghost use Rattle.dexasm_world.specs.inner.Looks.{HasCause};
+ghost use Rattle.dexasm_world.specs.inner.FileKinds.{HasCause};
 
 use crate::world::{Handle, Refusal, World};
 

@@ -5,8 +5,8 @@ ghost use Rattle.std.specs.Io.KnownBytes.{ReadConsumes};
 ghost use Rattle.dexasm_world.specs.State.{Files, Passes, place_of};
 ghost use Rattle.dexasm_world.specs.inner.Steps.{Same, MadeAs, Wrote, Dressed, Kept, Moved, Removed, Begun};
 ghost use Rattle.dexasm_world.specs.Safe.{part_path};
-ghost use Rattle.dexasm_world.specs.Looks.{Caused, IsBarredAt};
-ghost use Rattle.dexasm_world.specs.inner.Looks.{Looks, LinkLeadsTo, Opens, HasCause, WhyNotMade, WhyNotReplaced, CanReplace};
+ghost use Rattle.dexasm_world.specs.FileKinds.{Caused, IsBarredAt};
+ghost use Rattle.dexasm_world.specs.inner.FileKinds.{HasKind, LinkResolvesTo, Opens, HasCause, WhyNotMade, WhyNotReplaced, CanReplace};
 
 use std::alloc::Global;
 use std::io;
@@ -52,7 +52,7 @@ pub struct Dress {
 
 /// The kind of file of a name.
 #[derive(Clone, Copy, Debug)]
-pub enum Look {
+pub enum FileKind {
     /// A link.
     Link,
     /// A file with this one name.
@@ -93,12 +93,12 @@ pub trait World {
     ghost files: { Self → Files };
 
     /// The kind of file of the name, without following a link.
-    fn look(&self, path: &str) -> Result<Look, Refusal>
-        ensures { is_known ≡ true → Looks (files self.now) path.now result };
+    fn kind_of(&self, path: &str) -> Result<FileKind, Refusal>
+        ensures { is_known ≡ true → HasKind (files self.now) path.now result };
 
     /// The path without links to the same place.
     fn target(&self, alloc: Global, path: &str) -> Result<String, Refusal>
-        ensures { is_known ≡ true → LinkLeadsTo string_bytes (files self.now) path.now result };
+        ensures { is_known ≡ true → LinkResolvesTo string_bytes (files self.now) path.now result };
 
     /// Whether the file may be written.
     fn may_write(&self, path: &str) -> bool

@@ -7,7 +7,7 @@ use Rattle.std.proofs.lemmas.List.Elements.{All-nil, All-cons}
 use Rattle.dexasm_world.specs.State.{Path, FileState, Stored, Passes}
 use Rattle.dexasm_world.specs.Steps.{private_mode}
 use Rattle.dexasm_world.specs.inner.Steps.{Same, Made, MadeAs, Wrote, Moved, Removed}
-use Rattle.dexasm_world.specs.Looks.{Caused, RefusedFor}
+use Rattle.dexasm_world.specs.FileKinds.{Caused, RefusedFor}
 use Rattle.dexasm_world.specs.declared.world.Refusal.{Refusal}
 use Rattle.dexasm_world.specs.declared.world.Refusal.TheVariants.{Memory, Missing, Other}
 use Rattle.disk_samples.specs.Logs.{step, state_of, moments_before, no_files, fault_count, leftover_count, faults_in, leftovers_in, AreMadeBefore}

@@ -13,7 +13,7 @@ use Rattle.disk_samples.specs.declared.change.Entry.{Entry}
 use Rattle.disk_samples.specs.declared.disk.Manner.{Manner}
 use Rattle.disk_samples.specs.declared.disk.Disk.{Disk}
 use Rattle.disk_samples.specs.declared.happening.Attempt.{Attempt}
-use Rattle.disk_samples.specs.declared.happening.Attempt.TheVariants.{Success, Failure, NoRoom}
+use Rattle.disk_samples.specs.declared.happening.Attempt.TheVariants.{Success, Failure, NoSpace}
 
 -- each path is a place of its own, and a file can stand at these names alone
 abbrev pub paths_at : List (Bor Path) → Manner → Paths
@@ -65,7 +65,7 @@ pub record Fails (change : Change) (failure : Outcome) (d e : Disk) : Type 0 whe
 abbrev pub Attempts : Change → Outcome → Disk → Disk → Attempt → Type 0
 Attempts change failure d e Success = Gains d e (record { change = change; outcome = Done })
 Attempts change failure d e Failure = Fails change failure d e
-Attempts change failure d e NoRoom = Stays d e
+Attempts change failure d e NoSpace = Stays d e
 
 -- the same, as a call tells it
 abbrev pub Calls : {T : Type 0} → Change → Outcome → Disk → Disk → Result T Refusal → Type 0

@@ -8,7 +8,7 @@ use crate::change::{Change, Outcome};
 use crate::disk::Disk;
 use crate::happening::Attempt;
 use crate::seeing::{bytes_of, is_shared, mode_of, named, number_at};
-use dexasm_world::{Dress, Handle, Look, NotMade, NotReplaced, Reading, Refusal, World};
+use dexasm_world::{Dress, FileKind, Handle, NotMade, NotReplaced, Reading, Refusal, World};
 use std::alloc::Global;
 use std::io;
 use std::io::{Cursor, Read};
@@ -57,7 +57,7 @@ impl World for Disk {
 
     ghost apart = { λ world path n known one other. parts_apart path n };
 
-    fn look(&self, path: &str) -> Result<Look, Refusal> {
+    fn kind_of(&self, path: &str) -> Result<FileKind, Refusal> {
         let Some(number) = number_at(self.log.as_slice(), path) else {
             return Err(Refusal::Missing);
         };
@@ -67,9 +67,9 @@ impl World for Disk {
             group: 0,
         };
         if is_shared(self.log.as_slice(), self.names, path, number) {
-            Ok(Look::Shared(dress))
+            Ok(FileKind::Shared(dress))
         } else {
-            Ok(Look::Alone(dress))
+            Ok(FileKind::Alone(dress))
         }
     }
 
@@ -179,7 +179,7 @@ impl World for Disk {
         match self.attempt(Change::Remove(place), Outcome::MayHaveLeft) {
             Attempt::Success => Ok(()),
             Attempt::Failure => Err(Refusal::Other),
-            Attempt::NoRoom => {
+            Attempt::NoSpace => {
                 self.take_away(place);
                 Ok(())
             }

@@ -12,7 +12,7 @@ use dexasm_world::Refusal;
 pub(crate) enum Attempt {
     Success,
     Failure,
-    NoRoom,
+    NoSpace,
 }
 
 impl Disk {
@@ -41,7 +41,7 @@ impl Disk {
         if self.happen(change, Outcome::Done) {
             Attempt::Success
         } else {
-            Attempt::NoRoom
+            Attempt::NoSpace
         }
     }
 
@@ -54,7 +54,7 @@ impl Disk {
         if self.happen(made, failure) {
             Attempt::Failure
         } else {
-            Attempt::NoRoom
+            Attempt::NoSpace
         }
     }
 
@@ -66,7 +66,7 @@ impl Disk {
         match self.attempt(change, failure) {
             Attempt::Success => Ok(()),
             Attempt::Failure => Err(Refusal::Other),
-            Attempt::NoRoom => Err(Refusal::Memory),
+            Attempt::NoSpace => Err(Refusal::Memory),
         }
     }
 

@@ -1,5 +1,5 @@
 -- The faults of class rows, static values, code and its registers. Each is stated so that it has a meaning for any file; it
--- is asked only where the groups before, and the rows before, hold.
+-- is checked only if the groups before, and the rows before, hold.
 use Rattle.std.specs.Prelude.{◌≡◌, ◌≢◌, ℕ, ◌<◌, ◌==◌, ◌||◌, if◌then◌else◌, MatchBool, None, List, length, Option, Some, slice_index}
 use Rattle.std.specs.List.{slice_get}
 use Rattle.dex_base.specs.FirstFault.{or_later, or_else, First, or_first, FirstEntry}

@@ -13,7 +13,7 @@ use Rattle.file_classes.specs.inner.ClassFaults.{ClassRowsHold}
 use Rattle.file_classes.proofs.RowFaults.{class_clear}
 use Rattle.file_classes.proofs.ClearLaws.{values_clear, bodies_clear, methods_clear}
 use Rattle.file_read.specs.inner.Broken.{Broken, GroupBreaks}
-use Rattle.file_read.specs.inner.Groups.{turn, IsAskedBefore, Group, Frame, Strings, Types, Protos, Fields, Methods, Classes, Values, Codes, Registers}
+use Rattle.file_read.specs.inner.Groups.{turn, IsCheckedBefore, Group, Frame, Strings, Types, Protos, Fields, Methods, Classes, Values, Codes, Registers}
 use Rattle.file_read.specs.Means.{Means}
 use Rattle.file_read.specs.Refused.{IsRefused}
 use Rattle.file_read.proofs.PassLaws.{means_classes, means_values, means_bodies, means_methods}
@@ -95,7 +95,7 @@ module _ (b : List ℕ) where
   pub refused_broken : (e : Fault) → IsRefused b e → Broken b e
   refused_broken e x = let r = found e x in (r.0, r.1)
 
-  pub refused_first : (e : Fault) → IsRefused b e → (g : Group) × GroupBreaks g b e × ((h : Group) (f : Fault) → IsAskedBefore h g → GroupBreaks h b f → ⊥)
+  pub refused_first : (e : Fault) → IsRefused b e → (g : Group) × GroupBreaks g b e × ((h : Group) (f : Fault) → IsCheckedBefore h g → GroupBreaks h b f → ⊥)
   refused_first e x =
       let r = found e x in
       (r.0, r.1, λ h f before. clear b h f (r.2 Frame (omega (arith, before))) (r.2 h before))

@@ -2,7 +2,7 @@
 ghost use Rattle.std.specs.Prelude.{◌≡◌, ℕ, List};
 ghost use Rattle.dex_base.specs.declared.fault.Fault.{Fault};
 ghost use Rattle.file_read.specs.inner.Broken.{Broken, GroupBreaks};
-ghost use Rattle.file_read.specs.inner.Groups.{IsAskedBefore, Group};
+ghost use Rattle.file_read.specs.inner.Groups.{IsCheckedBefore, Group};
 ghost use Rattle.file_read.specs.Means.{Means};
 ghost use Rattle.file_read.specs.Refused.{IsRefused};
 ghost use Rattle.program_types.specs.Content.{Program};
@@ -26,5 +26,5 @@ pub fn one_refusal()
 /// A refusal's fault is in one group, and no earlier group has a fault.
 pub fn refusals_are_first()
     ensures { (b : List ℕ) (e : Fault) → IsRefused b e
-        → (g : Group) × GroupBreaks g b e × ((h : Group) (f : Fault) → IsAskedBefore h g → ¬ GroupBreaks h b f) }
+        → (g : Group) × GroupBreaks g b e × ((h : Group) (f : Fault) → IsCheckedBefore h g → ¬ GroupBreaks h b f) }
 {}

@@ -161,14 +161,14 @@ module _ (numbers : Columns) (n : ℕ) (bytes : List ℕ) (x : CarriedValues num
 -- ---- indices
 
 -- the number that was looked up
-pub number_at : (numbers : Columns) (table asked : IndexKind) (i j n m : ℕ) → asked ≡ table → j ≡ i → slice_get (column_of numbers asked) j ≡ Some m → slice_get (column_of numbers table) i ≡ Some n → m ≡ n
-number_at numbers table asked i j n m same at there here =
-    some_inj m n (sym (subst (λ (k : IndexKind). slice_get (column_of numbers k) i ≡ Some m) same (subst (λ (k : ℕ). slice_get (column_of numbers asked) k ≡ Some m) at there)) ∙ here)
+pub number_at : (numbers : Columns) (table index_kind : IndexKind) (i j n m : ℕ) → index_kind ≡ table → j ≡ i → slice_get (column_of numbers index_kind) j ≡ Some m → slice_get (column_of numbers table) i ≡ Some n → m ≡ n
+number_at numbers table index_kind i j n m same at there here =
+    some_inj m n (sym (subst (λ (k : IndexKind). slice_get (column_of numbers k) i ≡ Some m) same (subst (λ (k : ℕ). slice_get (column_of numbers index_kind) k ≡ Some m) at there)) ∙ here)
 
 -- it can be looked up
-pub index_within : (numbers : Columns) (table asked : IndexKind) (i j n : ℕ) → asked ≡ table → j ≡ i → slice_get (column_of numbers table) i ≡ Some n → j < length (column_of numbers asked)
-index_within numbers table asked i j n same at here =
-    subst (λ (k : ℕ). k < length (column_of numbers asked)) (sym at) (subst (λ (k : IndexKind). i < length (column_of numbers k)) (sym same) (slice_get_within (column_of numbers table) i n here))
+pub index_within : (numbers : Columns) (table index_kind : IndexKind) (i j n : ℕ) → index_kind ≡ table → j ≡ i → slice_get (column_of numbers table) i ≡ Some n → j < length (column_of numbers index_kind)
+index_within numbers table index_kind i j n same at here =
+    subst (λ (k : ℕ). k < length (column_of numbers index_kind)) (sym at) (subst (λ (k : IndexKind). i < length (column_of numbers k)) (sym same) (slice_get_within (column_of numbers table) i n here))
 
 -- ---- an array of a class
 

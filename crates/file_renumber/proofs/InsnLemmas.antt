@@ -12,7 +12,7 @@ use Rattle.program_types.specs.Operands.{IsOfIndexKind}
 use Rattle.program_types.specs.Mentions.{names_of_insn}
 use Rattle.tables_rows.specs.Stands.{NameStands}
 use Rattle.file_renumber.specs.inner.Marked.{kind_of, IsRowOf}
-use Rattle.code_read.specs.Symbols.{Says, IndexStandsFor, linked, name_in}
+use Rattle.code_read.specs.Symbols.{Resolves, IndexStandsFor, linked, name_in}
 use Rattle.code_read.specs.inner.Symbols.{has_index}
 use Rattle.file_renumber.specs.inner.Indices.{IsIndex}
 
@@ -49,7 +49,7 @@ moved N o p x y i made_of which e names a b n = record {
   stands = subst (λ (q : ℕ). IndexStandsFor N p q which) b (subst (λ (q : ℕ). IndexStandsFor N q x which) a n);
 }
 
-pub named_of : (N : ℕ → Name → Type 0) (T : ℤ → ℕ) (r : Raw) (i : Insn) (op index : ℕ) → IsIndex r op index → Says N T r i → Named N op index i
+pub named_of : (N : ℕ → Name → Type 0) (T : ℤ → ℕ) (r : Raw) (i : Insn) (op index : ℕ) → IsIndex r op index → Resolves N T r i → Named N op index i
 unfolding linked
 named_of N T (raw.I21c o a x) i op index h s = moved N o op x index i (made.I21c o a (name_in i)) (name_in i) s.symbol refl h.0 h.1 s.named
 named_of N T (raw.I22c o a b x) i op index h s = moved N o op x index i (made.I22c o a b (name_in i)) (name_in i) s.symbol refl h.0 h.1 s.named
@@ -67,7 +67,7 @@ names_none T w (raw.I35c op n regs index) h = absurd cc
 names_none T w (raw.I3rc op n first index) h = absurd cc
 names_none T w _ h = refl
 
-pub unnamed : (N : ℕ → Name → Type 0) (T : ℤ → ℕ) (r : Raw) (i : Insn) → has_index r ≡ false → Says N T r i → names_of_insn i ≡ []
+pub unnamed : (N : ℕ → Name → Type 0) (T : ℤ → ℕ) (r : Raw) (i : Insn) → has_index r ≡ false → Resolves N T r i → names_of_insn i ≡ []
 unnamed N T r i h s = ap names_of_insn (sym s.symbol) ∙ names_none T (name_in i) r h
 
 -- ---- its units

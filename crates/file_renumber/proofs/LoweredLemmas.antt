@@ -17,7 +17,7 @@ use Rattle.program_types.specs.Sizes.{addresses_of}
 use Rattle.file_renumber.specs.inner.Marked.{Columns}
 use Rattle.file_renumber.specs.inner.Numbers.{Carries}
 use Rattle.code_read.specs.Walk.{starts, raw_at, address}
-use Rattle.code_read.specs.Linked.{lead, SpellsInsns}
+use Rattle.code_read.specs.Linked.{target_number, SpellsInsns}
 use Rattle.code_read.proofs.Runs.{stands-at}
 use Rattle.code_read.proofs.LinkLaws.{addresses-same, kind-linked}
 use Rattle.code_write.specs.Fits.{ShortFits}
@@ -42,7 +42,7 @@ module _ (N M : ℕ → Name → Type 0) (numbers : Columns) (us : List ℕ) (rs
       let n = s.linked.count in
       record {
         fits = stands_fits us (address rs k) (raw_at rs k) are (stands-at us rs s.walk k l);
-        numbered = can_renumber N M numbers (lead (starts rs) (address rs x.origin)) (raw_at rs k) (insn_at is k) x.says (carried-at k l) (λ table. fits table k (omega (arith, l, n)));
+        numbered = can_renumber N M numbers (target_number (starts rs) (address rs x.origin)) (raw_at rs k) (insn_at is k) x.resolves (carried-at k l) (λ table. fits table k (omega (arith, l, n)));
       })
 
   renumbered-at : (k : ℕ) → k < length rs → raw_at (map (renumbered numbers) rs) k ≡ renumbered numbers (raw_at rs k)
@@ -58,10 +58,10 @@ module _ (N M : ℕ → Name → Type 0) (numbers : Columns) (us : List ℕ) (rs
           origin = x.origin;
           counts = x.counts;
           lowers = record {
-            says = renumbered_says N M numbers (lead (starts rs) (address rs x.origin)) (raw_at rs k) (insn_at is k) x.says (carried-at k l);
+            resolves = renumbered_says N M numbers (target_number (starts rs) (address rs x.origin)) (raw_at rs k) (insn_at is k) x.resolves (carried-at k l);
             fits = subst IsRaw (renumbered-at k l) (all-at IsRaw (map (renumbered numbers) rs) k (raw.I10x 0) fit (let m = length-map rs (renumbered numbers) in omega (arith, l, m)));
             size = renumbered_units numbers (raw_at rs k) ∙ units-at N us rs is s k l;
-            kind = renumbered_payload numbers (raw_at rs k) ∙ sym (kind-linked _ _ (raw_at rs k)) ∙ ap insn_payload x.says.symbol;
+            kind = renumbered_payload numbers (raw_at rs k) ∙ sym (kind-linked _ _ (raw_at rs k)) ∙ ap insn_payload x.resolves.symbol;
           };
           even = λ p. even-of us (address rs k) (raw_at rs k) (stands-at us rs s.walk k l) (sym (renumbered_kind numbers (raw_at rs k)) ∙ p);
         }

@@ -133,9 +133,9 @@ module _ (N : ℕ → Name → Type 0) where
   each_wide bytes vs s = values_wide bytes (values vs) (each-values N vs bytes s)
 
 -- the row, however it was found
-pub row_for : (b : List ℕ) (table asked : IndexKind) (i j : ℕ) (which : Name) → asked ≡ table → j ≡ i → IsRowOf b table i which → IsRowOf b asked j which
-row_for b table asked i j which same at r =
-    subst (λ (k : ℕ). IsRowOf b asked k which) (sym at) (subst (λ (k : IndexKind). IsRowOf b k i which) (sym same) r)
+pub row_for : (b : List ℕ) (table index_kind : IndexKind) (i j : ℕ) (which : Name) → index_kind ≡ table → j ≡ i → IsRowOf b table i which → IsRowOf b index_kind j which
+row_for b table index_kind i j which same at r =
+    subst (λ (k : ℕ). IsRowOf b index_kind k which) (sym at) (subst (λ (k : IndexKind). IsRowOf b k i which) (sym same) r)
 
 pub named_four : (ty : NameType) → widest_of (name_code ty) ≡ 4
 named_four named.String = refl

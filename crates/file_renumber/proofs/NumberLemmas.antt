@@ -14,7 +14,7 @@ use Rattle.program_types.specs.Operands.{IsOfIndexKind}
 use Rattle.program_types.specs.Mentions.{names_of_insn}
 use Rattle.file_renumber.specs.inner.Marked.{Columns}
 use Rattle.file_renumber.specs.inner.Numbers.{Carries, column_of}
-use Rattle.code_read.specs.Symbols.{Says, IndexStandsFor, linked, name_in}
+use Rattle.code_read.specs.Symbols.{Resolves, IndexStandsFor, linked, name_in}
 use Rattle.code_read.specs.Linked.{payload_of}
 use Rattle.code_write.specs.Fits.{short_name, ShortFits}
 use Rattle.file_renumber.specs.inner.Renumbered.{number_in, renumbered, HasNumber, HasShortNumber, IsNumbered}
@@ -29,7 +29,7 @@ module _ (N M : ℕ → Name → Type 0) (numbers : Columns) where
   renamed : (op i : ℕ) (which : Name) → IndexStandsFor N op i which → Carries N M numbers which → Renamed M numbers op i which
   renamed op i which n c = by (index_kind_of op) refl n.kind
     where
-      by : (asked : Option IndexKind) → index_kind_of op ≡ asked → IsOfIndexKind asked which → Renamed M numbers op i which
+      by : (index_kind : Option IndexKind) → index_kind_of op ≡ index_kind → IsOfIndexKind index_kind which → Renamed M numbers op i which
       by None e h = absurd h
       by (Some table) e h =
           let x = c i n.stands in
@@ -37,7 +37,7 @@ module _ (N M : ℕ → Name → Type 0) (numbers : Columns) where
           let at : slice_get (column_of numbers table) i ≡ Some x.0 = subst (λ (k : IndexKind). slice_get (column_of numbers k) i ≡ Some x.0) same x.1 in
           let is : number_in numbers (index_kind_of op) i ≡ x.0 = ap (λ (k : Option IndexKind). number_in numbers k i) e ∙ get_or_from_slice_get (column_of numbers table) i x.0 0 at in
           record {
-            has = record { table = table; asked = e; within = slice_get_within (column_of numbers table) i x.0 at };
+            has = record { table = table; index_kind = e; within = slice_get_within (column_of numbers table) i x.0 at };
             stands = record { kind = n.kind; stands = subst (λ (n : ℕ). M n which) (sym is) x.2 };
           }
 
@@ -51,7 +51,7 @@ module _ (N M : ℕ → Name → Type 0) (numbers : Columns) where
       (subst (λ (ns : List Name). AllByRecursion (Carries N M numbers) ns) names (subst (λ (y : Insn). AllByRecursion (Carries N M numbers) (names_of_insn y)) (sym e) all)).0
 
   -- what is renumbered says the same by the other naming
-  pub renumbered_says : (T : ℤ → ℕ) (r : Raw) (i : Insn) → Says N T r i → Carried i → Says M T (renumbered numbers r) i
+  pub renumbered_says : (T : ℤ → ℕ) (r : Raw) (i : Insn) → Resolves N T r i → Carried i → Resolves M T (renumbered numbers r) i
   unfolding linked
   renumbered_says T (raw.I21c op a x) i s c = record { symbol = s.symbol; named = (of_name op x i (made.I21c op a (name_in i)) (name_in i) s.symbol refl s.named c).stands }
   renumbered_says T (raw.I22c op a b x) i s c = record { symbol = s.symbol; named = (of_name op x i (made.I22c op a b (name_in i)) (name_in i) s.symbol refl s.named c).stands }
@@ -66,9 +66,9 @@ module _ (N M : ℕ → Name → Type 0) (numbers : Columns) where
       let some : short_name i ≡ Some which = ap short_name (sym e) ∙ short in
       let h = fits d.has.table in
       let f = subst (λ (o : Option Name). IfSome o (λ w. IsOfKind d.has.table w → (index : ℕ) → M index w → index < 65536)) some h in
-      record { has = d.has; short = f (of_kind (index_kind_of op) d.has.table which d.has.asked d.stands.kind) (number_in numbers (index_kind_of op) x) d.stands.stands }
+      record { has = d.has; short = f (of_kind (index_kind_of op) d.has.table which d.has.index_kind d.stands.kind) (number_in numbers (index_kind_of op) x) d.stands.stands }
 
-  pub can_renumber : (T : ℤ → ℕ) (r : Raw) (i : Insn) → Says N T r i → Carried i → ((table : IndexKind) → ShortFits M table i) → IsNumbered numbers r
+  pub can_renumber : (T : ℤ → ℕ) (r : Raw) (i : Insn) → Resolves N T r i → Carried i → ((table : IndexKind) → ShortFits M table i) → IsNumbered numbers r
   unfolding linked
   can_renumber T (raw.I21c op a x) i s c f = short_of op x i (made.I21c op a (name_in i)) (name_in i) s.symbol refl (of_name op x i (made.I21c op a (name_in i)) (name_in i) s.symbol refl s.named c) f
   can_renumber T (raw.I22c op a b x) i s c f = short_of op x i (made.I22c op a b (name_in i)) (name_in i) s.symbol refl (of_name op x i (made.I22c op a b (name_in i)) (name_in i) s.symbol refl s.named c) f

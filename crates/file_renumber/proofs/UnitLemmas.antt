@@ -10,7 +10,7 @@ use Rattle.code_read.proofs.LinkLaws.{units-linked}
 
 module _ (N : ℕ → Name → Type 0) (us : List ℕ) (rs : List Raw) (is : List Insn) (s : SpellsInsns N us rs is) where
   pub units-at : (k : ℕ) → k < length rs → units (raw_at rs k) ≡ insn_units (insn_at is k)
-  units-at k l = units-linked _ _ (raw_at rs k) ∙ ap insn_units (s.linked.each k l).says.symbol
+  units-at k l = units-linked _ _ (raw_at rs k) ∙ ap insn_units (s.linked.each k l).resolves.symbol
 
   same-units : (qs : List Raw) (js : List Insn) → length js ≡ length qs → ((k : ℕ) → k < length qs → units (raw_at qs k) ≡ insn_units (insn_at js k)) → map units qs ≡ map insn_units js
   unfolding raw_at

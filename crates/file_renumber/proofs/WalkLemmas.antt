@@ -12,8 +12,8 @@ use Rattle.program_types.specs.Mentions.{names_of_insn}
 use Rattle.tables_rows.specs.Stands.{NameStands}
 use Rattle.file_renumber.specs.inner.Marked.{Marked, AddsNames}
 use Rattle.file_renumber.proofs.MarkLemmas.{adds_none, adds_next}
-use Rattle.code_read.specs.Linked.{lead}
-use Rattle.code_read.specs.Symbols.{Says}
+use Rattle.code_read.specs.Linked.{target_number}
+use Rattle.code_read.specs.Symbols.{Resolves}
 use Rattle.code_read.specs.Walk.{address, Run, Walks, starts, raw_at}
 use Rattle.code_read.specs.Linked.{SpellsInsns}
 use Rattle.code_read.proofs.Runs.{run-more, run-once, run-reaches, run-le}
@@ -52,7 +52,7 @@ marked_start b m us is = record { before = []; run = refl; marked = adds_none b 
 -- the instruction that the next one says
 pub record SaysNext (b : List ℕ) (k : ℕ) (r : Raw) (is : List Insn) : Type 0 where
   pub to : ℤ → _
-  pub says : Says (NameStands b) to r (insn_at is k)
+  pub resolves : Resolves (NameStands b) to r (insn_at is k)
   pub inside : k < length is
 
 pub says_next : (b us : List ℕ) (before rs : List Raw) (is : List Insn) (at : ℕ) (r : Raw) → Run us 0 before at → SpellsInsns (NameStands b) us rs is → at < length us / 2 → InsnStands us at r → SaysNext b (length before) r is
@@ -62,8 +62,8 @@ says_next b us before rs is at r p s l st =
     let count = s.linked.count in
     let inside = m.inside in
     record {
-      to = lead (starts rs) (address rs x.origin);
-      says = subst (λ (q : Raw). Says (NameStands b) (lead (starts rs) (address rs x.origin)) q (insn_at is (length before))) m.same x.says;
+      to = target_number (starts rs) (address rs x.origin);
+      resolves = subst (λ (q : Raw). Resolves (NameStands b) (target_number (starts rs) (address rs x.origin)) q (insn_at is (length before))) m.same x.resolves;
       inside = omega (arith, inside, count);
     }
 

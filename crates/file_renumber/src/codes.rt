@@ -75,7 +75,7 @@ fn put_head(out: &mut Vec<u8>, item: &Item<'_>) -> Result<(), Fault>
 }
 
 /// The unit at which each instruction of a code begins: empty without tries, which alone need them.
-fn starts_asked(alloc: Global, item: &Item<'_>) -> Result<Vec<u32>, Fault>
+fn starts_needed(alloc: Global, item: &Item<'_>) -> Result<Vec<u32>, Fault>
     requires even { length item.now.units.now % 2 ≡ 0 }
     requires short { length item.now.units.now ≤ 8589934590 }
     requires insns { (rs : List Raw) × Walks item.now.units.now rs }
@@ -119,7 +119,7 @@ pub fn renumber_code(
     let mut out = Vec::with_capacity(alloc, 16 + item.units.len())?;
     put_head(&mut out, &item)?;
     renumber_insns(&mut out, numbers, item.units)?;
-    let starts = starts_asked(alloc, &item)?;
+    let starts = starts_needed(alloc, &item)?;
     put_padding(&mut out, item.size, usize::from(item.tries))?;
     let laid = lay_tries(alloc, numbers, &item)?;
     put_items(&mut out, &item, &starts, &laid.offsets)?;

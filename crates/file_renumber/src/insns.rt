@@ -8,7 +8,7 @@ ghost use Rattle.program_types.specs.Content.{Insn};
 ghost use Rattle.program_types.specs.Mentions.{names_of_insn};
 ghost use Rattle.tables_rows.specs.Stands.{NameStands};
 ghost use Rattle.file_renumber.specs.inner.Marked.{HasMarks, AddsNames};
-ghost use Rattle.code_read.specs.Symbols.{Says};
+ghost use Rattle.code_read.specs.Symbols.{Resolves};
 ghost use Rattle.code_read.specs.Walk.{Walks};
 ghost use Rattle.code_read.specs.inner.Walk.{IsTable};
 ghost use Rattle.code_read.specs.Linked.{SpellsInsns};
@@ -35,8 +35,8 @@ fn mark_insn(
     shape: Shape,
 ) -> Result<(), Fault>
     requires marks { HasMarks sections.now marks.old }
-    requires says { (T : ℤ → ℕ) × (r : Raw) × (i : Insn) × IsOfShape front.now shape r × Says (NameStands sections.now) T r i }
-    ensures marked { OnOk result ((T : ℤ → ℕ) (r : Raw) (i : Insn) → IsOfShape front.now shape r → Says (NameStands sections.now) T r i
+    requires resolves { (T : ℤ → ℕ) × (r : Raw) × (i : Insn) × IsOfShape front.now shape r × Resolves (NameStands sections.now) T r i }
+    ensures marked { OnOk result ((T : ℤ → ℕ) (r : Raw) (i : Insn) → IsOfShape front.now shape r → Resolves (NameStands sections.now) T r i
         → AddsNames sections.now marks.old marks.new (names_of_insn i)) }
     ensures memory { IsOkUnless result memory }
 {

@@ -26,7 +26,7 @@ use Rattle.tables_rows.specs.Stands.{NameStands}
 use Rattle.code_read.specs.Places.{count_below, Rises}
 use Rattle.code_read.specs.Walk.{starts, raw_at, address}
 use Rattle.code_read.specs.Symbols.{linked, ints, ints_from, InsnNames, name_in}
-use Rattle.code_read.specs.Linked.{lead, payload_of, IsLinked, SpellsInsns}
+use Rattle.code_read.specs.Linked.{target_number, payload_of, IsLinked, SpellsInsns}
 use Rattle.code_rules.specs.Branches.{IsOrigin}
 use Rattle.code_read.proofs.PlaceLaws.{target-there}
 use Rattle.code_read.proofs.Runs.{table-of, length-of_starts, stands-at}
@@ -39,9 +39,9 @@ use Rattle.code_read.proofs.ItemLaws.{begins_late}
 use Rattle.code_write.specs.Fits.{short_name, ShortFits, distance_of, BranchFits, TargetsFit, OffsetsFit, IsEven, TryFits}
 use Rattle.file_strip.specs.inner.AtLeast.{AreNoFurther, CodesFit, FitsButHandlers}
 use Rattle.tables_names.specs.Closure.{Five, NameRanks}
-use Rattle.code_read.proofs.SaidLaws.{slice-bytes}
+use Rattle.code_read.proofs.ResolvedLaws.{slice-bytes}
 use Rattle.code_read.proofs.CodesFormed.{leads-inside, count-most, not-below, from-at, u16-fits}
-use Rattle.code_write.proofs.DistanceLaws.{lead-there}
+use Rattle.code_write.proofs.DistanceLaws.{target_number-there}
 use Rattle.dex_base.proofs.ListFacts.{take_bytes}
 use Rattle.std.proofs.lemmas.Option.{IfSome_then}
 
@@ -62,10 +62,10 @@ short-index M T w _ f n = tt
 -- ---- offsets
 
 -- the distance of where an offset leads is the offset
-distance-is : (ss : List ℕ) (base : ℕ) (z : ℤ) → lead ss base z < length ss → distance_of ss base (lead ss base z) ≡ z
-distance-is ss base z l = let p = (target-there ss base z (lead ss base z) (lead-there ss base (lead ss base z) z refl l)).1 in omega (arith, signs, p)
+distance-is : (ss : List ℕ) (base : ℕ) (z : ℤ) → target_number ss base z < length ss → distance_of ss base (target_number ss base z) ≡ z
+distance-is ss base z l = let p = (target-there ss base z (target_number ss base z) (target_number-there ss base (target_number ss base z) z refl l)).1 in omega (arith, signs, p)
 
-offset-fits : (ss : List ℕ) (base : ℕ) (w : Name) (r : Raw) → IsRaw r → AllByRecursion (λ to. to < length ss) (insn_leads (linked (lead ss base) w r)) → BranchFits ss base (linked (lead ss base) w r)
+offset-fits : (ss : List ℕ) (base : ℕ) (w : Name) (r : Raw) → IsRaw r → AllByRecursion (λ to. to < length ss) (insn_leads (linked (target_number ss base) w r)) → BranchFits ss base (linked (target_number ss base) w r)
 unfolding linked
 offset-fits ss base w (raw.I10t op z) f t = subst (FitsSigned w8) (sym (distance-is ss base z t.0)) f.1
 offset-fits ss base w (raw.I20t op z) f t = subst (FitsSigned w16) (sym (distance-is ss base z t.0)) f.1
@@ -76,12 +76,12 @@ offset-fits ss base w (raw.I31t op a z) f t = subst (FitsSigned w32) (sym (dista
 offset-fits ss base w _ f t = tt
 
 -- numbers of 32 bits, as they lead
-ints-fit : (ss : List ℕ) (base : ℕ) (b : List ℕ) (i n : ℕ) → AreBytes b → AllByRecursion (λ to. to < length ss) (map (lead ss base) (ints_from b i n)) → AllByRecursion (λ to. FitsSigned w32 (distance_of ss base to)) (map (lead ss base) (ints_from b i n))
+ints-fit : (ss : List ℕ) (base : ℕ) (b : List ℕ) (i n : ℕ) → AreBytes b → AllByRecursion (λ to. to < length ss) (map (target_number ss base) (ints_from b i n)) → AllByRecursion (λ to. FitsSigned w32 (distance_of ss base to)) (map (target_number ss base) (ints_from b i n))
 ints-fit ss base b i zero are t = tt
 ints-fit ss base b i (suc n) are t = (subst (FitsSigned w32) (sym (distance-is ss base (int_at b i) t.0)) (signed-32 (int_at b i) (number b (2 * i) 2) refl (number-2 b (2 * i) are)), ints-fit ss base b (i + 1) n are t.1)
 
 -- the offsets of a switch are bytes
-targets-fit : (ss : List ℕ) (base : ℕ) (w : Name) (us : List ℕ) (r : Raw) → AreBytes us → SpellsInsn us r → AllByRecursion (λ to. to < length ss) (insn_targets (linked (lead ss base) w r)) → TargetsFit ss base (linked (lead ss base) w r)
+targets-fit : (ss : List ℕ) (base : ℕ) (w : Name) (us : List ℕ) (r : Raw) → AreBytes us → SpellsInsn us r → AllByRecursion (λ to. to < length ss) (insn_targets (linked (target_number ss base) w r)) → TargetsFit ss base (linked (target_number ss base) w r)
 unfolding linked insn_targets ints
 targets-fit ss base w us (raw.Packed first offsets) are h t = ints-fit ss base offsets 0 (length offsets / 4) (subst AreBytes (sym h.3) (slice-bytes us 8 (8 + 4 * number us 1 1) are)) t
 targets-fit ss base w us (raw.Sparse keys offsets) are h t = ints-fit ss base offsets 0 (length offsets / 4) (subst AreBytes (sym h.3) (slice-bytes us (4 + 4 * number us 1 1) (4 + 8 * number us 1 1) are)) t
@@ -92,8 +92,8 @@ module _ (M : ℕ → Name → Type 0) (us : List ℕ) (rs : List Raw) (is : Lis
   raw-fits k l = stands_fits us (address rs k) (raw_at rs k) are (stands-at us rs s.walk k l)
 
   -- what an instruction leads to is one
-  led-inside : (k : ℕ) → k < length is → AllByRecursion (λ to. to < length (starts rs)) (insn_leads (insn_at is k))
-  led-inside k l =
+  targeted-inside : (k : ℕ) → k < length is → AllByRecursion (λ to. to < length (starts rs)) (insn_leads (insn_at is k))
+  targeted-inside k l =
       let e : length is ≡ length (starts rs) = s.linked.count ∙ sym (length-of_starts rs) in
       subst (λ (n : ℕ). AllByRecursion (λ to. to < n) (insn_leads (insn_at is k))) e (leads-inside is k (s.keep.targets k l) (s.keep.payloads k l) (insn_at is k) refl)
 
@@ -101,13 +101,13 @@ module _ (M : ℕ → Name → Type 0) (us : List ℕ) (rs : List Raw) (is : Lis
   short-at N low kind k l =
       let x = s.linked.each k l in
       IfSome_then (short_name (insn_at is k)) {P = HasShort M} {Q = λ which. IsOfKind kind which → (n : ℕ) → N n which → n < 65536}
-      (subst (λ (i : Insn). IfSome (short_name i) (HasShort M)) x.says.symbol (short-index M _ (name_in (insn_at is k)) (raw_at rs k) (raw-fits k l) x.says.named))
+      (subst (λ (i : Insn). IfSome (short_name i) (HasShort M)) x.resolves.symbol (short-index M _ (name_in (insn_at is k)) (raw_at rs k) (raw-fits k l) x.resolves.named))
       (λ which h _ n r. let a = low which h.0 n h.2 r in let b = h.1 in omega (arith, a, b))
 
   branch-at : (k : ℕ) → k < length rs → BranchFits (starts rs) (address rs k) (insn_at is k)
   unfolding insn_payload
-  branch-at k l = by x.origin x.counts (subst (BranchFits (starts rs) (address rs x.origin)) x.says.symbol
-      (offset-fits (starts rs) (address rs x.origin) (name_in (insn_at is k)) (raw_at rs k) (raw-fits k l) (subst (λ (i : Insn). AllByRecursion (λ to. to < length (starts rs)) (insn_leads i)) (sym x.says.symbol) (led-inside k (let n = s.linked.count in omega (arith, l, n))))))
+  branch-at k l = by x.origin x.counts (subst (BranchFits (starts rs) (address rs x.origin)) x.resolves.symbol
+      (offset-fits (starts rs) (address rs x.origin) (name_in (insn_at is k)) (raw_at rs k) (raw-fits k l) (subst (λ (i : Insn). AllByRecursion (λ to. to < length (starts rs)) (insn_leads i)) (sym x.resolves.symbol) (targeted-inside k (let n = s.linked.count in omega (arith, l, n))))))
     where
       x : IsLinked M rs is k
       x = s.linked.each k l
@@ -124,9 +124,9 @@ module _ (M : ℕ → Name → Type 0) (us : List ℕ) (rs : List Raw) (is : Lis
 
   targets-at : (j k : ℕ) → k < length rs → RefersToPayload is j k → TargetsFit (starts rs) (address rs j) (insn_at is k)
   unfolding insn_payload insn_targets
-  targets-at j k l f = by (s.linked.each k l).origin (s.linked.each k l).counts (subst (TargetsFit (starts rs) (address rs (s.linked.each k l).origin)) (s.linked.each k l).says.symbol
+  targets-at j k l f = by (s.linked.each k l).origin (s.linked.each k l).counts (subst (TargetsFit (starts rs) (address rs (s.linked.each k l).origin)) (s.linked.each k l).resolves.symbol
       (targets-fit (starts rs) (address rs (s.linked.each k l).origin) (name_in (insn_at is k)) (drop (2 * address rs k) us) (raw_at rs k) (drop-AreBytes us (2 * address rs k) are) (stands-at us rs s.walk k l).spelled
-      (subst (λ (i : Insn). AllByRecursion (λ to. to < length (starts rs)) (insn_targets i)) (sym (s.linked.each k l).says.symbol) (targets-inside _ (insn_at is k) (led-inside k m)))))
+      (subst (λ (i : Insn). AllByRecursion (λ to. to < length (starts rs)) (insn_targets i)) (sym (s.linked.each k l).resolves.symbol) (targets-inside _ (insn_at is k) (targeted-inside k m)))))
     where
       m : k < length is
       m = let n = s.linked.count in omega (arith, l, n)
@@ -160,7 +160,7 @@ module _ (M : ℕ → Name → Type 0) (us : List ℕ) (rs : List Raw) (is : Lis
   payload-is _ h = absurd (h refl)
 
   even-at : (k : ℕ) → k < length rs → IsEven is (starts rs) k
-  even-at k l h = even-of us (address rs k) (raw_at rs k) (stands-at us rs s.walk k l) (payload-is (raw_at rs k) (λ e. h (ap insn_payload (sym (s.linked.each k l).says.symbol) ∙ kind-linked _ _ (raw_at rs k) ∙ e)))
+  even-at k l h = even-of us (address rs k) (raw_at rs k) (stands-at us rs s.walk k l) (payload-is (raw_at rs k) (λ e. h (ap insn_payload (sym (s.linked.each k l).resolves.symbol) ∙ kind-linked _ _ (raw_at rs k) ∙ e)))
 
 -- ---- tries
 

@@ -5,7 +5,7 @@
 //! Laws say how small the tables of a file can be, and that no program is refused that another file could hold.
 //!
 //! ```text
-//! let survey = look_at_classes(alloc, seed, &sections)?; // which rows are needed, and how many bytes the items take at most
+//! let survey = visit_classes(alloc, seed, &sections)?; // which rows are needed, and how many bytes the items take at most
 //! let small = strip_framed(alloc, seed, &sections)?; // the file of these, of a file that means a program
 //! ```
 //!
@@ -38,4 +38,4 @@ mod stripping;
 
 pub use least_laws::{needed_names_have_rows, no_refusal_in_vain, standing_codes_fit};
 pub use stripping::strip_framed;
-pub use survey::{Survey, look_at_classes};
+pub use survey::{Survey, visit_classes};

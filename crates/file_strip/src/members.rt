@@ -41,7 +41,7 @@ pub(crate) fn mark_fields(
 }
 
 /// Surveys the code at an offset, 0 for none, and returns how many bytes it needs at most. Each code is surveyed once.
-fn look_at_code(
+fn visit_code(
     alloc: Global,
     found: &mut Surveyed,
     sections: &Sections<'_>,
@@ -65,7 +65,7 @@ fn look_at_code(
 }
 
 /// Marks the methods of a list of entries, surveys their codes, and returns how many bytes these need at most.
-pub(crate) fn look_at_methods(
+pub(crate) fn visit_methods(
     alloc: Global,
     found: &mut Surveyed,
     sections: &Sections<'_>,
@@ -82,7 +82,7 @@ pub(crate) fn look_at_methods(
     for entry in entries {
         index += entry.step;
         found.marks.mark(sections, IndexKind::Method, index)?;
-        sum = plus(sum, look_at_code(alloc, found, sections, entry.code)?);
+        sum = plus(sum, visit_code(alloc, found, sections, entry.code)?);
     }
     Ok(sum)
 }

@@ -24,7 +24,7 @@ use crate::codes::put_codes;
 use crate::datas::put_datas;
 use crate::lists::put_lists;
 use crate::sizes::names_size;
-use crate::survey::{Survey, look_at_classes};
+use crate::survey::{Survey, visit_classes};
 use crate::tables::name_rows;
 use crate::texts::put_strings;
 use dex_base::{Fault, Seed, are_bytes, fault};
@@ -170,7 +170,7 @@ pub fn strip_framed(alloc: Global, seed: Seed, sections: &Sections<'_>) -> Resul
         marks,
         wide,
         members,
-    } = look_at_classes(alloc, seed, sections)?;
+    } = visit_classes(alloc, seed, sections)?;
     let numbers = marks.number();
     if is_too_big(sections, &numbers, wide) {
         return Err(Fault::at(fault::TOO_BIG, 0));

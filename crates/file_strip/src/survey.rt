@@ -20,7 +20,7 @@ ghost use Rattle.file_strip.specs.inner.Keeping.{ListsMembers};
 ghost use Rattle.file_strip.specs.inner.Survey.{FindsNames, HasFound, IsSurvey, SpellsMembers, names_of_head, names_of_members, wide_members};
 ghost use Rattle.file_classes.specs.inner.Reading.{entries};
 
-use crate::members::{look_at_methods, mark_fields};
+use crate::members::{mark_fields, visit_methods};
 use crate::sizes::list_size;
 use dex_base::{Fault, Seed};
 use dex_container::{Section, Sections, kind, section_of};
@@ -49,7 +49,7 @@ pub struct Survey {
 }
 
 /// Surveys the static values at an offset, 0 for none, and returns how many bytes they need at most.
-fn look_at_values(found: &mut Surveyed, sections: &Sections<'_>, off: u32) -> Result<u64, Fault>
+fn visit_values(found: &mut Surveyed, sections: &Sections<'_>, off: u32) -> Result<u64, Fault>
     requires found { HasFound sections.now found.old }
     requires values { (most : ℕ) × (vs : List Value) × StaticsAt sections.now off most vs }
     ensures found { OnOk result ((most : ℕ) (vs : List Value) → StaticsAt sections.now off most vs
@@ -100,7 +100,7 @@ fn mark_source(marks: &mut Marks, sections: &Sections<'_>, index: u32) -> Result
 
 /// Surveys the members of a class and its static values, and returns how many bytes its class data, the values and the codes need at
 /// most.
-fn look_at_members(
+fn visit_members(
     alloc: Global,
     found: &mut Surveyed,
     sections: &Sections<'_>,
@@ -114,10 +114,10 @@ fn look_at_members(
     ensures memory { IsOkUnless result memory }
 {
     mark_fields(&mut found.marks, sections, &all.statics)?;
-    let array = look_at_values(found, sections, values)?;
+    let array = visit_values(found, sections, values)?;
     mark_fields(&mut found.marks, sections, &all.instances)?;
-    let directs = look_at_methods(alloc, found, sections, &all.directs)?;
-    let virtuals = look_at_methods(alloc, found, sections, &all.virtuals)?;
+    let directs = visit_methods(alloc, found, sections, &all.directs)?;
+    let virtuals = visit_methods(alloc, found, sections, &all.virtuals)?;
     let fields = plus(times(all.statics.len(), 10), times(all.instances.len(), 10));
     let methods = plus(times(all.directs.len(), 15), times(all.virtuals.len(), 15));
     let data = plus(plus(20, fields), methods);
@@ -144,7 +144,7 @@ fn mark_head(marks: &mut Marks, sections: &Sections<'_>, i: u32) -> Result<(), F
 }
 
 /// Surveys the class of row `i`, and returns how many bytes it needs at most, and its members.
-fn look_at_class(
+fn visit_class(
     alloc: Global,
     found: &mut Surveyed,
     sections: &Sections<'_>,
@@ -165,7 +165,7 @@ fn look_at_class(
         unreachable!()
     };
     let values = class_word(sections, i, word::STATIC_VALUES_OFF);
-    let members = look_at_members(alloc, found, sections, &all, values)?;
+    let members = visit_members(alloc, found, sections, &all, values)?;
     let interfaces = list_size(sections, class_word(sections, i, word::INTERFACES_OFF));
     Ok((plus(plus(32, interfaces), members), all))
 }
@@ -174,7 +174,7 @@ fn look_at_class(
 /// most so many bytes, which is exact within the limit of a file, and these are the members of each class.
 ///
 /// It fails only when out of memory.
-pub fn look_at_classes(alloc: Global, seed: Seed, sections: &Sections<'_>) -> Result<Survey, Fault>
+pub fn visit_classes(alloc: Global, seed: Seed, sections: &Sections<'_>) -> Result<Survey, Fault>
     requires classes { IsFramed sections.now × ((p : Program) × AreRows SpellsClass sections.now section.class_defs p) }
     ensures ok { IfOk result (λ survey. (p : Program) → AreRows SpellsClass sections.now section.class_defs p → IsSurvey sections.now survey p) }
     ensures members { IfOk result (λ survey. AreRows ListsMembers sections.now section.class_defs survey.members.items) }
@@ -189,7 +189,7 @@ pub fn look_at_classes(alloc: Global, seed: Seed, sections: &Sections<'_>) -> Re
     let mut wide: u64 = 0;
     let mut members = Vec::new(alloc);
     for i in 0..class_count(sections) {
-        let (bytes, all) = look_at_class(alloc, &mut found, sections, i)?;
+        let (bytes, all) = visit_class(alloc, &mut found, sections, i)?;
         wide = plus(wide, bytes);
         members.push(all)?;
     }

@@ -6,7 +6,7 @@ ghost use Rattle.code_write.specs.Fits.{wide_code};
 ghost use Rattle.program_types.specs.Mentions.{names_of_insn, names_of_try};
 ghost use Rattle.program_types.specs.View as view;
 
-use crate::codes_as_numbers::insns_told;
+use crate::codes_as_numbers::insns_as_number;
 use bumpalo::Bump;
 use code_align::align;
 use code_write::addresses;
@@ -145,11 +145,11 @@ fn is_aligned_in(alloc: Global, arena: &Bump) -> Result<bool, Fault> {
         return Ok(false);
     }
     let code = align(alloc, arena, &ODD)?;
-    Ok(insns_told(&code) == 443021000050001 && begins_at(alloc, &code, &[0, 3, 4, 10])?)
+    Ok(insns_as_number(&code) == 443021000050001 && begins_at(alloc, &code, &[0, 3, 4, 10])?)
 }
 
 /// What is asked of the codes.
-enum Asked {
+enum Query {
     Addresses,
     Item,
     Counted,
@@ -158,39 +158,39 @@ enum Asked {
     Aligned,
 }
 
-impl Case for Asked {
+impl Case for Query {
     fn name(&self) -> &'static str {
         match self {
-            Asked::Addresses => "the addresses of a loop",
-            Asked::Item => "the item of a loop",
-            Asked::Counted => "the item of a try of one wide instruction",
-            Asked::Odd => "a payload at an odd address",
-            Asked::Far => "a goto over 130 units",
-            Asked::Aligned => "a payload at an odd address, aligned",
+            Query::Addresses => "the addresses of a loop",
+            Query::Item => "the item of a loop",
+            Query::Counted => "the item of a try of one wide instruction",
+            Query::Odd => "a payload at an odd address",
+            Query::Far => "a goto over 130 units",
+            Query::Aligned => "a payload at an odd address, aligned",
         }
     }
 
     fn holds(&self, alloc: Global) -> Result<bool, Fault> {
         match self {
-            Asked::Addresses => begins_at(alloc, &LOOP, &[0, 1, 3, 4, 5]),
-            Asked::Item => is_put_so(alloc),
-            Asked::Counted => is_counted_so(alloc),
-            Asked::Odd => Ok(is_odd_one_refused(alloc)),
-            Asked::Far => Ok(is_far_one_refused(alloc)),
-            Asked::Aligned => is_aligned_so(alloc),
+            Query::Addresses => begins_at(alloc, &LOOP, &[0, 1, 3, 4, 5]),
+            Query::Item => is_put_so(alloc),
+            Query::Counted => is_counted_so(alloc),
+            Query::Odd => Ok(is_odd_one_refused(alloc)),
+            Query::Far => Ok(is_far_one_refused(alloc)),
+            Query::Aligned => is_aligned_so(alloc),
         }
     }
 }
 
 #[test]
 fn codes_by_hand_are_put_and_aligned(rt: HostRuntime) -> Result<(), Fail> {
-    static CASES: [Asked; 6] = [
-        Asked::Addresses,
-        Asked::Item,
-        Asked::Counted,
-        Asked::Odd,
-        Asked::Far,
-        Asked::Aligned,
+    static CASES: [Query; 6] = [
+        Query::Addresses,
+        Query::Item,
+        Query::Counted,
+        Query::Odd,
+        Query::Far,
+        Query::Aligned,
     ];
     all_hold(rt.alloc(), &CASES)
 }

@@ -1,6 +1,6 @@
 //! Code items that are read from files: their instructions, their tries, and their faults.
 
-use crate::codes_as_numbers::{insns_told, tries_told};
+use crate::codes_as_numbers::{insns_as_number, tries_as_number};
 use bumpalo::Bump;
 use code_read::read_code;
 use dex_base::{Fault, fault, push_words};
@@ -121,8 +121,8 @@ fn read_at<'a>(alloc: Global, arena: &'a Bump, file: &[u8], off: u32) -> Result<
 
 fn is_wanted(code: &Code<'_>, want: Want) -> bool {
     match want {
-        Want::Insns(told) => insns_told(code) == told,
-        Want::Tries(told) => tries_told(code) == told,
+        Want::Insns(as_number) => insns_as_number(code) == as_number,
+        Want::Tries(as_number) => tries_as_number(code) == as_number,
         Want::Fault(fault) => fault == (0, 0),
     }
 }

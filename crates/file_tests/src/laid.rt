@@ -168,7 +168,7 @@ impl Case for Laid {
 
 #[rattlefmt::skip]
 #[test]
-fn files_are_laid_and_zeros_stand_only_where_alignment_asks(rt: HostRuntime) -> Result<(), Fail> {
+fn files_are_laid_with_zeros_only_for_alignment(rt: HostRuntime) -> Result<(), Fail> {
     static CASES: [Laid; 8] = [
         Laid("the file without classes", Made::WithoutClasses, Want::WithoutClasses),
         Laid("the file of one class", Made::OneClass, Want::OneClass),

@@ -5,11 +5,11 @@
 
 // How a case is made, and what is told of it.
 #[cfg(test)]
+mod fault_case;
+#[cfg(test)]
 mod made;
 #[cfg(test)]
 mod named_rows;
-#[cfg(test)]
-mod told;
 
 // dex_container
 #[cfg(test)]

@@ -9,7 +9,7 @@ use Rattle.code_write.specs.inner.Packs.{PacksCatch, PacksHandler}
 use Rattle.dex_insn.specs.Raw as raw
 use Rattle.dex_insn.specs.Raw.{Raw}
 use Rattle.program_types.specs.Content.{Code, Insn, Name, OfDesc, Try}
-use Rattle.code_read.proofs.CarryLaws.{says-weaker}
+use Rattle.code_read.proofs.CarryLaws.{resolves-weaker}
 
 module _ (M N : ℕ → Name → Type 0) (f : (i : ℕ) (which : Name) → M i which → N i which) where
   -- ---- instructions
@@ -20,7 +20,7 @@ module _ (M N : ℕ → Name → Type 0) (f : (i : ℕ) (which : Name) → M i w
     each = λ k lt.
         let e = l.each k lt in
         let o = e.lowers in
-        record { origin = e.origin; counts = e.counts; lowers = record { says = says-weaker M N f _ _ _ o.says; fits = o.fits; size = o.size; kind = o.kind }; even = e.even };
+        record { origin = e.origin; counts = e.counts; lowers = record { resolves = resolves-weaker M N f _ _ _ o.resolves; fits = o.fits; size = o.size; kind = o.kind }; even = e.even };
   }
 
   -- ---- handlers

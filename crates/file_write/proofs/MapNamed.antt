@@ -17,14 +17,14 @@ use Rattle.file_layout.specs.Tiles.{IsNext, Tiles, gap}
 use Rattle.file_layout.proofs.MapLaws.{Has}
 use Rattle.file_layout.proofs.TileLaws.{Tiles-le}
 use Rattle.file_put.proofs.DataParts.{tiles_take}
-use Rattle.file_write.specs.Packed.{IsPackedSection, MapIsPacked, MapSays, TablesArePacked, table_end}
+use Rattle.file_write.specs.Packed.{IsPackedSection, MapIsPacked, MapHas, TablesArePacked, table_end}
 use Rattle.file_write.proofs.Sections.{first_place}
 use Rattle.file_layout.proofs.Named.{◌&◌}
 
 -- ---- entries that rise name spans that do
 
 -- Entry i says what the span has.
-record Says (b : List ℕ) (i : ℕ) (s : Span) : Type 0 where
+record Resolves (b : List ℕ) (i : ℕ) (s : Span) : Type 0 where
   kind : kind_at b i ≡ s.kind
   items : items_at b i ≡ s.items
   place : place_at b i ≡ s.begin
@@ -54,14 +54,14 @@ module _ (b : List ℕ) (next : (i j : ℕ) → j + 1 ≡ i → i < entry_count 
 
   -- The entries from n on are those of the spans that have items.
   record Rest (n : ℕ) (ss : List Span) : Type 0 where
-    each : (i : ℕ) → n ≤ i → i < entry_count b → (s : Span) × Has ss s × (0 < s.items) × Says b i s
-    all : (s : Span) → Has ss s → 0 < s.items → (i : ℕ) × (n ≤ i) × (i < entry_count b) × Says b i s
+    each : (i : ℕ) → n ≤ i → i < entry_count b → (s : Span) × Has ss s × (0 < s.items) × Resolves b i s
+    all : (s : Span) → Has ss s → 0 < s.items → (i : ℕ) × (n ≤ i) × (i < entry_count b) × Resolves b i s
     within : n ≤ entry_count b
 
   -- They are these, in this order.
   record Follow (n : ℕ) (ts : List Span) : Type 0 where
     count : entry_count b ≡ n + length ts
-    says : (k : ℕ) → k < length ts → Says b (n + k) (span_at ts k)
+    resolves : (k : ℕ) → k < length ts → Resolves b (n + k) (span_at ts k)
 
   no_more : (n : ℕ) → Rest n [] → Follow n []
   no_more n r = record {
@@ -69,7 +69,7 @@ module _ (b : List ℕ) (next : (i j : ℕ) → j + 1 ≡ i → i < entry_count 
       | inl l ↦ absurd (r.each n (omega arith) l).1
       | inr l ↦ (let k = r.within in omega (arith, k, l))
     ];
-    says = λ k lt. absurd (omega (arith, lt));
+    resolves = λ k lt. absurd (omega (arith, lt));
   }
 
   without : (n : ℕ) (s : Span) (ss : List Span) → s.items ≡ 0 → Rest n (s ∷ ss) → Rest n ss
@@ -83,7 +83,7 @@ module _ (b : List ℕ) (next : (i j : ℕ) → j + 1 ≡ i → i < entry_count 
   }
 
   -- the first of the spans is that of entry n
-  here : (n at : ℕ) (s : Span) (ss : List Span) → Chain at (s ∷ ss) → 0 < s.items → Rest n (s ∷ ss) → (n < entry_count b) × Says b n s
+  here : (n at : ℕ) (s : Span) (ss : List Span) → Chain at (s ∷ ss) → 0 < s.items → Rest n (s ∷ ss) → (n < entry_count b) × Resolves b n s
   here n at s ss c some r =
       let a = r.all s (inl refl) some in
       let low = a.1 in let lt = a.2 in
@@ -91,7 +91,7 @@ module _ (b : List ℕ) (next : (i j : ℕ) → j + 1 ≡ i → i < entry_count 
       let k = r.each n (omega arith) within in (
         within,
         elim k.1 [
-          | inl e ↦ subst (λ (x : Span). Says b n x) (sym e) k.3
+          | inl e ↦ subst (λ (x : Span). Resolves b n x) (sym e) k.3
           | inr h ↦ (
               let l = chain_low s.end ss k.0 c.2 h k.2 in
               let m = (c.1 some).1 in
@@ -103,7 +103,7 @@ module _ (b : List ℕ) (next : (i j : ℕ) → j + 1 ≡ i → i < entry_count 
         ],
       )
 
-  after : (n at : ℕ) (s : Span) (ss : List Span) → Chain at (s ∷ ss) → 0 < s.items → Rest n (s ∷ ss) → n < entry_count b → Says b n s → Rest (suc n) ss
+  after : (n at : ℕ) (s : Span) (ss : List Span) → Chain at (s ∷ ss) → 0 < s.items → Rest n (s ∷ ss) → n < entry_count b → Resolves b n s → Rest (suc n) ss
   after n at s ss c some r within is = record {
     each = λ i low lt. let k = r.each i (omega (arith, low)) lt in elim k.1 [
       | inl e ↦ (
@@ -124,12 +124,12 @@ module _ (b : List ℕ) (next : (i j : ℕ) → j + 1 ≡ i → i < entry_count 
     within = omega (arith, within);
   }
 
-  one_more : (n : ℕ) (s : Span) (ts : List Span) → Says b n s → Follow (suc n) ts → Follow n (s ∷ ts)
-  one_more n s ts is f = record { count = let e = f.count in omega (arith, e); says = says_at }
+  one_more : (n : ℕ) (s : Span) (ts : List Span) → Resolves b n s → Follow (suc n) ts → Follow n (s ∷ ts)
+  one_more n s ts is f = record { count = let e = f.count in omega (arith, e); resolves = says_at }
     where
-      says_at : (k : ℕ) → k < suc (length ts) → Says b (n + k) (span_at (s ∷ ts) k)
-      says_at zero lt = let e : n ≡ n + 0 = omega arith in subst (λ (i : ℕ). Says b i s) e is
-      says_at (suc k) lt = let e : suc n + k ≡ n + suc k = omega arith in subst (λ (i : ℕ). Says b i (span_at ts k)) e (f.says k (omega arith))
+      says_at : (k : ℕ) → k < suc (length ts) → Resolves b (n + k) (span_at (s ∷ ts) k)
+      says_at zero lt = let e : n ≡ n + 0 = omega arith in subst (λ (i : ℕ). Resolves b i s) e is
+      says_at (suc k) lt = let e : suc n + k ≡ n + suc k = omega arith in subst (λ (i : ℕ). Resolves b i (span_at ts k)) e (f.resolves k (omega arith))
 
   walk : (ss : List Span) (n at : ℕ) → Chain at ss → Rest n ss → Follow n (filter has_items ss)
   walk [] n at c r = no_more n r
@@ -156,9 +156,9 @@ words_at b n (w ∷ ws) h (suc k) lt = ap (λ (m : ℕ). u32_at b m) (omega arit
 -- ---- the file
 
 -- The map says of the kind of a part how many items it has, and that it begins at the first.
-pub record PartSays (b : List ℕ) (kind : ℕ) (part : Part) : Type 0 where
+pub record PartIsMapped (b : List ℕ) (kind : ℕ) (part : Part) : Type 0 where
   pub places : List ℕ
-  pub says : MapSays b kind places
+  pub resolves : MapHas b kind places
   pub many : part.items ≡ length places
   pub first : 0 < length places → part.begin ≡ slice_index places 0
 
@@ -175,12 +175,12 @@ follows G align b at begin end first items tiled low is =
 
 -- the map says what the part has
 pub part_says : {V : Type 0} (G : List ℕ → V → Type 0) (align : ℕ) (b : List ℕ) (kind begin end first : ℕ) (references : List ℕ) (x : IsPackedSection G align b kind begin end references) → first ≡ begin + gap align begin
-    → PartSays b kind (record { items = length x.items; begin = first; end = end })
+    → PartIsMapped b kind (record { items = length x.items; begin = first; end = end })
 part_says {V} G align b kind begin end first references x is =
     let n = length-map x.items (λ (y : ℕ × V). y.0) in
     record {
       places = map (λ (y : ℕ × V). y.0) x.items;
-      says = x.in_map;
+      resolves = x.in_map;
       many = sym n;
       first = λ some. is ∙ sym (first_place x.tiled (omega (arith, n, some)));
     }
@@ -195,7 +195,7 @@ pub record HasRows (b : List ℕ) (r : Rows) : Type 0 where
   pub classes : size_of b 5 ≡ r.classes
 
 module _ (b : List ℕ) (p : Plan) (framed : IsFramed b) (packed : TablesArePacked b) (rows : HasRows b p.rows) (link : u32_at b 48 ≡ 0) (kinds : MapIsPacked b) (planned : IsPlanned p)
-    (lists : PartSays b 0x1001 p.lists) (codes : PartSays b 0x2001 p.codes) (texts : PartSays b 0x2002 p.strings) (arrays : PartSays b 0x2005 p.arrays) (datas : PartSays b 0x2000 p.datas)
+    (lists : PartIsMapped b 0x1001 p.lists) (codes : PartIsMapped b 0x2001 p.codes) (texts : PartIsMapped b 0x2002 p.strings) (arrays : PartIsMapped b 0x2005 p.arrays) (datas : PartIsMapped b 0x2000 p.datas)
     (next : IsNext 4 b p.datas.end (map_place b)) (last : map_end b ≡ length b) where
   -- where the tables end
   abbrev IsSame : ℕ → ℕ → Type 0
@@ -273,7 +273,7 @@ module _ (b : List ℕ) (p : Plan) (framed : IsFramed b) (packed : TablesArePack
 
   -- an entry of this kind says what the span has, and there is one if the span has items
   record Is (s : Span) : Type 0 where
-    matches : (i : ℕ) → i < entry_count b → kind_at b i ≡ s.kind → Says b i s
+    matches : (i : ℕ) → i < entry_count b → kind_at b i ≡ s.kind → Resolves b i s
     found : 0 < s.items → HasKind b s.kind
 
   some_items : (i : ℕ) → i < entry_count b → 0 < items_at b i
@@ -307,15 +307,15 @@ module _ (b : List ℕ) (p : Plan) (framed : IsFramed b) (packed : TablesArePack
     ]
   ]
 
-  part_is : (kind : ℕ) (part : Part) → PartSays b kind part → Is (part_span kind part)
+  part_is : (kind : ℕ) (part : Part) → PartIsMapped b kind part → Is (part_span kind part)
   part_is kind part s = record {
     matches = λ i lt is.
-        let many = s.says.counted i lt is in
+        let many = s.resolves.counted i lt is in
         let some = some_items i lt in
-        let n = s.says.named (omega (arith, many, some)) in
+        let n = s.resolves.named (omega (arith, many, some)) in
         let same : n.0 ≡ i = one_entry n.0 i n.1 lt (n.2 ∙ sym is) in
         record { kind = is; items = many ∙ sym s.many; place = ap (place_at b) (sym same) ∙ n.3 ∙ sym (s.first (omega (arith, many, some))) };
-    found = λ some. let m = s.many in let n = s.says.named (omega (arith, m, some)) in (n.0, n.1, n.2);
+    found = λ some. let m = s.many in let n = s.resolves.named (omega (arith, m, some)) in (n.0, n.1, n.2);
   }
 
   map_is : Is (record { kind = 0x1000; items = 1; begin = map_place b; end = length b })
@@ -410,8 +410,8 @@ module _ (b : List ℕ) (p : Plan) (framed : IsFramed b) (packed : TablesArePack
         unused = λ i lt. unused i (omega (arith, n, lt));
       }
     where
-      from_start : Follow b (λ i j e lt. (framed.map.each i lt).rising j e) 0 (filter has_items spans) → (i : ℕ) → i < length (filter has_items spans) → Says b i (span_at (filter has_items spans) i)
-      from_start f i lt = let e : 0 + i ≡ i = omega arith in subst (λ (j : ℕ). Says b j (span_at (filter has_items spans) i)) e (f.says i lt)
+      from_start : Follow b (λ i j e lt. (framed.map.each i lt).rising j e) 0 (filter has_items spans) → (i : ℕ) → i < length (filter has_items spans) → Resolves b i (span_at (filter has_items spans) i)
+      from_start f i lt = let e : 0 + i ≡ i = omega arith in subst (λ (j : ℕ). Resolves b j (span_at (filter has_items spans) i)) e (f.resolves i lt)
 
   pub is_written : ((i : ℕ) → i < entry_count b → u16_at b (entry_place b i + 2) ≡ 0) → IsWritten b p (map_place b)
   unfolding spans

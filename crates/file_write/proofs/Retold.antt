@@ -133,7 +133,7 @@ module _ {V W : Type 0} (none : V → Bool) (G : List ℕ → V → Type 0) (H :
     turn : ℕ
     of : slice_get vs turn ≡ Some v
     some : none v ≡ false
-    says : S v w
+    resolves : S v w
 
   turns : AllByRecursion (λ (q : ℕ). q ≢ 0 → HasTurn q) places
   turns = all_there (λ (q : ℕ). q ≢ 0 → HasTurn q) places (λ i q e n. let l = slice_get_within places i q e in let v = entry_at vs i (omega (arith, l, same)) in record { turn = i; at = e; value = v.0; of = v.1 })
@@ -150,7 +150,7 @@ module _ {V W : Type 0} (none : V → Bool) (G : List ℕ → V → Type 0) (H :
       reread H G IsOf x.tiled (λ place w a size spelled.
       let t = turn_of place w a in
       let r = told_some none G H S b place t.value (some_place place w a) (told t.turn place t.value t.at t.of) size w spelled in
-      (t.value, r.1, record { turn = t.turn; of = t.of; some = r.0; says = r.2 }))
+      (t.value, r.1, record { turn = t.turn; of = t.of; some = r.0; resolves = r.2 }))
 
   refers_at : (i place : ℕ) (v : V) → slice_get places i ≡ Some place → slice_get vs i ≡ Some v → Refers none again.again place v
   refers_at i place v at of = by (place == 0) refl
@@ -166,7 +166,7 @@ module _ {V W : Type 0} (none : V → Bool) (G : List ℕ → V → Type 0) (H :
           let s = Tiles-among place found.0 x.tiled found.1 in
           let t = told_some none G H S b place v other (told i place v at of) s.size found.0 s.spelled in
           let q = again.is place found.0 found.1 in
-          let one : q.0 ≡ v = tells q.2.turn i q.0 v found.0 q.2.of of q.2.some q.2.says t.2 in
+          let one : q.0 ≡ v = tells q.2.turn i q.0 v found.0 q.2.of of q.2.some q.2.resolves t.2 in
           let some : 0 < place = omega (arith, other) in
           rw t.0 (some, subst (λ (u : V). Among again.again place u) one q.1)
 
@@ -194,4 +194,4 @@ module _ {V W : Type 0} (none : V → Bool) (G : List ℕ → V → Type 0) (H :
       by false e =
           let k = again.was p v (refers_some none again.again p v e r_i).1 in
           let l = again.was q v (refers_some none again.again q v e r_j).1 in
-          x.apart p q k.0 k.1 (subst (λ (w : W). Among x.items q w) (one v l.0 k.0 l.2.says k.2.says) l.1)
+          x.apart p q k.0 k.1 (subst (λ (w : W). Among x.items q w) (one v l.0 k.0 l.2.resolves k.2.resolves) l.1)

@@ -7,7 +7,7 @@ use Rattle.file_layout.specs.declared.plan.Part.{Part}
 use Rattle.file_layout.specs.inner.Parts.{HasPart}
 use Rattle.file_layout.specs.Tiles.{Among, Done, Item, Tiles, distinct_places, gap}
 use Rattle.file_layout.specs.inner.Tiles.{AreShared, Lays}
-use Rattle.file_write.specs.Packed.{IsPackedSection, MapSays}
+use Rattle.file_write.specs.Packed.{IsPackedSection, MapHas}
 use Rattle.file_write.proofs.Items.{items_used}
 use Rattle.file_layout.proofs.LayingOnce.{one_there}
 
@@ -61,7 +61,7 @@ first_place Done some = absurd (omega arith)
 first_place (Item next size spelled rest) some = next.there
 
 -- what the map says of a part that begins at the first of these places
-map_says : (b : List ℕ) (kind : ℕ) (part : Part) (places : List ℕ) → HasPart b kind part → part.items ≡ length places → (0 < length places → get_or places 0 0 ≡ part.begin) → MapSays b kind places
+map_says : (b : List ℕ) (kind : ℕ) (part : Part) (places : List ℕ) → HasPart b kind part → part.items ≡ length places → (0 < length places → get_or places 0 0 ≡ part.begin) → MapHas b kind places
 map_says b kind part places has n first = record {
   counted = λ i lt is. has.counted i lt is ∙ n;
   named = λ some. let s = (has.stands (omega (arith, n, some))).section in (s.entry, s.in_map, s.named, sym s.begins ∙ sym (first some));

@@ -24,7 +24,7 @@ use Rattle.dex_value.specs.Spelling.{SpellsArray}
 
 -- The map has for a kind whose items are at these places their number and, if there are some, as their begin the first
 -- ("offset from the start of the file to the items in question").
-pub record MapSays (b : List ℕ) (kind : ℕ) (places : List ℕ) : Type 0 where
+pub record MapHas (b : List ℕ) (kind : ℕ) (places : List ℕ) : Type 0 where
   pub counted : (i : ℕ) → i < entry_count b → kind_at b i ≡ kind → items_at b i ≡ length places
   pub named : 0 < length places → (i : ℕ) × (i < entry_count b) × (kind_at b i ≡ kind) × (place_at b i ≡ slice_index places 0)
 
@@ -36,7 +36,7 @@ pub record IsPackedSection {V : Type 0} (G : List ℕ → V → Type 0) (align :
   pub tiled : Tiles G align b begin end items
   pub order : map (λ (x : ℕ × V). x.0) items ≡ distinct_places references
   pub apart : (place other : ℕ) (v : V) → Among items place v → Among items other v → place ≡ other
-  pub in_map : MapSays b kind (map (λ (x : ℕ × V). x.0) items)
+  pub in_map : MapHas b kind (map (λ (x : ℕ × V). x.0) items)
 
 -- ---- items, of which none is empty
 

@@ -15,7 +15,7 @@ use Rattle.listing_slots.specs.declared.slot.Slot.TheVariants as slot
 use Rattle.listing_slots.specs.Data.{Datum, word}
 use Rattle.listing_slots.specs.Shown.{shown}
 use Rattle.listing_slots.specs.inner.Shown.{FitsSlot}
-use Rattle.listing_slots.proofs.ShownLaws.{shown_says, shown_written, number_written}
+use Rattle.listing_slots.proofs.ShownLaws.{shown_reads, shown_written, number_written}
 use Rattle.listing_lines.specs.declared.form.Form.{Form}
 use Rattle.listing_lines.specs.declared.form.Form.TheVariants.{One, Two}
 use Rattle.listing_lines.specs.Labels.{Label, is_name_byte, are_name_bytes, is_label, lookup, marked_by, SpellsHere, SpellsAll}
@@ -53,15 +53,15 @@ written_in form s d h = shown_written s d h
 
 pub words_written : (form : Form) (os : List Operand) → FitOperands os → AllByRecursion IsWritable (words_in form os)
 words_written form [] h = tt
-words_written form (o ∷ os) h = (written_in form o.slot o.says h.0, words_written form os h.1)
+words_written form (o ∷ os) h = (written_in form o.slot o.value h.0, words_written form os h.1)
 
 pub text_is_in : (form : Form) (os : List Operand) → operand_text_in form os ≡ spaced_words (words_in form os)
 text_is_in form [] = refl
-text_is_in form (o ∷ os) = ap (λ t. (32 ∷ word_bytes (shown_in form o.slot o.says)) ++ t) (text_is_in form os)
+text_is_in form (o ∷ os) = ap (λ t. (32 ∷ word_bytes (shown_in form o.slot o.value)) ++ t) (text_is_in form os)
 
 pub text_is : (os : List Operand) → operand_text os ≡ spaced_words (words_of os)
 text_is [] = refl
-text_is (o ∷ os) = ap (λ t. (32 ∷ word_bytes (shown o.slot o.says)) ++ t) (text_is os)
+text_is (o ∷ os) = ap (λ t. (32 ∷ word_bytes (shown o.slot o.value)) ++ t) (text_is os)
 
 -- ---- they say what was printed, where each target's label marks it
 
@@ -73,7 +73,7 @@ TargetIsMarked Two es s d = Unit {0}
 
 -- Of all operands.
 abbrev pub TargetsAreMarked : Form → List Label → List Operand → Type 0
-TargetsAreMarked form es os = AllByRecursion (λ (o : Operand). TargetIsMarked form es o.slot o.says) os
+TargetsAreMarked form es os = AllByRecursion (λ (o : Operand). TargetIsMarked form es o.slot o.value) os
 
 pub first_marked : (es : List Label) (os : List Operand) → TargetsAreMarked One es os
 first_marked es [] = tt
@@ -85,17 +85,17 @@ shown_one s d = refl
 
 pub words_one : (os : List Operand) → words_in One os ≡ words_of os
 words_one [] = refl
-words_one (o ∷ os) = rw (shown_one o.slot o.says, words_one os) refl
+words_one (o ∷ os) = rw (shown_one o.slot o.value, words_one os) refl
 
-here_says : (es : List Label) (s : Slot) (d : Datum) → FitsSlot s d → TargetIsMarked Two es s d → SpellsHere es s (shown_in Two s d) d
-here_says es (slot.Word Target most) (word n) h m = (label_name n, refl, named_label n h.1, ap word (sym m))
-here_says es (slot.Word Target most) _ h m = absurd h
-here_says es s d h m = shown_says s d h
+here_reads : (es : List Label) (s : Slot) (d : Datum) → FitsSlot s d → TargetIsMarked Two es s d → SpellsHere es s (shown_in Two s d) d
+here_reads es (slot.Word Target most) (word n) h m = (label_name n, refl, named_label n h.1, ap word (sym m))
+here_reads es (slot.Word Target most) _ h m = absurd h
+here_reads es s d h m = shown_reads s d h
 
-all_say : (es : List Label) (os : List Operand) → FitOperands os → TargetsAreMarked Two es os → SpellsAll es (slots_of os) (words_in Two os) (data_of os)
-all_say es [] h m = tt
-all_say es (o ∷ os) h m = (here_says es o.slot o.says h.0 m.0, all_say es os h.1 m.1)
+all_read : (es : List Label) (os : List Operand) → FitOperands os → TargetsAreMarked Two es os → SpellsAll es (slots_of os) (words_in Two os) (data_of os)
+all_read es [] h m = tt
+all_read es (o ∷ os) h m = (here_reads es o.slot o.value h.0 m.0, all_read es os h.1 m.1)
 
 pub spelled_in : (form : Form) (es : List Label) (os : List Operand) → FitOperands os → TargetsAreMarked form es os → SpellsInForm form es (slots_of os) (words_in form os) (data_of os)
 spelled_in One es os h m = rw (words_one os) (printed_spelled os h)
-spelled_in Two es os h m = all_say es os h m
+spelled_in Two es os h m = all_read es os h m

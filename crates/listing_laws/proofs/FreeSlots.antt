@@ -82,12 +82,12 @@ row_is_free row false (Some ss) f e =
 
 -- ---- words say the same there in both forms
 
-pub said_here : (ls : List Label) (ss : List Slot) (ws : List Word) (ds : List Datum) → AreFree ss → SpellsSlots ss ws ds → SpellsAll ls ss ws ds
-said_here ls [] [] [] f h = tt
-said_here ls (s ∷ ss) (w ∷ ws) (d ∷ ds) f h = (subst (λ b. SpellsBy b ls s w d) (sym f.0) h.0, said_here ls ss ws ds f.1 h.1)
-said_here ls _ _ _ f h = absurd h
+pub read_here : (ls : List Label) (ss : List Slot) (ws : List Word) (ds : List Datum) → AreFree ss → SpellsSlots ss ws ds → SpellsAll ls ss ws ds
+read_here ls [] [] [] f h = tt
+read_here ls (s ∷ ss) (w ∷ ws) (d ∷ ds) f h = (subst (λ b. SpellsBy b ls s w d) (sym f.0) h.0, read_here ls ss ws ds f.1 h.1)
+read_here ls _ _ _ f h = absurd h
 
-pub said_anywhere : (ls : List Label) (ss : List Slot) (ws : List Word) (ds : List Datum) → AreFree ss → SpellsAll ls ss ws ds → SpellsSlots ss ws ds
-said_anywhere ls [] [] [] f h = tt
-said_anywhere ls (s ∷ ss) (w ∷ ws) (d ∷ ds) f h = (subst (λ b. SpellsBy b ls s w d) f.0 h.0, said_anywhere ls ss ws ds f.1 h.1)
-said_anywhere ls _ _ _ f h = absurd h
+pub read_anywhere : (ls : List Label) (ss : List Slot) (ws : List Word) (ds : List Datum) → AreFree ss → SpellsAll ls ss ws ds → SpellsSlots ss ws ds
+read_anywhere ls [] [] [] f h = tt
+read_anywhere ls (s ∷ ss) (w ∷ ws) (d ∷ ds) f h = (subst (λ b. SpellsBy b ls s w d) f.0 h.0, read_anywhere ls ss ws ds f.1 h.1)
+read_anywhere ls _ _ _ f h = absurd h

@@ -7,7 +7,7 @@ use Rattle.listing_slots.specs.declared.key.Key.TheVariants as key
 use Rattle.listing_slots.specs.declared.kind.Kind.TheVariants as kind
 use Rattle.listing_slots.specs.declared.slot.Slot.{Slot}
 use Rattle.listing_slots.specs.declared.slot.Slot.TheVariants as slot
-use Rattle.listing_slots.specs.Data.{Datum, word, named, said, text_of, type_of, word_of}
+use Rattle.listing_slots.specs.Data.{Datum, word, named, key_word, text_of, type_of, word_of}
 use Rattle.listing_slots.specs.Keys.{key_text, same, find_key, lead_keys}
 use Rattle.listing_slots.specs.Slots.{mark_text, SpellsNumber, SpellsNamed, IsMember, IsType, SpellsSlots, has_form, have_forms}
 use Rattle.listing_slots.specs.declared.slot.Mark.TheVariants.{Nothing}
@@ -20,8 +20,8 @@ use Rattle.listing_lines.specs.declared.form.Form.{Form}
 use Rattle.listing_lines.specs.declared.form.Form.TheVariants.{One, Two}
 use Rattle.listing_lines.specs.Labels.{Label}
 use Rattle.listing_parse.specs.Forms.{HasShapeInForm, SpellsInForm}
-use Rattle.listing_laws.proofs.FreeSlots.{AreFree, row_is_free, value_is_free, said_here, said_anywhere}
-use Rattle.listing_laws.specs.inner.Values.{word_of_key, SayGiven, IsReadAsValue, IsReadAsLine}
+use Rattle.listing_laws.proofs.FreeSlots.{AreFree, row_is_free, value_is_free, read_here, read_anywhere}
+use Rattle.listing_laws.specs.inner.Values.{word_of_key, StaticText, IsReadAsValue, IsReadAsLine}
 use Rattle.listing_laws.proofs.SpelledValues.{spelled_is_read, plain_form}
 use Rattle.listing_laws.proofs.ReadValues.{read_is_spelled, key_is}
 use Rattle.std.proofs.lemmas.Bool.{and_parts}
@@ -32,10 +32,10 @@ given_slots ss = slot.Member ∷ slot.Desc ∷ flags ∷ slot.Key key.Equals ∷
 
 -- ---- what is read is spelled
 
-parts_say : (a b c d : Word) (rest : List Word) (x y z e : Datum) (es : List Datum) (ss : List Slot) (m : Member) (v : Value) → value_slots (due.Value 0) rest ≡ Some ss → have_forms (given_slots ss) (a ∷ b ∷ c ∷ d ∷ rest) ≡ true
-    → SpellsSlots (given_slots ss) (a ∷ b ∷ c ∷ d ∷ rest) (x ∷ y ∷ z ∷ e ∷ es) → line_of kind.Given (x ∷ y ∷ z ∷ e ∷ es) ≡ static_line m (Some v) → SayGiven (a ∷ b ∷ c ∷ d ∷ rest) m v
+parts_mean : (a b c d : Word) (rest : List Word) (x y z e : Datum) (es : List Datum) (ss : List Slot) (m : Member) (v : Value) → value_slots (due.Value 0) rest ≡ Some ss → have_forms (given_slots ss) (a ∷ b ∷ c ∷ d ∷ rest) ≡ true
+    → SpellsSlots (given_slots ss) (a ∷ b ∷ c ∷ d ∷ rest) (x ∷ y ∷ z ∷ e ∷ es) → line_of kind.Given (x ∷ y ∷ z ∷ e ∷ es) ≡ static_line m (Some v) → StaticText (a ∷ b ∷ c ∷ d ∷ rest) m v
 unfolding line_of have_forms text_of type_of word_of
-parts_say a b c d rest x y z e es ss m v h f g l =
+parts_mean a b c d rest x y z e es ss m v h f g l =
     let f0 = and_parts (has_form slot.Member a) (have_forms (slot.Desc ∷ flags ∷ slot.Key key.Equals ∷ ss) (b ∷ c ∷ d ∷ rest)) f in
     let f1 = and_parts (has_form slot.Desc b) (have_forms (flags ∷ slot.Key key.Equals ∷ ss) (c ∷ d ∷ rest)) f0.1 in
     let f2 = and_parts (has_form flags c) (have_forms (slot.Key key.Equals ∷ ss) (d ∷ rest)) f1.1 in
@@ -54,7 +54,7 @@ parts_say a b c d rest x y z e es ss m v h f g l =
       is_name = subst (SpellsNamed IsMember a) (sym (ap text_of name.2) ∙ ap (λ (k : Member). k.name) member) name.1;
       is_type = subst (SpellsNamed IsType b) (sym (ap type_of ty.2) ∙ ap (λ (k : Member). k.ty) member) ty.1;
       are_flags = subst (SpellsNumber Nothing 4294967295 c) (sym (ap word_of number.2) ∙ ap (λ (k : Member). k.flags) member) number.1;
-      says = read_is_spelled rest v (record { slots = ss; has_slots = h; forms = f3.1; says = es; spelled = g.1.1.1.1; made = value });
+      is_text = read_is_spelled rest v (record { slots = ss; has_slots = h; forms = f3.1; word_values = es; spelled = g.1.1.1.1; made = value });
     }
 
 -- a word for the first slot
@@ -62,32 +62,32 @@ first_word : (s : Slot) (ss : List Slot) (ws : List Word) (ds : List Datum) → 
 first_word s ss (w ∷ ws) (x ∷ ds) g = (w, ws, x, ds, refl, refl, g.1)
 first_word s ss _ _ g = absurd g
 
-words_say : (ws : List Word) (ds : List Datum) (ss : List Slot) (m : Member) (v : Value) → value_slots (due.Value 0) (drop 4 ws) ≡ Some ss → have_forms (given_slots ss) ws ≡ true
-    → SpellsSlots (given_slots ss) ws ds → line_of kind.Given ds ≡ static_line m (Some v) → SayGiven ws m v
-words_say ws ds ss m v h f g l =
+words_read : (ws : List Word) (ds : List Datum) (ss : List Slot) (m : Member) (v : Value) → value_slots (due.Value 0) (drop 4 ws) ≡ Some ss → have_forms (given_slots ss) ws ≡ true
+    → SpellsSlots (given_slots ss) ws ds → line_of kind.Given ds ≡ static_line m (Some v) → StaticText ws m v
+words_read ws ds ss m v h f g l =
     let a = first_word slot.Member (slot.Desc ∷ flags ∷ slot.Key key.Equals ∷ ss) ws ds g in
     let b = first_word slot.Desc (flags ∷ slot.Key key.Equals ∷ ss) a.1 a.3 a.6 in
     let c = first_word flags (slot.Key key.Equals ∷ ss) b.1 b.3 b.6 in
     let d = first_word (slot.Key key.Equals) ss c.1 c.3 c.6 in
     let words : ws ≡ a.0 ∷ b.0 ∷ c.0 ∷ d.0 ∷ d.1 = a.4 ∙ ap (λ us. a.0 ∷ us) (b.4 ∙ ap (λ us. b.0 ∷ us) (c.4 ∙ ap (λ us. c.0 ∷ us) d.4)) in
-    let says : ds ≡ a.2 ∷ b.2 ∷ c.2 ∷ d.2 ∷ d.3 = a.5 ∙ ap (λ xs. a.2 ∷ xs) (b.5 ∙ ap (λ xs. b.2 ∷ xs) (c.5 ∙ ap (λ xs. c.2 ∷ xs) d.5)) in
-    subst (λ us. SayGiven us m v) (sym words) (parts_say a.0 b.0 c.0 d.0 d.1 a.2 b.2 c.2 d.2 d.3 ss m v
+    let word_values : ds ≡ a.2 ∷ b.2 ∷ c.2 ∷ d.2 ∷ d.3 = a.5 ∙ ap (λ xs. a.2 ∷ xs) (b.5 ∙ ap (λ xs. b.2 ∷ xs) (c.5 ∙ ap (λ xs. c.2 ∷ xs) d.5)) in
+    subst (λ us. StaticText us m v) (sym words) (parts_mean a.0 b.0 c.0 d.0 d.1 a.2 b.2 c.2 d.2 d.3 ss m v
     (subst (λ (us : List Word). value_slots (due.Value 0) (drop 4 us) ≡ Some ss) words h)
     (subst (λ (us : List Word). have_forms (given_slots ss) us ≡ true) words f)
-    (subst (λ (xs : List Datum). SpellsSlots (given_slots ss) (a.0 ∷ b.0 ∷ c.0 ∷ d.0 ∷ d.1) xs) says (subst (λ (us : List Word). SpellsSlots (given_slots ss) us ds) words g))
-    (subst (λ (xs : List Datum). line_of kind.Given xs ≡ static_line m (Some v)) says l))
+    (subst (λ (xs : List Datum). SpellsSlots (given_slots ss) (a.0 ∷ b.0 ∷ c.0 ∷ d.0 ∷ d.1) xs) word_values (subst (λ (us : List Word). SpellsSlots (given_slots ss) us ds) words g))
+    (subst (λ (xs : List Datum). line_of kind.Given xs ≡ static_line m (Some v)) word_values l))
 
-row_says : (ws : List Word) (ds : List Datum) (row : Row) (few : Bool) (o : Option (List Slot)) (m : Member) (v : Value) → o ≡ value_slots (due.Value 0) (drop 4 ws) → Some row ≡ (if few then Some (kind.Static, field_slots) else given_row o)
-    → have_forms row.1 ws ≡ true → SpellsSlots row.1 ws ds → line_of row.0 ds ≡ static_line m (Some v) → SayGiven ws m v
+row_reads : (ws : List Word) (ds : List Datum) (row : Row) (few : Bool) (o : Option (List Slot)) (m : Member) (v : Value) → o ≡ value_slots (due.Value 0) (drop 4 ws) → Some row ≡ (if few then Some (kind.Static, field_slots) else given_row o)
+    → have_forms row.1 ws ≡ true → SpellsSlots row.1 ws ds → line_of row.0 ds ≡ static_line m (Some v) → StaticText ws m v
 unfolding line_of
-row_says ws ds row true o m v e r f g l =
+row_reads ws ds row true o m v e r f g l =
     let k : row ≡ (kind.Static, field_slots) = cc in
     let n : line_of kind.Static ds ≡ static_line m (Some v) = subst (λ (q : Row). line_of q.0 ds ≡ static_line m (Some v)) k l in
     absurd cc
-row_says ws ds row false None m v e r f g l = absurd cc
-row_says ws ds row false (Some ss) m v e r f g l =
+row_reads ws ds row false None m v e r f g l = absurd cc
+row_reads ws ds row false (Some ss) m v e r f g l =
     let k : row ≡ (kind.Given, given_slots ss) = cc in
-    words_say ws ds ss m v (sym e) (subst (λ (q : Row). have_forms q.1 ws ≡ true) k f) (subst (λ (q : Row). SpellsSlots q.1 ws ds) k g) (subst (λ (q : Row). line_of q.0 ds ≡ static_line m (Some v)) k l)
+    words_read ws ds ss m v (sym e) (subst (λ (q : Row). have_forms q.1 ws ≡ true) k f) (subst (λ (q : Row). SpellsSlots q.1 ws ds) k g) (subst (λ (q : Row). line_of q.0 ds ≡ static_line m (Some v)) k l)
 
 -- the row of such a line
 keyed_row : (ws : List Word) (s : Shape) (k : IsKeyed (word_of_key key.Static ∷ ws) s) → (Some k.row ≡ key_row key.Static ws) × (k.after ≡ ws)
@@ -100,12 +100,12 @@ keyed_row ws s k =
     let lead : k.keyed.lead ≡ key.Static = cc in
     (k.keyed.has_row ∙ ap (λ q. key_row q k.after) lead ∙ ap (key_row key.Static) after, after)
 
-keyed_says : (ws : List Word) (s : Shape) (ds : List Datum) (m : Member) (v : Value) → IsKeyed (word_of_key key.Static ∷ ws) s → SpellsSlots s.slots s.words ds → line_of s.kind ds ≡ static_line m (Some v) → SayGiven ws m v
+keyed_reads : (ws : List Word) (s : Shape) (ds : List Datum) (m : Member) (v : Value) → IsKeyed (word_of_key key.Static ∷ ws) s → SpellsSlots s.slots s.words ds → line_of s.kind ds ≡ static_line m (Some v) → StaticText ws m v
 unfolding key_row
-keyed_says ws s ds m v k g l =
+keyed_reads ws s ds m v k g l =
     let r = keyed_row ws s k in
-    let said : SpellsSlots k.row.1 k.after ds = subst (λ (t : Shape). SpellsSlots t.slots t.words ds) k.is g in
-    row_says ws ds k.row (nat_le (length ws) 3) (value_slots (due.Value 0) (drop 4 ws)) m v refl r.0 (subst (λ us. have_forms k.row.1 us ≡ true) r.1 k.keyed.forms) (subst (λ us. SpellsSlots k.row.1 us ds) r.1 said)
+    let key_word : SpellsSlots k.row.1 k.after ds = subst (λ (t : Shape). SpellsSlots t.slots t.words ds) k.is g in
+    row_reads ws ds k.row (nat_le (length ws) 3) (value_slots (due.Value 0) (drop 4 ws)) m v refl r.0 (subst (λ us. have_forms k.row.1 us ≡ true) r.1 k.keyed.forms) (subst (λ us. SpellsSlots k.row.1 us ds) r.1 key_word)
     (subst (λ (t : Shape). line_of t.kind ds ≡ static_line m (Some v)) k.is l)
 
 -- no target stands in its slots
@@ -115,11 +115,11 @@ keyed_is_free ws s k =
     let r = keyed_row ws s k in
     subst (λ (t : Shape). AreFree t.slots) (sym k.is) (row_is_free k.row (nat_le (length ws) 3) (value_slots (due.Value 0) (drop 4 ws)) (λ ss e. value_is_free (drop 4 ws) ss e) r.0)
 
-pub line_is_spelled : (form : Form) (ls : List Label) (ws : List Word) (m : Member) (v : Value) → IsReadAsLine form ls (word_of_key key.Static ∷ ws) (static_line m (Some v)) → SayGiven ws m v
+pub line_is_spelled : (form : Form) (ls : List Label) (ws : List Word) (m : Member) (v : Value) → IsReadAsLine form ls (word_of_key key.Static ∷ ws) (static_line m (Some v)) → StaticText ws m v
 unfolding key_text find_key same
 line_is_spelled One ls ws m v h = elim h.has_shape [
   | inl l ↦ absurd (no_colon (key_text key.Static) l.label key.Static refl (let w = l.words in cc))
-  | inr k ↦ keyed_says ws h.shape h.says m v k h.spelled h.made
+  | inr k ↦ keyed_reads ws h.shape h.word_values m v k h.spelled h.made
 ]
 line_is_spelled Two ls ws m v h = elim h.has_shape [
   | inl b ↦
@@ -127,7 +127,7 @@ line_is_spelled Two ls ws m v h = elim h.has_shape [
       let text : b.text ≡ key_text key.Static = cc in
       let none : None ≡ Some key.Static = b.no_lead ∙ ap (find_key lead_keys) text in
       absurd cc
-  | inr k ↦ keyed_says ws h.shape h.says m v k (said_anywhere ls h.shape.slots h.shape.words h.says (keyed_is_free ws h.shape k) h.spelled) h.made
+  | inr k ↦ keyed_reads ws h.shape h.word_values m v k (read_anywhere ls h.shape.slots h.shape.words h.word_values (keyed_is_free ws h.shape k) h.spelled) h.made
 ]
 
 -- ---- what is spelled is read
@@ -136,9 +136,9 @@ shaped_in : (form : Form) (ws : List Word) (s : Shape) → IsKeyed ws s → HasS
 shaped_in One ws s k = inr k
 shaped_in Two ws s k = inr k
 
-said_in : (form : Form) (ls : List Label) (ss : List Slot) (ws : List Word) (ds : List Datum) → AreFree ss → SpellsSlots ss ws ds → SpellsInForm form ls ss ws ds
-said_in One ls ss ws ds f h = h
-said_in Two ls ss ws ds f h = said_here ls ss ws ds f h
+read_in : (form : Form) (ls : List Label) (ss : List Slot) (ws : List Word) (ds : List Datum) → AreFree ss → SpellsSlots ss ws ds → SpellsInForm form ls ss ws ds
+read_in One ls ss ws ds f h = h
+read_in Two ls ss ws ds f h = read_here ls ss ws ds f h
 
 parts_read : (form : Form) (ls : List Label) (a b c : Word) (rest : List Word) (m : Member) (v : Value) → SpellsNamed IsMember a m.name → SpellsNamed IsType b m.ty → SpellsNumber Nothing 4294967295 c m.flags → IsReadAsValue rest v
     → IsReadAsLine form ls (word_of_key key.Static ∷ a ∷ b ∷ c ∷ word_of_key key.Equals ∷ rest) (static_line m (Some v))
@@ -148,7 +148,7 @@ parts_read form ls a b c rest m v n t f r =
     let forms : have_forms (given_slots r.slots) ws ≡ true =
     rw (plain_form slot.Member a n.0 n.2 refl, plain_form slot.Desc b t.0 t.2 refl, plain_form flags c (mark_text Nothing ++ f.digits) f.joined refl, r.forms) refl in
     let row : Some (kind.Given, given_slots r.slots) ≡ key_row key.Static ws = rw (past_three rest a b c (word_of_key key.Equals), r.has_slots) refl in
-    let ds = named (OfText m.name) ∷ named (OfDesc m.ty) ∷ word m.flags ∷ said key.Equals ∷ r.says in
+    let ds = named (OfText m.name) ∷ named (OfDesc m.ty) ∷ word m.flags ∷ key_word key.Equals ∷ r.word_values in
     let shape : Shape = record { kind = kind.Given; label = []; slots = given_slots r.slots; words = ws } in
     record {
       shape = shape;
@@ -160,11 +160,11 @@ parts_read form ls a b c rest m v n t f r =
         keyed = record { lead = key.Static; found = refl; has_row = row; forms = forms };
         is = refl;
       });
-      says = ds;
-      spelled = said_in form ls (given_slots r.slots) ws ds (refl, (refl, (refl, (refl, value_is_free rest r.slots r.has_slots)))) ((m.name, n, refl), ((m.ty, t, refl), ((m.flags, f, refl), (refl, r.spelled))));
+      word_values = ds;
+      spelled = read_in form ls (given_slots r.slots) ws ds (refl, (refl, (refl, (refl, value_is_free rest r.slots r.has_slots)))) ((m.name, n, refl), ((m.ty, t, refl), ((m.flags, f, refl), (refl, r.spelled))));
       made = ap (λ u. static_line m (Some u)) r.made;
     }
 
-pub spelled_line_is_read : (form : Form) (ls : List Label) (ws : List Word) (m : Member) (v : Value) → SayGiven ws m v → IsReadAsLine form ls (word_of_key key.Static ∷ ws) (static_line m (Some v))
+pub spelled_line_is_read : (form : Form) (ls : List Label) (ws : List Word) (m : Member) (v : Value) → StaticText ws m v → IsReadAsLine form ls (word_of_key key.Static ∷ ws) (static_line m (Some v))
 spelled_line_is_read form ls ws m v h =
-    subst (λ us. IsReadAsLine form ls (word_of_key key.Static ∷ us) (static_line m (Some v))) (sym h.words) (parts_read form ls h.name h.ty h.flags h.value m v h.is_name h.is_type h.are_flags (spelled_is_read h.value v h.says))
+    subst (λ us. IsReadAsLine form ls (word_of_key key.Static ∷ us) (static_line m (Some v))) (sym h.words) (parts_read form ls h.name h.ty h.flags h.value m v h.is_name h.is_type h.are_flags (spelled_is_read h.value v h.is_text))

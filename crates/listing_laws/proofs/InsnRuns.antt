@@ -21,7 +21,7 @@ use Rattle.listing_slots.specs.declared.key.Key.TheVariants as key
 use Rattle.listing_slots.specs.declared.slot.Mark.TheVariants.{Nothing}
 use Rattle.listing_slots.specs.declared.slot.Slot.TheVariants as slot
 use Rattle.listing_slots.specs.Keys.{key_text, same}
-use Rattle.listing_slots.specs.Data.{said}
+use Rattle.listing_slots.specs.Data.{key_word}
 use Rattle.listing_slots.proofs.ShownLaws.{shown_written, number_written, digit_range}
 use Rattle.listing_lines.specs.Lines.{insn_line}
 use Rattle.listing_lines.specs.declared.stage.Stage.{Stage}
@@ -33,11 +33,11 @@ use Rattle.listing_parse.specs.States.{State, stage_of, insn_count, counted, add
 use Rattle.listing_lines.specs.Splitting.{is_skipped}
 use Rattle.listing_lines.specs.Labels.{Label, is_mark, is_stop}
 use Rattle.listing_parse.specs.declared.form_line.FormLine.TheVariants as line_of_form
-use Rattle.listing_parse.specs.Text.{TakesLine, LineSays, is_second, line_of_form, labels_after}
+use Rattle.listing_parse.specs.Text.{TakesLine, LineMeans, is_second, line_of_form, labels_after}
 use Rattle.listing_print.specs.Operands.{insn_operands, operand_text_in}
 use Rattle.listing_print.specs.Printed.{insn_word, insn_text}
 use Rattle.listing_print.specs.inner.Reading.{slots_of, data_of, words_in, FitOperands, insn_kind, OpcodeFits}
-use Rattle.listing_print.proofs.InsnLaws.{insn_has_shape, insn_has_bare_shape, number_printed, insn_says, all_at}
+use Rattle.listing_print.proofs.InsnLaws.{insn_has_shape, insn_has_bare_shape, number_printed, insn_reads, all_at}
 use Rattle.listing_laws.proofs.Runs.{RunsTo, frame, at}
 use Rattle.listing_laws.proofs.RunLaws.{IsLine, line_runs, line_is, words_line, spaced_words}
 use Rattle.listing_laws.proofs.FormWords.{words_written, text_is_in, TargetsAreMarked, spelled_in}
@@ -67,9 +67,9 @@ insn_written (content.I31c op a which) h = mnemonic_written op format.F31c h.0
 insn_written (content.I22c op a b which) h = mnemonic_written op format.F22c h.0
 insn_written (content.I35c op n regs which) h = mnemonic_written op format.F35c h.0
 insn_written (content.I3rc op n first which) h = mnemonic_written op format.F3rc h.0
-insn_written (content.Packed first targets) h = shown_written (slot.Key key.Packed) (said key.Packed) refl
-insn_written (content.Sparse keys targets) h = shown_written (slot.Key key.Sparse) (said key.Sparse) refl
-insn_written (content.Data width bytes) h = shown_written (slot.Key key.Elements) (said key.Elements) refl
+insn_written (content.Packed first targets) h = shown_written (slot.Key key.Packed) (key_word key.Packed) refl
+insn_written (content.Sparse keys targets) h = shown_written (slot.Key key.Sparse) (key_word key.Sparse) refl
+insn_written (content.Data width bytes) h = shown_written (slot.Key key.Elements) (key_word key.Elements) refl
 insn_written _ h = mnemonic_written _ _ h
 
 after_colon : (w : List ℕ) → IsWritable (plain_word w) → IsWritable (plain_word (w ++ 58 ∷ []))
@@ -202,9 +202,9 @@ insn_line_of_form Two es s k i o h = let x = insn_is_other i o in no_line_of_for
 
 -- ---- its shape
 
-insn_says_so : (form : Form) (es : List Label) (s t : State) (k : ℕ) (i : Insn) (ls : List (List ℕ)) → k < 2 ^ 64 → OpcodeFits i → FitOperands (insn_operands i) → TargetsAreMarked form es (insn_operands i) → is_insns (stage_of s.block) ≡ true
-    → insn_count s.block ≡ k → add s (insn_line i) ≡ Some t → LineSays (at (frame form es) s) ls (insn_words form k i) (at (frame form es) t)
-insn_says_so One es s t k i ls h o f g m e a =
+insn_reads_so : (form : Form) (es : List Label) (s t : State) (k : ℕ) (i : Insn) (ls : List (List ℕ)) → k < 2 ^ 64 → OpcodeFits i → FitOperands (insn_operands i) → TargetsAreMarked form es (insn_operands i) → is_insns (stage_of s.block) ≡ true
+    → insn_count s.block ≡ k → add s (insn_line i) ≡ Some t → LineMeans (at (frame form es) s) ls (insn_words form k i) (at (frame form es) t)
+insn_reads_so One es s t k i ls h o f g m e a =
     let os = insn_operands i in
     let ks = kind_stands (stage_of s.block) i in
     let n : is_number (decimal k) (insn_count s.block) ≡ true = ap (is_number (decimal k)) e ∙ number_printed k h in
@@ -212,22 +212,22 @@ insn_says_so One es s t k i ls h o f g m e a =
       shape = record { kind = insn_kind i; label = decimal k; slots = slots_of os; words = words_in One os };
       has_shape = insn_has_shape k i h o f;
       may_stand = rw (ks.0, ks.1, m, n) refl;
-      says = data_of os;
+      word_values = data_of os;
       spelled = spelled_in One es os f g;
       next = t;
-      added = rw (insn_says i o) a;
+      added = rw (insn_reads i o) a;
       is = refl;
     }
-insn_says_so Two es s t k i ls h o f g m e a =
+insn_reads_so Two es s t k i ls h o f g m e a =
     let os = insn_operands i in
     record {
       shape = record { kind = insn_kind i; label = []; slots = slots_of os; words = words_in Two os };
       has_shape = insn_has_bare_shape i o f;
       may_stand = (kind_stands (stage_of s.block) i).1 ∙ m;
-      says = data_of os;
+      word_values = data_of os;
       spelled = spelled_in Two es os f g;
       next = t;
-      added = rw (insn_says i o) a;
+      added = rw (insn_reads i o) a;
       is = rw (kind_keeps i (s.lines + 1) ls es) refl;
     }
 
@@ -239,7 +239,7 @@ insn_taken form es s t k i h o f g m e a ls =
       record {
         words = insn_words form k i;
         has_words = line_again (insn_words form k i) (insn_words_written form k i h o f);
-        makes = inr (inr (insn_line_of_form form es (counted s) k i o (not_start (stage_of s.block) m), insn_says_so form es (counted s) t k i ls h o f g m e a));
+        makes = inr (inr (insn_line_of_form form es (counted s) k i o (not_start (stage_of s.block) m), insn_reads_so form es (counted s) t k i ls h o f g m e a));
       },
     )
 

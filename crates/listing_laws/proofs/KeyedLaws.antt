@@ -11,7 +11,7 @@ use Rattle.listing_slots.specs.declared.key.Key.TheVariants as key
 use Rattle.listing_slots.specs.declared.kind.Kind.TheVariants as kind
 use Rattle.listing_slots.specs.declared.slot.Slot.TheVariants as slot
 use Rattle.listing_slots.specs.Keys.{key_text, same}
-use Rattle.listing_slots.specs.Data.{said}
+use Rattle.listing_slots.specs.Data.{key_word}
 use Rattle.listing_slots.proofs.ShownLaws.{shown_written}
 use Rattle.listing_slots.specs.Shapes.{Shape}
 use Rattle.listing_lines.specs.Lines.{Line, first_line, static_line, open_code, end_code, insn_line, try_line, catch_line, catch_all_line}
@@ -30,7 +30,7 @@ use Rattle.listing_print.specs.Operands.{Operand, keyword, value_operands, value
 use Rattle.listing_print.specs.Printed.{line_key, line_operands, keyed_text, keyed_text_in}
 use Rattle.listing_print.specs.inner.Reading.{slots_of, data_of, words_in, FitOperands, line_kind, IsKeyedLine}
 use Rattle.listing_print.proofs.PrintedLaws.{words_of, value_words}
-use Rattle.listing_print.proofs.RowLaws.{keyed_has_shape, keyed_says_line}
+use Rattle.listing_print.proofs.RowLaws.{keyed_has_shape, keyed_reads_line}
 use Rattle.listing_laws.proofs.Runs.{Frame, bare, at, RunsInto, RunsTo}
 use Rattle.listing_laws.proofs.RunLaws.{IsLine, line_reads, line_runs, line_is, words_line, spaced_words}
 use Rattle.listing_laws.proofs.FormWords.{words_written, text_is_in, text_is, TargetIsMarked, TargetsAreMarked, first_marked, spelled_in}
@@ -63,7 +63,7 @@ keyed_is form l =
     ap (λ t. k ++ (t ++ 10 ∷ [])) (text_is_in form (line_operands l)) ∙ sym (append_assoc k (spaced_words ws) (10 ∷ [])) ∙ ap (λ t. t ++ 10 ∷ []) (sym (line_is (plain_word k) ws))
 
 pub keyed_is_line : (form : Form) (l : Line) → FitOperands (line_operands l) → IsLine (line_bytes (keyed_words form l))
-keyed_is_line form l f = words_line (plain_word (key_text (line_key l))) (words_in form (line_operands l)) (shown_written (slot.Key (line_key l)) (said (line_key l)) refl) (words_written form (line_operands l) f)
+keyed_is_line form l f = words_line (plain_word (key_text (line_key l))) (words_in form (line_operands l)) (shown_written (slot.Key (line_key l)) (key_word (line_key l)) refl) (words_written form (line_operands l) f)
 
 -- it begins neither with a space nor with `#`
 pub key_shown : (l : Line) (rest : List ℕ) → is_skipped (key_text (line_key l) ++ rest) ≡ false
@@ -89,7 +89,7 @@ pub keyed_taken : (f : Frame) (s t : State) (l : Line) → IsKeyedLine l → Fit
 keyed_taken f s t l k h g m a ls =
     let os = line_operands l in
     let ws = words_in f.form os in
-    let w : AllByRecursion IsWritable (keyed_words f.form l) = (shown_written (slot.Key (line_key l)) (said (line_key l)) refl, words_written f.form os h) in
+    let w : AllByRecursion IsWritable (keyed_words f.form l) = (shown_written (slot.Key (line_key l)) (key_word (line_key l)) refl, words_written f.form os h) in
     let sh : Shape = record { kind = line_kind l; label = []; slots = slots_of os; words = ws } in
     let p = keyed_plain f.form l k in
     inr (
@@ -103,10 +103,10 @@ keyed_taken f s t l k h g m a ls =
             shape = sh;
             has_shape = keyed_shape f.form l k h;
             may_stand = may_stand_in f.form (counted s) l sh refl m;
-            says = data_of os;
+            word_values = data_of os;
             spelled = spelled_in f.form f.labels os h g;
             next = t;
-            added = rw (keyed_says_line l k) a;
+            added = rw (keyed_reads_line l k) a;
             is = refl;
           },
         ));
@@ -147,12 +147,12 @@ mutual
   value_marked es (content.Named (OfDesc d)) = (tt, (tt, tt))
   value_marked es (content.Named (OfField f)) = (tt, (tt, tt))
   value_marked es (content.Named (OfMethod m)) = (tt, (tt, tt))
-  value_marked es (content.Array vs) = (tt, (tt, all_append (λ (o : Operand). TargetIsMarked Two es o.slot o.says) (values_operands vs) (keyword key.Close ∷ []) (values_marked es vs) (tt, tt)))
+  value_marked es (content.Array vs) = (tt, (tt, all_append (λ (o : Operand). TargetIsMarked Two es o.slot o.value) (values_operands vs) (keyword key.Close ∷ []) (values_marked es vs) (tt, tt)))
   value_marked es _ = search rules
 
   values_marked : (es : List Label) (vs : Values) → TargetsAreMarked Two es (values_operands vs)
   values_marked es no_values = tt
-  values_marked es (more_values v vs) = all_append (λ (o : Operand). TargetIsMarked Two es o.slot o.says) (value_operands v) (values_operands vs) (value_marked es v) (values_marked es vs)
+  values_marked es (more_values v vs) = all_append (λ (o : Operand). TargetIsMarked Two es o.slot o.value) (value_operands v) (values_operands vs) (value_marked es v) (values_marked es vs)
 
 class_marked : (form : Form) (es : List Label) (l : Line) → IsOfClass l → TargetsAreMarked form es (line_operands l)
 class_marked One es l h = first_marked es (line_operands l)

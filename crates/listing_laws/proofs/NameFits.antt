@@ -31,7 +31,7 @@ proto_fits p v r = record { params = all_weaker IsValueType IsDescriptor (λ t v
 member_units : (class name tail : List ℕ) → AreUnits class → AreUnits name → AreUnits tail → AreUnits (class ++ (45 ∷ 62 ∷ (name ++ tail)))
 member_units class name tail c n t = all_append IsUnit class (45 ∷ 62 ∷ (name ++ tail)) c (omega arith, (omega arith, all_append IsUnit name tail n t))
 
-pub name_fits : (n : Name) → IsNamed n → FitsSlot (name_operand n).slot (name_operand n).says
+pub name_fits : (n : Name) → IsNamed n → FitsSlot (name_operand n).slot (name_operand n).value
 name_fits (OfText us) (v, r) = r
 name_fits (OfDesc d) (v, r) = (v, r)
 name_fits (OfField f) (v, r) = record {

@@ -10,7 +10,7 @@ use Rattle.listing_slots.specs.declared.key.Key.TheVariants as key
 use Rattle.listing_slots.specs.declared.slot.Mark.TheVariants.{Nothing}
 use Rattle.listing_slots.specs.declared.slot.Slot.{Slot}
 use Rattle.listing_slots.specs.declared.slot.Slot.TheVariants as slot
-use Rattle.listing_slots.specs.Data.{Datum, said}
+use Rattle.listing_slots.specs.Data.{Datum, key_word}
 use Rattle.listing_slots.specs.Keys.{key_text, same, find_key, value_keys}
 use Rattle.listing_slots.specs.Slots.{SpellsSlot, has_form}
 use Rattle.listing_slots.specs.declared.due.Due.TheVariants as due
@@ -21,7 +21,7 @@ use Rattle.listing_print.specs.Operands.{value_operands, values_operands}
 use Rattle.listing_print.specs.Operands as print
 use Rattle.listing_print.specs.inner.Reading.{data_of}
 use Rattle.listing_print.proofs.MadeLaws.{data_join, value_made}
-use Rattle.listing_laws.specs.inner.Values.{word_of_key, SaysValue, SayValues, IsReadAsValue}
+use Rattle.listing_laws.specs.inner.Values.{word_of_key, ValueText, ValuesText, IsReadAsValue}
 use Rattle.listing_laws.proofs.WordRuns.{Runs, run_of}
 use Rattle.listing_slots.proofs.KeyLaws.{same_true}
 
@@ -34,7 +34,7 @@ record Front (n : ℕ) (ws : List Word) (ds : List Datum) : Type 0 where
   pub some : 0 < length front
   pub words : ws ≡ front ++ back
   pub data_are : ds ≡ data_of (value_operands value) ++ left
-  pub says : SaysValue front value
+  pub is_text : ValueText front value
   pub run : Runs (due_after n) back left
 
 -- `}` does.
@@ -44,7 +44,7 @@ record Closes (n : ℕ) (ws : List Word) (ds : List Datum) : Type 0 where
   pub left : List Datum
   pub is : n ≡ suc outside
   pub words : ws ≡ word_of_key key.Close ∷ back
-  pub data_are : ds ≡ said key.Close ∷ left
+  pub data_are : ds ≡ key_word key.Close ∷ left
   pub run : Runs (due_after outside) back left
 
 -- The values of an array do, up to its `}`.
@@ -54,8 +54,8 @@ record Inner (n : ℕ) (ws : List Word) (ds : List Datum) : Type 0 where
   pub back : List Word
   pub left : List Datum
   pub words : ws ≡ inner ++ (word_of_key key.Close ∷ back)
-  pub data_are : ds ≡ data_of (values_operands values) ++ (said key.Close ∷ left)
-  pub says : SayValues inner values
+  pub data_are : ds ≡ data_of (values_operands values) ++ (key_word key.Close ∷ left)
+  pub is_text : ValuesText inner values
   pub run : Runs (due_after n) back left
 
 -- ---- words that end nothing
@@ -91,28 +91,28 @@ key_is k (text_in_quotes us) e = absurd cc
 -- The word after a keyword, and what follows it.
 record Operand (s : Slot) (n : ℕ) (ws : List Word) (ds : List Datum) : Type 0 where
   pub word : Word
-  pub says : Datum
+  pub word_value : Datum
   pub back : List Word
   pub left : List Datum
   pub words : ws ≡ word ∷ back
-  pub data_are : ds ≡ says ∷ left
+  pub data_are : ds ≡ word_value ∷ left
   pub form : has_form s word ≡ true
-  pub spelled : SpellsSlot s word says
+  pub spelled : SpellsSlot s word word_value
   pub run : Runs (due_after n) back left
 
 operand_of : (s : Slot) (n : ℕ) (ws : List Word) (ds : List Datum) → Runs (due.Word s n) ws ds → Operand s n ws ds
 unfolding slot_at due_after_word
 operand_of s n [] [] r = absurd cc
-operand_of s n (w ∷ ws) (x ∷ ds) r = record { word = w; says = x; back = ws; left = ds; words = refl; data_are = refl; form = r.0; spelled = r.1; run = r.2 }
+operand_of s n (w ∷ ws) (x ∷ ds) r = record { word = w; word_value = x; back = ws; left = ds; words = refl; data_are = refl; form = r.0; spelled = r.1; run = r.2 }
 operand_of s n _ _ r = absurd r
 
--- a keyword and its operand, of which each thing said makes a value
-before_front : {X : Type 0} (Says : Word → X → Type 0) (d : X → Datum) (k : Key) (s : Slot) (v : X → Value) (n : ℕ) (ws : List Word) (ds : List Datum)
-    → ((w : Word) (x : Datum) → SpellsSlot s w x → (y : X) × Says w y × (x ≡ d y)) → ((y : X) → said k ∷ d y ∷ [] ≡ data_of (value_operands (v y)))
-    → ((w : Word) (y : X) → Says w y → SaysValue (word_of_key k ∷ w ∷ []) (v y)) → Runs (due.Word s n) ws ds → Front n (word_of_key k ∷ ws) (said k ∷ ds)
-before_front Says d k s v n ws ds spells makes says r =
+-- a keyword and its operand, of which each thing key_word makes a value
+before_front : {X : Type 0} (IsText : Word → X → Type 0) (d : X → Datum) (k : Key) (s : Slot) (v : X → Value) (n : ℕ) (ws : List Word) (ds : List Datum)
+    → ((w : Word) (x : Datum) → SpellsSlot s w x → (y : X) × IsText w y × (x ≡ d y)) → ((y : X) → key_word k ∷ d y ∷ [] ≡ data_of (value_operands (v y)))
+    → ((w : Word) (y : X) → IsText w y → ValueText (word_of_key k ∷ w ∷ []) (v y)) → Runs (due.Word s n) ws ds → Front n (word_of_key k ∷ ws) (key_word k ∷ ds)
+before_front IsText d k s v n ws ds spells makes is_text r =
     let o = operand_of s n ws ds r in
-    let h = spells o.word o.says o.spelled in
+    let h = spells o.word o.word_value o.spelled in
     record {
       value = v h.0;
       front = word_of_key k ∷ o.word ∷ [];
@@ -120,13 +120,13 @@ before_front Says d k s v n ws ds spells makes says r =
       left = o.left;
       some = omega arith;
       words = ap (λ us. word_of_key k ∷ us) o.words;
-      data_are = ap (λ xs. said k ∷ xs) (o.data_are ∙ ap (λ x. x ∷ o.left) h.2) ∙ ap (λ xs. xs ++ o.left) (makes h.0);
-      says = says o.word h.0 h.1;
+      data_are = ap (λ xs. key_word k ∷ xs) (o.data_are ∙ ap (λ x. x ∷ o.left) h.2) ∙ ap (λ xs. xs ++ o.left) (makes h.0);
+      is_text = is_text o.word h.0 h.1;
       run = o.run;
     }
 
 -- a keyword alone
-alone_front : (k : Key) (n : ℕ) (ws : List Word) (ds : List Datum) (v : Value) → said k ∷ [] ≡ data_of (value_operands v) → SaysValue (word_of_key k ∷ []) v → Runs (due_after n) ws ds → Front n (word_of_key k ∷ ws) (said k ∷ ds)
+alone_front : (k : Key) (n : ℕ) (ws : List Word) (ds : List Datum) (v : Value) → key_word k ∷ [] ≡ data_of (value_operands v) → ValueText (word_of_key k ∷ []) v → Runs (due_after n) ws ds → Front n (word_of_key k ∷ ws) (key_word k ∷ ds)
 alone_front k n ws ds v e h r = record {
   value = v;
   front = word_of_key k ∷ [];
@@ -135,13 +135,13 @@ alone_front k n ws ds v e h r = record {
   some = omega arith;
   words = refl;
   data_are = ap (λ xs. xs ++ ds) e;
-  says = h;
+  is_text = h;
   run = r;
 }
 
 -- what stands after a keyword is a value's
 abbrev Step : ℕ → List Word → List Datum → Key → Type 0
-Step n ws ds k = Runs (due_of_key n k) ws ds → Front n (word_of_key k ∷ ws) (said k ∷ ds)
+Step n ws ds k = Runs (due_of_key n k) ws ds → Front n (word_of_key k ∷ ws) (key_word k ∷ ds)
 
 -- the same of `array`, where the values of shorter lists of words are known
 array_step : (n : ℕ) (ws : List Word) (ds : List Datum) → ((us : List Word) (xs : List Datum) → length us < length ws → Runs (due.Value (suc n)) us xs → Inner n us xs) → Step n ws ds key.Array
@@ -154,10 +154,10 @@ array_step n ws ds shorter r =
     let words : ws ≡ word_of_key key.Open ∷ ((i.inner ++ close) ++ i.back) =
     o.words ∙ ap (λ w. w ∷ o.back) (key_is key.Open o.word o.form) ∙ ap (λ us. word_of_key key.Open ∷ us) (i.words ∙ sym (append_assoc i.inner close i.back)) in
     let others = data_of (values_operands i.values) in
-    let joined : others ++ (said key.Close ∷ i.left) ≡ data_of (values_operands i.values ++ (print.keyword key.Close ∷ [])) ++ i.left =
-    sym (append_assoc others (said key.Close ∷ []) i.left) ∙ ap (λ xs. xs ++ i.left) (sym (data_join (values_operands i.values) (print.keyword key.Close ∷ []))) in
-    let says : ds ≡ said key.Open ∷ (data_of (values_operands i.values ++ (print.keyword key.Close ∷ [])) ++ i.left) =
-    o.data_are ∙ ap (λ x. x ∷ o.left) o.spelled ∙ ap (λ xs. said key.Open ∷ xs) (i.data_are ∙ joined) in
+    let joined : others ++ (key_word key.Close ∷ i.left) ≡ data_of (values_operands i.values ++ (print.keyword key.Close ∷ [])) ++ i.left =
+    sym (append_assoc others (key_word key.Close ∷ []) i.left) ∙ ap (λ xs. xs ++ i.left) (sym (data_join (values_operands i.values) (print.keyword key.Close ∷ []))) in
+    let word_values : ds ≡ key_word key.Open ∷ (data_of (values_operands i.values ++ (print.keyword key.Close ∷ [])) ++ i.left) =
+    o.data_are ∙ ap (λ x. x ∷ o.left) o.spelled ∙ ap (λ xs. key_word key.Open ∷ xs) (i.data_are ∙ joined) in
     record {
       value = content.Array i.values;
       front = word_of_key key.Array ∷ word_of_key key.Open ∷ (i.inner ++ close);
@@ -165,14 +165,14 @@ array_step n ws ds shorter r =
       left = i.left;
       some = omega arith;
       words = ap (λ us. word_of_key key.Array ∷ us) words;
-      data_are = ap (λ xs. said key.Array ∷ xs) says;
-      says = (i.inner, refl, i.says);
+      data_are = ap (λ xs. key_word key.Array ∷ xs) word_values;
+      is_text = (i.inner, refl, i.is_text);
       run = i.run;
     }
 
 -- ---- values
 
-close_front : (n : ℕ) (ws : List Word) (ds : List Datum) → Runs (due_after_close n) ws ds → Closes n (word_of_key key.Close ∷ ws) (said key.Close ∷ ds)
+close_front : (n : ℕ) (ws : List Word) (ds : List Datum) → Runs (due_after_close n) ws ds → Closes n (word_of_key key.Close ∷ ws) (key_word key.Close ∷ ds)
 close_front zero ws ds r = absurd (refused_never ws ds r)
 close_front (suc n) ws ds r = record { outside = n; back = ws; left = ds; is = refl; words = refl; data_are = refl; run = r }
 
@@ -192,7 +192,7 @@ more_inner : (n : ℕ) (ws : List Word) (ds : List Datum) (f : Front (suc n) ws 
 more_inner n ws ds f i =
     let first = data_of (value_operands f.value) in
     let others = data_of (values_operands i.values) in
-    let rest = said key.Close ∷ i.left in
+    let rest = key_word key.Close ∷ i.left in
     record {
       values = more_values f.value i.values;
       inner = f.front ++ i.inner;
@@ -200,7 +200,7 @@ more_inner n ws ds f i =
       left = i.left;
       words = f.words ∙ ap (λ us. f.front ++ us) i.words ∙ sym (append_assoc f.front i.inner (word_of_key key.Close ∷ i.back));
       data_are = f.data_are ∙ ap (λ xs. first ++ xs) i.data_are ∙ sym (append_assoc first others rest) ∙ ap (λ xs. xs ++ rest) (sym (data_join (value_operands f.value) (values_operands i.values)));
-      says = (f.front, i.inner, refl, f.says, i.says);
+      is_text = (f.front, i.inner, refl, f.is_text, i.is_text);
       run = i.run;
     }
 
@@ -213,7 +213,7 @@ ended_inner n ws ds c = let e : c.outside ≡ n = omega (arith, c.is) in record 
   left = c.left;
   words = c.words;
   data_are = c.data_are;
-  says = refl;
+  is_text = refl;
   run = subst (λ (m : ℕ). Runs (due_after m) c.back c.left) e c.run;
 }
 
@@ -258,14 +258,14 @@ mutual
     | inr c ↦ ended_inner n ws ds c
   ]
 
-pub read_is_spelled : (ws : List Word) (v : Value) → IsReadAsValue ws v → SaysValue ws v
-read_is_spelled ws v h = elim (front (length ws) 0 ws h.says (omega arith) (run_of (due.Value 0) ws h.slots h.says h.has_slots h.forms h.spelled)) [
+pub read_is_spelled : (ws : List Word) (v : Value) → IsReadAsValue ws v → ValueText ws v
+read_is_spelled ws v h = elim (front (length ws) 0 ws h.word_values (omega arith) (run_of (due.Value 0) ws h.slots h.word_values h.has_slots h.forms h.spelled)) [
   | inl f ↦
       let end = nothing_more f.back f.left f.run in
       let words : f.front ≡ ws = sym (f.words ∙ ap (λ us. f.front ++ us) end.0 ∙ append-nil f.front) in
       let first = data_of (value_operands f.value) in
-      let data_are : first ≡ h.says = sym (f.data_are ∙ ap (λ xs. first ++ xs) end.1 ∙ append-nil first) in
+      let data_are : first ≡ h.word_values = sym (f.data_are ∙ ap (λ xs. first ++ xs) end.1 ∙ append-nil first) in
       let made : f.value ≡ v = sym (value_made f.value) ∙ ap value_of data_are ∙ h.made in
-      subst (λ (u : Value). SaysValue ws u) made (subst (λ (us : List Word). SaysValue us f.value) words f.says)
+      subst (λ (u : Value). ValueText ws u) made (subst (λ (us : List Word). ValueText us f.value) words f.is_text)
   | inr c ↦ absurd (omega (arith, c.is))
 ]

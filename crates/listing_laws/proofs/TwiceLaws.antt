@@ -58,13 +58,13 @@ never at_top line f = refl
 never (in_class o p) line f = sym (ap not (f o))
 never (in_code o b p) line f = refl
 
-class_says : (b : Block) (n : ℕ) (line : Line) → is_in_class (stage_of b) ≡ true → ((o : Open) → is_some (class_line o line) ≡ not (has_already o line)) → is_some (inside b n line) ≡ not (is_twice b line)
+class_reads : (b : Block) (n : ℕ) (line : Line) → is_in_class (stage_of b) ≡ true → ((o : Open) → is_some (class_line o line) ≡ not (has_already o line)) → is_some (inside b n line) ≡ not (is_twice b line)
 unfolding inside
-class_says b n line e f = in_a_class (λ c. is_some (inside c n line) ≡ not (is_twice c line)) (λ o p. rw some_map (f o)) b e
+class_reads b n line e f = in_a_class (λ c. is_some (inside c n line) ≡ not (is_twice c line)) (λ o p. rw some_map (f o)) b e
 
-code_says : (b : Block) (n : ℕ) (line : Line) → is_in_code (stage_of b) ≡ true → ((c : OpenBody) (p : CodePart) → code_stage p ≡ stage_of b → is_some (code_line c p line) ≡ true) → is_some (inside b n line) ≡ not (is_twice b line)
+code_reads : (b : Block) (n : ℕ) (line : Line) → is_in_code (stage_of b) ≡ true → ((c : OpenBody) (p : CodePart) → code_stage p ≡ stage_of b → is_some (code_line c p line) ≡ true) → is_some (inside b n line) ≡ not (is_twice b line)
 unfolding inside
-code_says b n line e f =
+code_reads b n line e f =
     let P = λ (d : Block). stage_of d ≡ stage_of b → is_some (inside d n line) ≡ not (is_twice d line) in
     in_a_code P (λ o c p q. rw some_map (f (noted c n line) p q)) b e refl
 
@@ -89,13 +89,13 @@ member_given key x ys = member_by key x ys (is_held key (key x) ys) refl
 
 -- ---- a line of a code is given as often as one likes
 
-catch_says : (b : Block) (c : OpenBody) (p : CodePart) (d : Descriptor) (k : ℕ) → is_caught (stage_of b) ≡ true → code_stage p ≡ stage_of b → is_some (code_line c p (catch_line d k)) ≡ true
-catch_says b c (in_try t) d k e q = refl
-catch_says b c _ d k e q = absurd cc
+catch_reads : (b : Block) (c : OpenBody) (p : CodePart) (d : Descriptor) (k : ℕ) → is_caught (stage_of b) ≡ true → code_stage p ≡ stage_of b → is_some (code_line c p (catch_line d k)) ≡ true
+catch_reads b c (in_try t) d k e q = refl
+catch_reads b c _ d k e q = absurd cc
 
-catch_all_says : (b : Block) (c : OpenBody) (p : CodePart) (k : ℕ) → is_caught (stage_of b) ≡ true → code_stage p ≡ stage_of b → is_some (code_line c p (catch_all_line k)) ≡ true
-catch_all_says b c (in_try t) k e q = refl
-catch_all_says b c _ k e q = absurd cc
+catch_all_reads : (b : Block) (c : OpenBody) (p : CodePart) (k : ℕ) → is_caught (stage_of b) ≡ true → code_stage p ≡ stage_of b → is_some (code_line c p (catch_all_line k)) ≡ true
+catch_all_reads b c (in_try t) k e q = refl
+catch_all_reads b c _ k e q = absurd cc
 
 -- ---- all kinds of lines
 
@@ -106,15 +106,15 @@ refused_if_twice s kind.OpenClass ds e = let h : is_top (stage_of s.block) ≡ t
 refused_if_twice s kind.EndClass ds e = rw some_map (in_a_class (λ b. is_some (class_of b) ≡ not (is_twice b end_class)) (λ o p. refl) s.block e)
 refused_if_twice s kind.OpenCode ds e = rw some_map (method_is_after s.block e ∙ never s.block (line_of kind.OpenCode ds) (λ o. refl))
 refused_if_twice s kind.EndCode ds e = rw some_map (in_a_code (λ b. is_some (code_ended b) ≡ not (is_twice b end_code)) (λ o c p. refl) s.block e)
-refused_if_twice s kind.Super ds e = rw some_map (class_says s.block s.lines (line_of kind.Super ds) (class_stands (stage_of s.block) e) (λ o. rw some_map (once o.superclass _)))
-refused_if_twice s kind.Implements ds e = rw some_map (class_says s.block s.lines (line_of kind.Implements ds) (class_stands (stage_of s.block) e) (λ o. interface_given o (type_of (at ds 0)) (is_among o.interfaces (type_of (at ds 0))) refl))
-refused_if_twice s kind.Source ds e = rw some_map (class_says s.block s.lines (line_of kind.Source ds) (class_stands (stage_of s.block) e) (λ o. rw some_map (once o.source _)))
-refused_if_twice s kind.Static ds e = rw some_map (class_says s.block s.lines (line_of kind.Static ds) e (λ o. rw (some_map, some_map) (member_given given_key (record { field = member_of ds; value = None }) o.statics)))
-refused_if_twice s kind.Given ds e = rw some_map (class_says s.block s.lines (line_of kind.Given ds) e (λ o. rw (some_map, some_map) (member_given given_key (record { field = member_of ds; value = Some (value_of (drop 4 ds)) }) o.statics)))
-refused_if_twice s kind.Instance ds e = rw some_map (class_says s.block s.lines (line_of kind.Instance ds) e (λ o. rw (some_map, some_map) (member_given member_key (member_of ds) o.instances)))
-refused_if_twice s kind.Direct ds e = rw some_map (class_says s.block s.lines (line_of kind.Direct ds) e (λ o. rw (some_map, some_map) (member_given method_key (method_of ds) o.directs)))
-refused_if_twice s kind.Virtual ds e = rw some_map (class_says s.block s.lines (line_of kind.Virtual ds) e (λ o. rw (some_map, some_map) (member_given method_key (method_of ds) o.virtuals)))
-refused_if_twice s kind.Try ds e = rw some_map (code_says s.block s.lines (line_of kind.Try ds) e (λ c p q. refl))
-refused_if_twice s kind.Catch ds e = rw some_map (code_says s.block s.lines (line_of kind.Catch ds) (catches_stand (stage_of s.block) e) (λ c p q. catch_says s.block c p (type_of (at ds 0)) (word_of (at ds 1)) e q))
-refused_if_twice s kind.CatchAll ds e = rw some_map (code_says s.block s.lines (line_of kind.CatchAll ds) (catches_stand (stage_of s.block) e) (λ c p q. catch_all_says s.block c p (word_of (at ds 0)) e q))
-refused_if_twice s _ ds e = rw some_map (code_says s.block s.lines _ (insns_stand (stage_of s.block) e) (λ c p q. refl))
+refused_if_twice s kind.Super ds e = rw some_map (class_reads s.block s.lines (line_of kind.Super ds) (class_stands (stage_of s.block) e) (λ o. rw some_map (once o.superclass _)))
+refused_if_twice s kind.Implements ds e = rw some_map (class_reads s.block s.lines (line_of kind.Implements ds) (class_stands (stage_of s.block) e) (λ o. interface_given o (type_of (at ds 0)) (is_among o.interfaces (type_of (at ds 0))) refl))
+refused_if_twice s kind.Source ds e = rw some_map (class_reads s.block s.lines (line_of kind.Source ds) (class_stands (stage_of s.block) e) (λ o. rw some_map (once o.source _)))
+refused_if_twice s kind.Static ds e = rw some_map (class_reads s.block s.lines (line_of kind.Static ds) e (λ o. rw (some_map, some_map) (member_given given_key (record { field = member_of ds; value = None }) o.statics)))
+refused_if_twice s kind.Given ds e = rw some_map (class_reads s.block s.lines (line_of kind.Given ds) e (λ o. rw (some_map, some_map) (member_given given_key (record { field = member_of ds; value = Some (value_of (drop 4 ds)) }) o.statics)))
+refused_if_twice s kind.Instance ds e = rw some_map (class_reads s.block s.lines (line_of kind.Instance ds) e (λ o. rw (some_map, some_map) (member_given member_key (member_of ds) o.instances)))
+refused_if_twice s kind.Direct ds e = rw some_map (class_reads s.block s.lines (line_of kind.Direct ds) e (λ o. rw (some_map, some_map) (member_given method_key (method_of ds) o.directs)))
+refused_if_twice s kind.Virtual ds e = rw some_map (class_reads s.block s.lines (line_of kind.Virtual ds) e (λ o. rw (some_map, some_map) (member_given method_key (method_of ds) o.virtuals)))
+refused_if_twice s kind.Try ds e = rw some_map (code_reads s.block s.lines (line_of kind.Try ds) e (λ c p q. refl))
+refused_if_twice s kind.Catch ds e = rw some_map (code_reads s.block s.lines (line_of kind.Catch ds) (catches_stand (stage_of s.block) e) (λ c p q. catch_reads s.block c p (type_of (at ds 0)) (word_of (at ds 1)) e q))
+refused_if_twice s kind.CatchAll ds e = rw some_map (code_reads s.block s.lines (line_of kind.CatchAll ds) (catches_stand (stage_of s.block) e) (λ c p q. catch_all_reads s.block c p (word_of (at ds 0)) e q))
+refused_if_twice s _ ds e = rw some_map (code_reads s.block s.lines _ (insns_stand (stage_of s.block) e) (λ c p q. refl))

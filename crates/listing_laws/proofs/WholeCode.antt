@@ -8,7 +8,7 @@ use Rattle.listing_words.specs.Words.{plain_word}
 use Rattle.listing_words.specs.inner.Words.{line_bytes}
 use Rattle.listing_slots.specs.declared.key.Key.TheVariants as key
 use Rattle.listing_slots.specs.declared.slot.Slot.TheVariants as slot
-use Rattle.listing_slots.specs.Data.{said}
+use Rattle.listing_slots.specs.Data.{key_word}
 use Rattle.listing_slots.specs.Keys.{key_text, same}
 use Rattle.listing_slots.proofs.ShownLaws.{shown_written}
 use Rattle.listing_slots.specs.declared.kind.Kind.TheVariants as kind
@@ -89,7 +89,7 @@ try_stops form from to text fs line j f =
     let ws = words_in form (line_operands k) in
     let l = line_bytes (keyed_words form k) in
     let e : lines (keyed_text_in form k ++ text) ≡ l ∷ lines text = ap (λ t. lines (t ++ text)) (keyed_is form k) ∙ ap lines (append_assoc l (10 ∷ []) text) ∙ line_first l text (keyed_is_line form k f) in
-    let w : first_word l ≡ key_text key.Try = word_first (key_text key.Try) ws (shown_written (slot.Key key.Try) (said key.Try) refl) in
+    let w : first_word l ≡ key_text key.Try = word_first (key_text key.Try) ws (shown_written (slot.Key key.Try) (key_word key.Try) refl) in
     ap (labels_ahead fs line j) e ∙ ahead_stops fs line j l (lines text) (ap is_skipped (line_is (plain_word (key_text key.Try)) ws) ∙ key_shown k (spaced_words ws)) (ap is_stop w ∙ is_try)
 
 in_front : (a b c d e : List ℕ) → (((a ++ b) ++ c) ++ d) ++ e ≡ a ++ (((b ++ c) ++ d) ++ e)

@@ -1,7 +1,7 @@
 -- Values in the making.
 use Rattle.std.proofs.Common.{◌≡◌, ℕ, ◌+◌, ◌<◌, ◌≤◌, List, [], ◌∷◌, ◌++◌, length, get_or, drop, take, map, refl, sym, ap, ◌∙◌, arith, drop_of_length-le, min}
 use Rattle.std.specs.Prelude.{fold, reverse}
-use Rattle.listing_slots.specs.Data.{Datum, said}
+use Rattle.listing_slots.specs.Data.{Datum, key_word}
 use Rattle.listing_slots.specs.inner.View.{datum}
 use Rattle.listing_slots.specs.declared.datum.Datum.{Datum as Made}
 use Rattle.std.proofs.lemmas.List.{reverse-append, take-map, drop-map, take_min, drop_min}
@@ -21,13 +21,13 @@ fold_end m ds i h = rw (drop_of_length-le ds {i = i} h) refl
 
 -- ---- arrays
 
-pub close_empty : (vs : List Value) (bs cs : List ℕ) → bs ≡ cs ++ [] → length bs ≡ 0 → ◌≡◌ {A = Making} (record { values = vs; begins = reverse cs }) (with_word (record { values = vs; begins = reverse bs }) (said key.Close))
+pub close_empty : (vs : List Value) (bs cs : List ℕ) → bs ≡ cs ++ [] → length bs ≡ 0 → ◌≡◌ {A = Making} (record { values = vs; begins = reverse cs }) (with_word (record { values = vs; begins = reverse bs }) (key_word key.Close))
 close_empty vs [] [] e l = refl
 close_empty vs [] (c ∷ cs) e l = absurd cc
 close_empty vs (b ∷ bs) cs e l = absurd (omega arith)
 
 pub close_one : (vs new : List Value) (bs cs : List ℕ) (begin cut : ℕ) → bs ≡ cs ++ begin ∷ [] → cut ≡ min begin (length vs) → new ≡ take cut vs ++ content.Array (content.values (drop cut vs)) ∷ []
-    → ◌≡◌ {A = Making} (record { values = new; begins = reverse cs }) (with_word (record { values = vs; begins = reverse bs }) (said key.Close))
+    → ◌≡◌ {A = Making} (record { values = new; begins = reverse cs }) (with_word (record { values = vs; begins = reverse bs }) (key_word key.Close))
 close_one vs new bs cs begin cut e f g =
     let r : reverse bs ≡ begin ∷ reverse cs = ap reverse e ∙ reverse-append cs (begin ∷ []) in
     let t : take cut vs ≡ take begin vs = rw f (take_min begin vs) in

@@ -8,18 +8,18 @@ use Rattle.listing_slots.specs.Data.{Datum, word}
 use Rattle.listing_slots.proofs.SpellsOneLaws.{spells_one}
 use Rattle.listing_lines.specs.Labels.{Label, is_target, lookup, marked_by, SpellsLabel, SpellsBy, SpellsHere, SpellsAll, MisspellsAll, fault_here}
 
-label_says_one : (es : List Label) (w : Word) (d e : Datum) → SpellsLabel es w d → SpellsLabel es w e → d ≡ e
-label_says_one es w d e p q =
+label_reads_one : (es : List Label) (w : Word) (d e : Datum) → SpellsLabel es w d → SpellsLabel es w e → d ≡ e
+label_reads_one es w d e p q =
     let i = p.1 in let j = q.1 in
     let t : p.0 ≡ q.0 = cc in
     p.3 ∙ ap (λ (x : List ℕ). word (marked_by (lookup x es))) t ∙ sym q.3
 
 chosen_one : (b : Bool) (es : List Label) (s : Slot) (w : Word) (d e : Datum) → SpellsBy b es s w d → SpellsBy b es s w e → d ≡ e
-chosen_one true es s w d e p q = label_says_one es w d e p q
+chosen_one true es s w d e p q = label_reads_one es w d e p q
 chosen_one false es s w d e p q = spells_one s w d e p q
 
-says_one : (es : List Label) (s : Slot) (w : Word) (d e : Datum) → SpellsHere es s w d → SpellsHere es s w e → d ≡ e
-says_one es s w d e p q = chosen_one (is_target s) es s w d e p q
+reads_one : (es : List Label) (s : Slot) (w : Word) (d e : Datum) → SpellsHere es s w d → SpellsHere es s w e → d ≡ e
+reads_one es s w d e p q = chosen_one (is_target s) es s w d e p q
 
 pub here_one : (es : List Label) (ss : List Slot) (ws : List Word) (ds gs : List Datum) → SpellsAll es ss ws ds → SpellsAll es ss ws gs → ds ≡ gs
 here_one es [] [] [] [] p q = refl
@@ -29,7 +29,7 @@ here_one es [] (w ∷ ws) ds gs p q = absurd p
 here_one es (s ∷ ss) [] ds gs p q = absurd p
 here_one es (s ∷ ss) (w ∷ ws) [] gs p q = absurd p
 here_one es (s ∷ ss) (w ∷ ws) (d ∷ ds) [] p q = absurd q
-here_one es (s ∷ ss) (w ∷ ws) (d ∷ ds) (g ∷ gs) p q = let e = says_one es s w d g p.0 q.0 in let f = here_one es ss ws ds gs p.1 q.1 in cc
+here_one es (s ∷ ss) (w ∷ ws) (d ∷ ds) (g ∷ gs) p q = let e = reads_one es s w d g p.0 q.0 in let f = here_one es ss ws ds gs p.1 q.1 in cc
 
 pub here_bad : (es : List Label) (ss : List Slot) (ws : List Word) (ds : List Datum) (code : ℕ) → SpellsAll es ss ws ds → MisspellsAll es ss ws code → ⊥
 here_bad es [] ws ds code p q = q

@@ -1,4 +1,4 @@
--- What a line says.
+-- The meaning of a line.
 -- Page: docs/LISTING.md, "The lines", "Values".
 use Rattle.std.specs.Prelude.{ℕ, min, ◌-◌, List, [], ◌∷◌, ◌++◌, length, take, drop, map, fold, Option, Some, None, true, false}
 use Rattle.dex_insn.specs.declared.opcode.Format.{Format}
@@ -9,7 +9,7 @@ use Rattle.program_types.specs.Content.{Units, Descriptor, Value, Insn, Member, 
 use Rattle.listing_slots.specs.declared.kind.Kind.{Kind}
 use Rattle.listing_slots.specs.declared.kind.Kind.TheVariants as kind
 use Rattle.listing_slots.specs.declared.key.Key.TheVariants as key
-use Rattle.listing_slots.specs.Data.{Datum, byte, half, word, wide, tiny, short, int, long, elements, named, constant, prototype, said, at, byte_of, half_of, word_of, tiny_of, short_of, int_of, long_of, elements_of, name_of, text_of, type_of, proto_of}
+use Rattle.listing_slots.specs.Data.{Datum, byte, half, word, wide, tiny, short, int, long, elements, named, constant, prototype, key_word, at, byte_of, half_of, word_of, tiny_of, short_of, int_of, long_of, elements_of, name_of, text_of, type_of, proto_of}
 
 -- ---- instructions
 
@@ -60,12 +60,12 @@ close_array m begin others = record { values = take begin m.values ++ content.Ar
 
 -- One word more: a bracket opens or closes an array, a value joins the others.
 abbrev pub with_word : Making → Datum → Making
-with_word m (said key.Open) = record m { begins = length m.values ∷ m.begins }
-with_word m (said key.Close) = elim m.begins [ [] ↦ m | begin ∷ others ↦ close_array m begin others ]
-with_word m (said key.Null) = with_value m content.Null
-with_word m (said key.True) = with_value m (content.Boolean true)
-with_word m (said key.False) = with_value m (content.Boolean false)
-with_word m (said _) = m
+with_word m (key_word key.Open) = record m { begins = length m.values ∷ m.begins }
+with_word m (key_word key.Close) = elim m.begins [ [] ↦ m | begin ∷ others ↦ close_array m begin others ]
+with_word m (key_word key.Null) = with_value m content.Null
+with_word m (key_word key.True) = with_value m (content.Boolean true)
+with_word m (key_word key.False) = with_value m (content.Boolean false)
+with_word m (key_word _) = m
 with_word m (byte n) = m
 with_word m (half n) = with_value m (content.Char n)
 with_word m (word n) = with_value m (content.Float n)
@@ -84,7 +84,7 @@ abbrev pub first_value : List Value → Value
 first_value [] = content.Null
 first_value (v ∷ vs) = v
 
--- The value that the words say.
+-- The value of the words.
 unfoldable pub value_of : List Datum → Value
 value_of ds = first_value (fold with_word (record { values = []; begins = [] }) ds).values
 
@@ -109,11 +109,11 @@ pub data Line : Type 0 where
   catch_line : Descriptor → ℕ → Line
   catch_all_line : ℕ → Line
 
--- The field that the words say: name, type, flags.
+-- The field of the words: name, type, flags.
 abbrev pub member_of : List Datum → Member
 member_of ds = record { name = text_of (at ds 0); ty = type_of (at ds 1); flags = word_of (at ds 2) }
 
--- The method that the words say, its code still open: name, prototype, flags.
+-- The method of the words, its code still open: name, prototype, flags.
 abbrev pub method_of : List Datum → Method
 method_of ds = record { name = text_of (at ds 0); proto = proto_of (at ds 1); flags = word_of (at ds 2); code = None }
 
@@ -123,7 +123,7 @@ alternate [] = []
 alternate (x ∷ []) = x ∷ []
 alternate (x ∷ y ∷ xs) = x ∷ alternate xs
 
--- The line of this kind whose slots say this.
+-- The line of this kind with these values of its words.
 unfoldable pub line_of : Kind → List Datum → Line
 line_of kind.First ds = first_line
 line_of kind.OpenClass ds = open_class (type_of (at ds 0)) (word_of (at ds 1))

@@ -3,7 +3,7 @@
 ghost use Rattle.std.specs.Prelude.{◌≡◌};
 ghost use Rattle.listing_lines.specs.Forms.{is_two};
 
-/// How a listing tells instructions and targets: by numbers, or by labels.
+/// How a listing names instructions and targets: by numbers, or by labels.
 #[derive(Clone, Copy)]
 pub enum Form {
     One,

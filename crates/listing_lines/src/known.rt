@@ -13,14 +13,14 @@ use std::alloc::Global;
 use std::cmp::Ordering;
 use std::marker::Model;
 
-/// The line that a label stands on, and the number of the instruction that it marks.
+/// The line of a label, and the number of the instruction that it marks.
 #[derive(Clone, Copy)]
 pub struct Place {
     pub line: u64,
     pub number: u64,
 }
 
-/// The labels of a code, the first of each name. It stands for the list of them in the order of their lines.
+/// The labels of a code, the first of each name. Its model is the list of them in the order of their lines.
 ///
 /// The names of a listing that was printed rise: shorter ones come first, and those of one length by their bytes. As long as
 /// names do, they are put without a hash.

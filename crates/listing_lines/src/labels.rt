@@ -1,17 +1,17 @@
-//! Labels: how they are spelled, what they mark, and what words say where they stand.
+//! Labels: how they are written, what they mark, and the values of words in their slots.
 
 ghost use Rattle.std.specs.Prelude.{◌≡◌, ◌<◌, ◌+◌, ◌^◌, ◌∷◌, [], false, Some, map, length, IfOk, IfSome, IfNone, OnOk, IsOkUnless};
 ghost use Rattle.dex_base.specs.Fault.{memory};
 ghost use Rattle.listing_words.specs.Words.{plain_word, up_to_space};
 ghost use Rattle.listing_words.specs.inner.View.{word};
-ghost use Rattle.listing_slots.specs.Data.{Datum as Said, word as word_said};
+ghost use Rattle.listing_slots.specs.Data.{Datum as SpecDatum, word as word_datum};
 ghost use Rattle.listing_slots.specs.inner.ValidNames.{IsValidDatum, StayValid};
 ghost use Rattle.listing_slots.specs.inner.View.{datum};
 ghost use Rattle.listing_slots.specs.Slots.{SpellsSlot};
 ghost use Rattle.listing_slots.specs.declared.slot.Slot.TheVariants as Slot;
 ghost use Rattle.listing_lines.specs.Splitting.{lines, is_comment};
-ghost use Rattle.listing_lines.specs.Labels as says;
-ghost use Rattle.listing_lines.specs.inner.Labels as inner_says;
+ghost use Rattle.listing_lines.specs.Labels as spec;
+ghost use Rattle.listing_lines.specs.inner.Labels as inner_spec;
 ghost use Rattle.listing_lines.specs.Labels.{SpellsHere, SpellsAll, MisspellsAll};
 
 use crate::known::{Labels, Place};
@@ -23,16 +23,16 @@ use listing_slots::{
 };
 use listing_words::{Word, after_spaces};
 
-/// Whether a byte can stand in a label.
+/// Whether a label may have this byte.
 fn is_name_byte(c: u8) -> bool
-    ensures { result ≡ says.is_name_byte c }
+    ensures { result ≡ spec.is_name_byte c }
 {
     matches!(c, b'0'..=b'9' | b'A'..=b'Z' | b'a'..=b'z' | b'_')
 }
 
 /// Whether all bytes can.
 fn are_name_bytes(name: &[u8]) -> bool
-    ensures { result ≡ says.are_name_bytes name.now }
+    ensures { result ≡ spec.are_name_bytes name.now }
 {
     for c in name {
         if !is_name_byte(*c) {
@@ -44,7 +44,7 @@ fn are_name_bytes(name: &[u8]) -> bool
 
 /// Whether a word begins with `:`.
 pub fn is_mark(word: &[u8]) -> bool
-    ensures { result ≡ says.is_mark word.now }
+    ensures { result ≡ spec.is_mark word.now }
 {
     match word.split_first() {
         Some((first, _)) => *first == b':',
@@ -54,7 +54,7 @@ pub fn is_mark(word: &[u8]) -> bool
 
 /// Whether a word is `:` and 1 to 32 letters, digits or `_`.
 pub fn is_label(word: &[u8]) -> bool
-    ensures { result ≡ says.is_label word.now }
+    ensures { result ≡ spec.is_label word.now }
 {
     let Some((first, name)) = word.split_first() else {
         return false;
@@ -62,7 +62,7 @@ pub fn is_label(word: &[u8]) -> bool
     *first == b':' && 0 < name.len() && name.len() <= 32 && are_name_bytes(name)
 }
 
-/// What stands before the first space.
+/// The text before the first space.
 fn up_to_space(text: &[u8]) -> &[u8]
     ensures { result.now ≡ up_to_space text.now }
 {
@@ -75,7 +75,7 @@ fn up_to_space(text: &[u8]) -> &[u8]
     text
 }
 
-/// Whether a line says nothing whose spaces at the front are left out.
+/// Whether a line without its leading spaces is ignored.
 fn is_comment(words: &[u8]) -> bool
     ensures { result ≡ is_comment words.now }
 {
@@ -87,7 +87,7 @@ fn is_comment(words: &[u8]) -> bool
 
 /// Whether the instructions end at a line of these words.
 fn is_stop(words: &[u8]) -> bool
-    ensures { result ≡ says.is_stop (up_to_space words.now) }
+    ensures { result ≡ spec.is_stop (up_to_space words.now) }
 {
     // Both words begin otherwise than most mnemonics.
     let Some((first, _)) = words.split_first() else {
@@ -101,12 +101,12 @@ fn is_stop(words: &[u8]) -> bool
 }
 
 /// Puts the labels of the code whose first line begins the text, which is the line of this number, in place of those that
-/// are there. It answers how many instructions the code has, for a caller that takes room for them. It fails only when out
-/// of memory.
+/// are there. Returns the number of instructions of the code, for a caller that reserves memory for them. It fails only
+/// when out of memory.
 pub fn look_ahead<'t>(labels: &mut Labels<'t>, text: &'t [u8], first: u64) -> Result<usize, Fault>
     requires { first + length text.now < 2 ^ 64 }
-    ensures ahead { OnOk result (labels.new ≡ says.labels_ahead [] first 0 (lines text.now)) }
-    ensures count { IfOk result (λ count. count ≡ inner_says.insns_ahead (lines text.now)) }
+    ensures ahead { OnOk result (labels.new ≡ spec.labels_ahead [] first 0 (lines text.now)) }
+    ensures count { IfOk result (λ count. count ≡ inner_spec.insns_ahead (lines text.now)) }
     ensures memory { IsOkUnless result memory }
 {
     labels.clear();
@@ -137,7 +137,7 @@ pub fn look_ahead<'t>(labels: &mut Labels<'t>, text: &'t [u8], first: u64) -> Re
 
 /// The instruction that the label of this name marks.
 fn marked(labels: &Labels<'_>, near: usize, name: &[u8]) -> u32
-    ensures { result ≡ says.marked_by (says.lookup name.now labels.now) }
+    ensures { result ≡ spec.marked_by (spec.lookup name.now labels.now) }
 {
     match labels.place_of(near, name) {
         Some(place) => place.number.min(4294967295) as u32,
@@ -145,14 +145,14 @@ fn marked(labels: &Labels<'_>, near: usize, name: &[u8]) -> u32
     }
 }
 
-/// Whether a target stands in the slot.
+/// Whether the slot is that of a target.
 fn is_target(slot: Slot) -> bool
-    ensures { result ≡ says.is_target slot }
+    ensures { result ≡ spec.is_target slot }
 {
     matches!(slot, Slot::Word(Mark::Target, _))
 }
 
-/// The number of the instruction that a label marks, as a target says it; none where the text is no label. The label at
+/// The number of the instruction that a label marks; `None` if the text is not a label. The label at
 /// the index `near` is found without hashing its name. A label that isn't there marks the highest number of 32 bits,
 /// which is no instruction.
 ///
@@ -160,8 +160,8 @@ fn is_target(slot: Slot) -> bool
 /// read_target(&labels, 0, b":1")   // Some(5), where `:1` stands before the sixth instruction; None for `1`
 /// ```
 pub fn read_target(labels: &Labels<'_>, near: usize, text: &[u8]) -> Option<u32>
-    ensures found { IfSome result (λ n. says.SpellsLabel labels.now (plain_word text.now) (word_said n)) }
-    ensures none { IfNone result (says.is_label text.now ≡ false) }
+    ensures found { IfSome result (λ n. spec.SpellsLabel labels.now (plain_word text.now) (word_datum n)) }
+    ensures none { IfNone result (spec.is_label text.now ≡ false) }
 {
     if is_label(text) {
         return Some(marked(labels, near, text));
@@ -169,10 +169,10 @@ pub fn read_target(labels: &Labels<'_>, near: usize, text: &[u8]) -> Option<u32>
     None
 }
 
-/// What a word says where a target stands.
+/// The value of a word in the slot of a target.
 fn read_label<'a>(labels: &Labels<'_>, near: usize, one: Word<'a, '_>) -> Option<Datum<'a>>
-    ensures found { IfSome result (λ d. says.SpellsLabel labels.now (word one.entry) (datum d)) }
-    ensures none { IfNone result ((d : Said) → says.SpellsLabel labels.now (word one.entry) d → ⊥) }
+    ensures found { IfSome result (λ d. spec.SpellsLabel labels.now (word one.entry) (datum d)) }
+    ensures none { IfNone result ((d : SpecDatum) → spec.SpellsLabel labels.now (word one.entry) d → ⊥) }
     ensures valid { IfSome result (λ d. IsValidDatum (datum d)) }
 {
     match one {
@@ -186,16 +186,16 @@ fn read_label<'a>(labels: &Labels<'_>, near: usize, one: Word<'a, '_>) -> Option
     }
 }
 
-/// What a word says where a number of eight bits stands.
+/// The value of a word in the slot of a number of eight bits.
 fn read_byte<'a>(mark: Mark, most: u8, one: Word<'_, '_>) -> Option<Datum<'a>>
     ensures found { IfSome result (λ d. SpellsSlot (Slot.Byte mark most) (word one.entry) (datum d)) }
-    ensures none { IfNone result ((d : Said) → SpellsSlot (Slot.Byte mark most) (word one.entry) d → ⊥) }
+    ensures none { IfNone result ((d : SpecDatum) → SpellsSlot (Slot.Byte mark most) (word one.entry) d → ⊥) }
     ensures valid { IfSome result (λ d. IsValidDatum (datum d)) }
 {
     Some(Datum::Byte(read_marked(mark, one, most as u64)? as u8))
 }
 
-/// What a word says in a slot of the second form. Most slots are of labels, keywords and short numbers: these come first.
+/// The value of a word in a slot of the second form. Most slots are of labels, keywords and short numbers: these come first.
 fn read_here<'a, 'b>(
     spelled: &mut Spelled<'a, 'b>,
     arena: &'a Bump,
@@ -205,7 +205,7 @@ fn read_here<'a, 'b>(
     one: Word<'a, 'b>,
 ) -> Result<Option<Datum<'a>>, Fault>
     ensures found { IfOk result (λ r. IfSome r (λ d. SpellsHere labels.now slot (word one.entry) (datum d))) }
-    ensures none { IfOk result (λ r. IfNone r ((d : Said) → SpellsHere labels.now slot (word one.entry) d → ⊥)) }
+    ensures none { IfOk result (λ r. IfNone r ((d : SpecDatum) → SpellsHere labels.now slot (word one.entry) d → ⊥)) }
     ensures valid { IfOk result (λ r. IfSome r (λ d. StayValid spelled.old spelled.new (datum d ∷ []))) }
     ensures memory { IsOkUnless result memory }
 {
@@ -219,9 +219,9 @@ fn read_here<'a, 'b>(
     }
 }
 
-/// The fault of a word that says nothing there.
+/// The fault of a word without a value there.
 fn fault_here(slot: Slot) -> u16
-    ensures { result ≡ says.fault_here slot }
+    ensures { result ≡ spec.fault_here slot }
 {
     if is_target(slot) {
         return fault::LINE_NAME;
@@ -229,7 +229,7 @@ fn fault_here(slot: Slot) -> u16
     fault_of(slot)
 }
 
-/// What these words say in these slots of the second form; else the fault of the first that says nothing there. The label
+/// The values of these words in these slots of the second form; otherwise the fault of the first word without one. The label
 /// at the index `near` is found without hashing its name.
 pub fn read_all<'a, 'b>(
     spelled: &mut Spelled<'a, 'b>,
@@ -238,21 +238,21 @@ pub fn read_all<'a, 'b>(
     near: usize,
     slots: &[Slot],
     words: &[Word<'a, 'b>],
-    says: &mut Vec<Datum<'a>>,
+    word_values: &mut Vec<Datum<'a>>,
 ) -> Result<Option<u16>, Fault>
     requires { length slots.now ≡ length words.now }
-    ensures all { IfOk result (λ r. IfNone r (SpellsAll labels.now slots.now (map word words.now) (map datum says.new.items))) }
+    ensures all { IfOk result (λ r. IfNone r (SpellsAll labels.now slots.now (map word words.now) (map datum word_values.new.items))) }
     ensures bad { IfOk result (λ r. IfSome r (λ code. MisspellsAll labels.now slots.now (map word words.now) code)) }
-    ensures valid { IfOk result (λ r. IfNone r (StayValid spelled.old spelled.new (map datum says.new.items))) }
+    ensures valid { IfOk result (λ r. IfNone r (StayValid spelled.old spelled.new (map datum word_values.new.items))) }
     ensures memory { IsOkUnless result memory }
 {
-    says.clear();
-    says.reserve(slots.len())?;
+    word_values.clear();
+    word_values.reserve(slots.len())?;
     for i in 0..slots.len() {
-        let Some(said) = read_here(spelled, arena, labels, near, slots[i], words[i])? else {
+        let Some(word_value) = read_here(spelled, arena, labels, near, slots[i], words[i])? else {
             return Ok(Some(fault_here(slots[i])));
         };
-        says.push_reserved(said);
+        word_values.push_reserved(word_value);
     }
     Ok(None)
 }

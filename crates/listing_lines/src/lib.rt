@@ -3,7 +3,7 @@
 //!
 //! ```text
 //! make_line(arena, Kind::Try, &[Datum::Word(0), Datum::Word(5)])?   // Line::Try(0, 5)
-//! may_stand(Stage::Top, Kind::Try)                                 // false: a try stands in code alone
+//! may_stand(Stage::Top, Kind::Try)                                 // false: a try line is in code alone
 //! line_needs(&Line::Try(0, 5))                                     // 5
 //! is_label(b":L12")                                                // true
 //! look_ahead(&mut labels, after, 6)?                               // the labels of the code whose first line is the sixth

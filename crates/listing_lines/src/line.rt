@@ -2,7 +2,7 @@
 
 use program_types::{Desc, Insn, Member, Method, Str, Value};
 
-/// What a line says.
+/// The meaning of a line.
 #[derive(Clone, Copy)]
 pub enum Line<'a> {
     First,

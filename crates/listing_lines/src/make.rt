@@ -1,4 +1,4 @@
-//! Instructions, fields and methods made of what their slots say.
+//! Instructions, fields and methods from the values of their words.
 
 ghost use Rattle.std.specs.Prelude.{◌≡◌, map, Some};
 ghost use Rattle.program_types.specs.View.{insn, member, method};
@@ -15,12 +15,12 @@ use program_types::{Insn, Member, Method};
 /// The instruction of this opcode and these operands.
 #[rattlefmt::skip]
 #[tactic(auto, unfolding(crate::specs::Lines::insn_of))]
-pub(crate) fn plain_insn<'a>(format: Format, op: u8, said: &[Datum<'a>]) -> Insn<'a>
-    ensures { insn result ≡ insn_of (Some format) op (map datum said.now) }
+pub(crate) fn plain_insn<'a>(format: Format, op: u8, word_values: &[Datum<'a>]) -> Insn<'a>
+    ensures { insn result ≡ insn_of (Some format) op (map datum word_values.now) }
 {
-    let first = datum_at(said, 0);
-    let second = datum_at(said, 1);
-    let third = datum_at(said, 2);
+    let first = datum_at(word_values, 0);
+    let second = datum_at(word_values, 1);
+    let third = datum_at(word_values, 2);
     match format {
         Format::F10x => Insn::I10x { op },
         Format::F12x => Insn::I12x { op, a: byte_of(first), b: byte_of(second) },
@@ -44,15 +44,15 @@ pub(crate) fn plain_insn<'a>(format: Format, op: u8, said: &[Datum<'a>]) -> Insn
         Format::F31t => Insn::I31t { op, a: byte_of(first), to: word_of(second) },
         Format::F31c => Insn::I31c { op, a: byte_of(first), name: name_of(second) },
         Format::F35c => {
-            let n = said.len().saturating_sub(3).min(255) as u8;
+            let n = word_values.len().saturating_sub(3).min(255) as u8;
             let regs = [
                 byte_of(second),
                 byte_of(third),
-                byte_of(datum_at(said, 3)),
-                byte_of(datum_at(said, 4)),
-                byte_of(datum_at(said, 5)),
+                byte_of(datum_at(word_values, 3)),
+                byte_of(datum_at(word_values, 4)),
+                byte_of(datum_at(word_values, 5)),
             ];
-            Insn::I35c { op, n, regs, name: name_of(datum_at(said, said.len().saturating_sub(1))) }
+            Insn::I35c { op, n, regs, name: name_of(datum_at(word_values, word_values.len().saturating_sub(1))) }
         }
         Format::F3rc => Insn::I3rc { op, n: byte_of(second), first: half_of(first), name: name_of(third) },
         Format::F51l => Insn::I51l { op, a: byte_of(first), b: long_of(second) },
@@ -60,24 +60,24 @@ pub(crate) fn plain_insn<'a>(format: Format, op: u8, said: &[Datum<'a>]) -> Insn
 }
 
 /// The field.
-pub(crate) fn make_member<'a>(said: &[Datum<'a>]) -> Member<'a>
-    ensures { member result ≡ member_of (map datum said.now) }
+pub(crate) fn make_member<'a>(word_values: &[Datum<'a>]) -> Member<'a>
+    ensures { member result ≡ member_of (map datum word_values.now) }
 {
     Member {
-        name: text_of(datum_at(said, 0)),
-        ty: type_of(datum_at(said, 1)),
-        flags: word_of(datum_at(said, 2)),
+        name: text_of(datum_at(word_values, 0)),
+        ty: type_of(datum_at(word_values, 1)),
+        flags: word_of(datum_at(word_values, 2)),
     }
 }
 
 /// The method, without code.
-pub(crate) fn make_method<'a>(said: &[Datum<'a>]) -> Method<'a>
-    ensures { method result ≡ method_of (map datum said.now) }
+pub(crate) fn make_method<'a>(word_values: &[Datum<'a>]) -> Method<'a>
+    ensures { method result ≡ method_of (map datum word_values.now) }
 {
     Method {
-        name: text_of(datum_at(said, 0)),
-        proto: proto_of(datum_at(said, 1)),
-        flags: word_of(datum_at(said, 2)),
+        name: text_of(datum_at(word_values, 0)),
+        proto: proto_of(datum_at(word_values, 1)),
+        flags: word_of(datum_at(word_values, 2)),
         code: None,
     }
 }

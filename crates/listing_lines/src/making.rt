@@ -1,4 +1,4 @@
-//! Values made of what the words say.
+//! Values from the values of their words.
 
 ghost use Rattle.std.specs.Prelude.{◌≡◌, map, IfOk, OnOk, IsOkUnless};
 ghost use Rattle.dex_base.specs.Fault.{memory};
@@ -23,10 +23,10 @@ pub(crate) struct Making<'a> {
 }
 
 /// The value of a name.
-fn named(said: Name<'_>) -> Value<'_>
-    ensures { value result ≡ content.Named (name said.entry) }
+fn named(word_value: Name<'_>) -> Value<'_>
+    ensures { value result ≡ content.Named (name word_value.entry) }
 {
-    match said {
+    match word_value {
         Name::Text(text) => Value::Text(text),
         Name::Desc(ty) => Value::Desc(ty),
         Name::Field(field) => Value::Field(field),
@@ -88,11 +88,11 @@ impl<'a> Making<'a> {
         }
     }
 
-    fn put_word(&mut self, alloc: &'a Bump, said: Datum<'a>) -> Result<(), Fault>
-        ensures put { OnOk result (making self.new ≡ with_word (making self.old) (datum said.entry)) }
+    fn put_word(&mut self, alloc: &'a Bump, word_value: Datum<'a>) -> Result<(), Fault>
+        ensures put { OnOk result (making self.new ≡ with_word (making self.old) (datum word_value.entry)) }
         ensures memory { IsOkUnless result memory }
     {
-        match said {
+        match word_value {
             Datum::Key(key) => self.put_key(alloc, key),
             Datum::Half(n) => self.put(Value::Char(n)),
             Datum::Word(n) => self.put(Value::Float(n)),
@@ -108,7 +108,7 @@ impl<'a> Making<'a> {
     }
 }
 
-/// The value that the words say.
+/// The value of the words.
 pub(crate) fn make_value<'a>(alloc: &'a Bump, words: &[Datum<'a>]) -> Result<Value<'a>, Fault>
     ensures ok { IfOk result (λ v. value v ≡ value_of (map datum words.now)) }
     ensures memory { IsOkUnless result memory }

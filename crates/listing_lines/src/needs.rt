@@ -3,7 +3,7 @@
 ghost use Rattle.std.specs.Prelude.{◌≡◌, ◌+◌, ◌<◌, map, max};
 ghost use Rattle.program_types.specs.View.{insn};
 ghost use Rattle.listing_lines.specs.inner.LineView.{line};
-ghost use Rattle.listing_lines.specs.Needs as said;
+ghost use Rattle.listing_lines.specs.Needs as spec;
 ghost use Rattle.listing_lines.specs.inner.NeedView.{need};
 
 use crate::line::Line;
@@ -18,7 +18,7 @@ pub struct Need {
 
 /// More than each target.
 fn most_needed(targets: &[u32]) -> u64
-    ensures { result ≡ said.most_needed targets.now }
+    ensures { result ≡ spec.most_needed targets.now }
 {
     let mut most = 0u64;
     for target in targets {
@@ -27,16 +27,16 @@ fn most_needed(targets: &[u32]) -> u64
     most
 }
 
-/// How many instructions the targets of an instruction ask for.
+/// The number of instructions that the targets of an instruction need.
 pub fn insn_needs(one: &Insn<'_>) -> u64
-    ensures { result ≡ said.insn_needs (insn one.now) }
+    ensures { result ≡ spec.insn_needs (insn one.now) }
 {
     most_needed(leads_of(one))
 }
 
-/// How many instructions the targets of a line ask for.
+/// The number of instructions that the targets of a line need.
 pub fn line_needs(one: &Line<'_>) -> u64
-    ensures { result ≡ said.line_needs (line one.now) }
+    ensures { result ≡ spec.line_needs (line one.now) }
 {
     match one {
         Line::Insn(insn) => insn_needs(insn),
@@ -50,7 +50,7 @@ pub fn line_needs(one: &Line<'_>) -> u64
 /// The first line that needs more instructions than there are.
 #[tactic(auto, unfolding(crate::specs::Needs::first_late))]
 pub fn first_late(count: u64, needs: &[Need]) -> Option<u64>
-    ensures { result ≡ said.first_late count (map need needs.now) }
+    ensures { result ≡ spec.first_late count (map need needs.now) }
 {
     for one in needs {
         if count < one.count {

@@ -1,4 +1,4 @@
-//! Where a line stands.
+//! Where a line is.
 
 ghost use Rattle.std.specs.Prelude.{◌≡◌};
 ghost use Rattle.listing_lines.specs.Places.{may_stand, is_insn, is_start, is_top, is_heads, is_in_class, is_after, is_insns, is_in_code, is_caught};
@@ -92,7 +92,7 @@ pub fn is_insn(kind: Kind) -> bool
     )
 }
 
-/// Whether such a line may stand there.
+/// Whether such a line is allowed there.
 #[rattlefmt::skip]
 #[tactic(auto, unfolding(crate::specs::Places::may_stand))]
 pub fn may_stand(stage: Stage, kind: Kind) -> bool

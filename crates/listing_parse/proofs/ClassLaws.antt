@@ -8,13 +8,13 @@ use Rattle.program_rules.specs.Rules.{member_key, method_key}
 use Rattle.listing_lines.specs.Lines.{Line, open_class, end_class}
 use Rattle.listing_parse.specs.Members.{Given, given_key, values_of}
 use Rattle.listing_parse.specs.States.{Open, at_heads, at_top, State, opened, closed, with_block, add}
-use Rattle.listing_parse.specs.Codes.{Numbered, said}
+use Rattle.listing_parse.specs.Codes.{Numbered, unnumbered}
 use Rattle.listing_parse.specs.Classes.{AreSorted, entry_lines, static_in, instance_in, direct_in, virtual_in, ClassText, ClassesText}
 use Rattle.listing_parse.specs.inner.Runs.{at_line, Runs, with_class, with_classes, RunsBehindClass, RunsToClasses}
 use Rattle.listing_parse.proofs.CodeLaws.{next, again}
 use Rattle.listing_parse.proofs.HeldLaws.{ArePut, put_are_held, held_are_put}
 use Rattle.listing_parse.proofs.ValueLaws.{values_one, values_there}
-use Rattle.listing_parse.proofs.Numbering.{more_front, front_then, goes, starts, splits, none_said, said_append, length_after, within, after_class}
+use Rattle.listing_parse.proofs.Numbering.{more_front, front_then, goes, starts, splits, none_read, read_append, length_after, within, after_class}
 use Rattle.listing_parse.proofs.HeadLaws.{with_heads, heads_read, heads_go}
 use Rattle.listing_parse.proofs.MemberLaws.{with_members, members_read, members_go}
 
@@ -49,7 +49,7 @@ class_read s t n fl d ls top fine r =
       is_text = record {
         heads = h.heads;
         entries = m.entries;
-        lines = f.says;
+        lines = f.word_values;
         are_heads = h.are_heads;
         superclass = h.superclass;
         interfaces = h.interfaces;
@@ -62,7 +62,7 @@ class_read s t n fl d ls top fine r =
         instances = held_from member_key head.instances (flat_map instance_in m.entries) o.instances none.1 m.instances;
         directs = held_from method_key head.directs (flat_map direct_in m.entries) o.directs none.2 m.directs;
         virtuals = held_from method_key head.virtuals (flat_map virtual_in m.entries) o.virtuals none.3 m.virtuals;
-        targets = m.leads;
+        targets = m.reaches;
       };
       runs = subst (λ x. Runs (with_class s x) f.after t) e (again (after_class s.done s.late o m.behind.line) t f.after s.lines m.behind.runs);
     }
@@ -72,7 +72,7 @@ given_class : (c : Class) (gs : List Given) → map (λ (g : Given). g.field) gs
     → closed (with_members (with_heads (opened c.ty c.flags) c.superclass c.interfaces c.source) gs c.instances c.directs c.virtuals) ≡ c
 given_class c gs e f = ap (λ x. record c { statics = x; values = values_of gs }) e ∙ ap (λ x. record c { values = x }) (sym f)
 
-pub class_runs : (s t : State) (c : Class) (text after : List Numbered) → ClassText (said text) c → Runs (with_class s c) after t → Runs (with_block s at_top) (text ++ after) t
+pub class_runs : (s t : State) (c : Class) (text after : List Numbered) → ClassText (unnumbered text) c → Runs (with_class s c) after t → Runs (with_block s at_top) (text ++ after) t
 unfolding add
 class_runs s t c text after x r =
     let o = opened c.ty c.flags in
@@ -80,7 +80,7 @@ class_runs s t c text after x r =
     let f = with_members h x.statics c.instances c.directs c.virtuals in
     let more = flat_map entry_lines x.entries ++ end_class ∷ [] in
     let st = starts text (open_class c.ty c.flags) (x.heads ++ more) x.lines in
-    let sp = splits st.rest x.heads more st.says in
+    let sp = splits st.rest x.heads more st.word_values in
     let e : closed f ≡ c = given_class c x.statics x.fields (values_one x.statics c.values x.values) in
     let r1 = subst (λ y. Runs (with_class s y) after t) (sym e) r in
     let m : (k : ℕ) → Runs (within at_heads s.done s.late h k) (sp.back ++ after) t =
@@ -96,7 +96,7 @@ class_goes s t ls x = subst (λ ys. Runs (with_block s at_top) ys t) (sym x.spli
 
 -- ---- all classes
 
-fewer : (l : Numbered) (ls text after : List Numbered) (x : Line) (xs : List Line) (f : ℕ) → l ∷ ls ≡ text ++ after → said text ≡ x ∷ xs → length (l ∷ ls) ≤ suc f → length after ≤ f
+fewer : (l : Numbered) (ls text after : List Numbered) (x : Line) (xs : List Line) (f : ℕ) → l ∷ ls ≡ text ++ after → unnumbered text ≡ x ∷ xs → length (l ∷ ls) ≤ suc f → length after ≤ f
 fewer l ls [] after x xs f e h q = absurd cc
 fewer l ls (k ∷ text) after x xs f e h q = let t : ls ≡ text ++ after = cc in let m = length_after ls text after t in omega arith
 
@@ -109,7 +109,7 @@ classes_by (suc f) s t ((n, open_class d fl) ∷ ls) q top fine r =
     let y = classes_by f (with_class s x.class) t x.after few top fine x.runs in
     record {
       classes = x.class ∷ y.classes;
-      are_texts = (said x.text, said x.after, ap said x.split ∙ said_append x.text x.after, x.is_text, y.are_texts);
+      are_texts = (unnumbered x.text, unnumbered x.after, ap unnumbered x.split ∙ read_append x.text x.after, x.is_text, y.are_texts);
       whole = y.whole ∙ ap (λ z. record s { done = z; block = at_top; lines = t.lines }) (append_assoc s.done (x.class ∷ []) y.classes);
     }
 classes_by (suc f) s t ((n, l) ∷ ls) q top fine r = let h = r.1.stands in absurd cc
@@ -117,10 +117,10 @@ classes_by (suc f) s t ((n, l) ∷ ls) q top fine r = let h = r.1.stands in absu
 pub classes_read : (s t : State) (ls : List Numbered) → t.block ≡ at_top → t.late ≡ None → Runs (with_block s at_top) ls t → RunsToClasses s ls t
 classes_read s t ls top fine r = classes_by (length ls) s t ls (omega arith) top fine r
 
-classes_run : (p : Program) (s t : State) (ls : List Numbered) → ClassesText (said ls) p → t ≡ with_classes s p t.lines → Runs (with_block s at_top) ls t
+classes_run : (p : Program) (s t : State) (ls : List Numbered) → ClassesText (unnumbered ls) p → t ≡ with_classes s p t.lines → Runs (with_block s at_top) ls t
 classes_run [] s t ls x e =
     let h : t ≡ at_line (with_block s at_top) t.lines = e ∙ ap (λ z. record s { done = z; block = at_top; lines = t.lines }) (append-nil s.done) in
-    subst (λ ys. Runs (with_block s at_top) ys t) (sym (none_said ls x)) h
+    subst (λ ys. Runs (with_block s at_top) ys t) (sym (none_read ls x)) h
 classes_run (c ∷ p) s t ls x e =
     let sp = splits ls x.0 x.1 x.2 in
     let h = e ∙ ap (λ z. record s { done = z; block = at_top; lines = t.lines }) (sym (append_assoc s.done (c ∷ []) p)) in

@@ -6,11 +6,11 @@ use Rattle.program_types.specs.Content.{Insn, Catch, Try, Code, Class}
 use Rattle.listing_lines.specs.Lines.{Line, open_code, end_code, insn_line, try_line, catch_line, catch_all_line}
 use Rattle.listing_lines.specs.Needs.{Need, first_late, earliest}
 use Rattle.listing_parse.specs.States.{Open, Owner, OpenBody, OpenTry, at_members, CodePart, at_insns, after_try, in_try, in_class, in_code, State, begun, noted, with_insn, with_tries, try_of, whole_code, with_code_at, add, inside}
-use Rattle.listing_parse.specs.Codes.{Numbered, said, insn_lines, catch_lines, catch_all_lines, try_lines, inner_lines, code_lines}
+use Rattle.listing_parse.specs.Codes.{Numbered, unnumbered, insn_lines, catch_lines, catch_all_lines, try_lines, inner_lines, code_lines}
 use Rattle.listing_parse.specs.inner.Codes.{late_line}
 use Rattle.listing_parse.specs.inner.Runs.{at_line, Runs, is_outside, after_its_method, with_its_code, RunsBehindCode}
 use Rattle.listing_parse.proofs.LateLaws.{needs_from, late_is}
-use Rattle.listing_parse.proofs.Numbering.{none_said, Front, more_front, Behind}
+use Rattle.listing_parse.proofs.Numbering.{none_read, Front, more_front, Behind}
 use Rattle.listing_parse.proofs.StageLaws.{code_goes_on}
 
 -- ---- runs
@@ -105,7 +105,7 @@ unfolding add inside
 read_back [] done late o b p k t e r = let h = still_open done late o b p k t e r in absurd cc
 read_back ((n, end_code) ∷ ls) done late o b p k t e r = record {
   more = rest [] [] None [];
-  front = record { mine = (n, end_code) ∷ []; after = ls; split = refl; says = ap (λ y. y ++ end_code ∷ []) (sym (no_more p)) };
+  front = record { mine = (n, end_code) ∷ []; after = ls; split = refl; word_values = ap (λ y. y ++ end_code ∷ []) (sym (no_more p)) };
   behind = record { final = whole_code (with_tries b p None); line = n; runs = next r.0 (ended done late o b.owner (whole_code (with_tries b p None)) b.needs n) ls t r.1.added r.2 };
   is = all_there b p;
 }
@@ -178,7 +178,7 @@ code_read s t o m n r i u ls e h =
       text = f.mine;
       after = f.after;
       split = f.split;
-      is_text = f.says ∙ ap code_lines (sym x.is);
+      is_text = f.word_values ∙ ap code_lines (sym x.is);
       runs = subst (λ late. Runs (with_its_code s o m code late) f.after t) (late_there (length code.insns) n (open_code r i u) r i u x.front.mine refl) (again (ended s.done s.late o m code (needs_from [] x.front.mine) x.behind.line) t f.after s.lines x.behind.runs);
     }
 
@@ -188,21 +188,21 @@ never_empty : (xs : List Line) (l : Line) → [] ≡ xs ++ l ∷ [] → ⊥
 never_empty [] l e = cc
 never_empty (x ∷ xs) l e = cc
 
-end_goes : (p : CodePart) (n : ℕ) (l : Line) (ls : List Numbered) (done : List Class) (late : Option ℕ) (o : Open) (b : OpenBody) (k : ℕ) (after : List Numbered) (t : State) (m : ℕ) → l ≡ end_code → said ls ≡ [] → (c : Code) → c ≡ whole b p (rest [] [] None [])
+end_goes : (p : CodePart) (n : ℕ) (l : Line) (ls : List Numbered) (done : List Class) (late : Option ℕ) (o : Open) (b : OpenBody) (k : ℕ) (after : List Numbered) (t : State) (m : ℕ) → l ≡ end_code → unnumbered ls ≡ [] → (c : Code) → c ≡ whole b p (rest [] [] None [])
     → Runs (ended done late o b.owner c (needs_from b.needs ((n, l) ∷ ls)) m) after t → Runs (coding p done late o b k) ((n, l) ∷ (ls ++ after)) t
 unfolding add
 end_goes p n l ls done late o b k after t m el es c ec r =
     let d = whole_code (with_tries b p None) in
     let ed : c ≡ d = ec ∙ sym (all_there b p) in
     let r1 = subst (λ x. Runs (ended done late o b.owner c (needs_from b.needs ((n, x) ∷ ls)) m) after t) el r in
-    let r2 = subst (λ xs. Runs (ended done late o b.owner c (needs_from b.needs ((n, end_code) ∷ xs)) m) after t) (none_said ls es) r1 in
+    let r2 = subst (λ xs. Runs (ended done late o b.owner c (needs_from b.needs ((n, end_code) ∷ xs)) m) after t) (none_read ls es) r1 in
     let r3 = subst (λ x. Runs (ended done late o b.owner x b.needs m) after t) ed r2 in
     let g : Runs (coding p done late o b k) ((n, end_code) ∷ after) t = (ended done late o b.owner d b.needs n, record { stands = code_goes_on p; added = refl }, again (ended done late o b.owner d b.needs m) t after n r3) in
-    let g1 = subst (λ xs. Runs (coding p done late o b k) ((n, end_code) ∷ (xs ++ after)) t) (sym (none_said ls es)) g in
+    let g1 = subst (λ xs. Runs (coding p done late o b k) ((n, end_code) ∷ (xs ++ after)) t) (sym (none_read ls es)) g in
     subst (λ x. Runs (coding p done late o b k) ((n, x) ∷ (ls ++ after)) t) (sym el) g1
 
 go : (ls : List Numbered) (p : CodePart) (is : List Insn) (cs : List Catch) (all : Option ℕ) (ts : List Try) (done : List Class) (late : Option ℕ) (o : Open) (b : OpenBody) (k : ℕ) (after : List Numbered) (t : State) (m : ℕ)
-    → said ls ≡ rest_lines p (rest is cs all ts) ++ end_code ∷ [] → (c : Code) → c ≡ whole b p (rest is cs all ts) → Runs (ended done late o b.owner c (needs_from b.needs ls) m) after t → Runs (coding p done late o b k) (ls ++ after) t
+    → unnumbered ls ≡ rest_lines p (rest is cs all ts) ++ end_code ∷ [] → (c : Code) → c ≡ whole b p (rest is cs all ts) → Runs (ended done late o b.owner c (needs_from b.needs ls) m) after t → Runs (coding p done late o b k) (ls ++ after) t
 unfolding add inside
 go [] p is cs all ts done late o b k after t m e c q r = absurd (never_empty (rest_lines p (rest is cs all ts)) end_code e)
 go ((n, l) ∷ ls) at_insns (i ∷ is) cs all ts done late o b k after t m e c q r =
@@ -241,7 +241,7 @@ go ((n, l) ∷ ls) p is cs all (a ∷ ts) done late o b k after t m e c q r =
 go ((n, l) ∷ ls) p is cs all [] done late o b k after t m e c q r = end_goes p n l ls done late o b k after t m (cc) (cc) c q r
 
 -- From `code` on.
-code_on : (s t : State) (o : Open) (m : Owner) (n : ℕ) (c : Code) (text after : List Numbered) → said text ≡ inner_lines c ++ end_code ∷ [] → Runs (with_its_code s o m c (late_line (length c.insns) ((n, open_code c.registers c.ins c.outs) ∷ text))) after t
+code_on : (s t : State) (o : Open) (m : Owner) (n : ℕ) (c : Code) (text after : List Numbered) → unnumbered text ≡ inner_lines c ++ end_code ∷ [] → Runs (with_its_code s o m c (late_line (length c.insns) ((n, open_code c.registers c.ins c.outs) ∷ text))) after t
     → Runs (after_its_method s o m) ((n, open_code c.registers c.ins c.outs) ∷ (text ++ after)) t
 unfolding add
 code_on s t o m n c text after e h =
@@ -250,12 +250,12 @@ code_on s t o m n c text after e h =
     let k = subst (λ late. Runs (with_its_code s o m c late) after t) (sym late) h in
     (coding at_insns s.done s.late o b n, record { stands = refl; added = refl }, go text at_insns c.insns [] None c.tries s.done s.late o b n after t s.lines e c refl k)
 
-pub text_runs : (s t : State) (o : Open) (m : Owner) (c : Code) (text after : List Numbered) → said text ≡ code_lines c → Runs (with_its_code s o m c (late_line (length c.insns) text)) after t → Runs (after_its_method s o m) (text ++ after) t
+pub text_runs : (s t : State) (o : Open) (m : Owner) (c : Code) (text after : List Numbered) → unnumbered text ≡ code_lines c → Runs (with_its_code s o m c (late_line (length c.insns) text)) after t → Runs (after_its_method s o m) (text ++ after) t
 text_runs s t o m c [] after e h = absurd cc
 text_runs s t o m c ((n, l) ∷ text) after e h =
     let x = open_code c.registers c.ins c.outs in
     let el : x ≡ l = cc in
-    let es : said text ≡ inner_lines c ++ end_code ∷ [] = cc in
+    let es : unnumbered text ≡ inner_lines c ++ end_code ∷ [] = cc in
     subst (λ y. Runs (with_its_code s o m c (late_line (length c.insns) ((n, y) ∷ text))) after t → Runs (after_its_method s o m) ((n, y) ∷ (text ++ after)) t) el (code_on s t o m n c text after es) h
 
 pub code_goes : (s t : State) (o : Open) (m : Owner) (ls : List Numbered) → RunsBehindCode s o m ls t → Runs (after_its_method s o m) ls t

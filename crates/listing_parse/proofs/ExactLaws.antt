@@ -19,7 +19,7 @@ use Rattle.listing_parse.specs.declared.form_line.FormLine.TheVariants.{Nothing,
 use Rattle.listing_lines.specs.Lines.{line_of}
 use Rattle.listing_slots.proofs.SpellLaws.{all_one, none_bad}
 use Rattle.listing_parse.specs.States.{add}
-use Rattle.listing_parse.specs.Text.{Reading, begin, line_counted, line_of_form, in_second, LineSays, AddsLine, IsUnsaid, AreRefused, TakesLine, Reads, IsListing, LineIsRefused, IsBadLine, ListingBreaks}
+use Rattle.listing_parse.specs.Text.{Reading, begin, line_counted, line_of_form, in_second, LineMeans, AddsLine, IsMeaningless, AreRefused, TakesLine, Reads, IsListing, LineIsRefused, IsBadLine, ListingBreaks}
 use Rattle.listing_slots.proofs.SpellsOneLaws.{spells_one}
 use Rattle.listing_slots.proofs.ShapeLaws.{shapes_one, bare_one}
 
@@ -32,31 +32,31 @@ pub shape_one : (f : Form) (ws : List Word) (s t : Shape) → HasShapeInForm f w
 shape_one One ws s t p q = shapes_one ws s t p q
 shape_one Two ws s t p q = bare_one ws s t p q
 
-says_one : (f : Form) (es : List Label) (ss : List Slot) (ws : List Word) (ds gs : List Datum) → SpellsInForm f es ss ws ds → SpellsInForm f es ss ws gs → ds ≡ gs
-says_one One es ss ws ds gs p q = all_one spells_one ss ws ds gs p q
-says_one Two es ss ws ds gs p q = here_one es ss ws ds gs p q
+values_one : (f : Form) (es : List Label) (ss : List Slot) (ws : List Word) (ds gs : List Datum) → SpellsInForm f es ss ws ds → SpellsInForm f es ss ws gs → ds ≡ gs
+values_one One es ss ws ds gs p q = all_one spells_one ss ws ds gs p q
+values_one Two es ss ws ds gs p q = here_one es ss ws ds gs p q
 
-pub says_none : (f : Form) (es : List Label) (ss : List Slot) (ws : List Word) (ds : List Datum) (code : ℕ) → SpellsInForm f es ss ws ds → MisspellsInForm f es ss ws code → ⊥
-says_none One es ss ws ds code p q = none_bad ss ws ds code p q
-says_none Two es ss ws ds code p q = here_bad es ss ws ds code p q
+pub reads_none : (f : Form) (es : List Label) (ss : List Slot) (ws : List Word) (ds : List Datum) (code : ℕ) → SpellsInForm f es ss ws ds → MisspellsInForm f es ss ws code → ⊥
+reads_none One es ss ws ds code p q = none_bad ss ws ds code p q
+reads_none Two es ss ws ds code p q = here_bad es ss ws ds code p q
 
 pub at_shape : (f : Form) (es : List Label) (s t : Shape) (ds gs : List Datum) → s ≡ t → SpellsInForm f es s.slots s.words ds → SpellsInForm f es t.slots t.words gs → ds ≡ gs
-at_shape f es s t ds gs e p q = says_one f es t.slots t.words ds gs (subst (λ (x : Shape). SpellsInForm f es x.slots x.words ds) e p) q
+at_shape f es s t ds gs e p q = values_one f es t.slots t.words ds gs (subst (λ (x : Shape). SpellsInForm f es x.slots x.words ds) e p) q
 
 -- ---- a line makes one thing
 
-line_is_one : (r : Reading) (ls : List (List ℕ)) (ws : List Word) (t u : Reading) → LineSays r ls ws t → LineSays r ls ws u → t ≡ u
+line_is_one : (r : Reading) (ls : List (List ℕ)) (ws : List Word) (t u : Reading) → LineMeans r ls ws t → LineMeans r ls ws u → t ≡ u
 line_is_one r ls ws t u a b =
     let e = shape_one r.form ws a.shape b.shape a.has_shape b.has_shape in
-    let d = at_shape r.form r.labels a.shape b.shape a.says b.says e a.spelled b.spelled in
+    let d = at_shape r.form r.labels a.shape b.shape a.word_values b.word_values e a.spelled b.spelled in
     let k = ap (λ (x : Shape). x.kind) e in
-    let l : line_of a.shape.kind a.says ≡ line_of b.shape.kind b.says = cc in
+    let l : line_of a.shape.kind a.word_values ≡ line_of b.shape.kind b.word_values = cc in
     let x : Some a.next ≡ Some b.next = sym a.added ∙ ap (add r.base) l ∙ b.added in
     let n : a.next ≡ b.next = cc in
     a.is ∙ rw (k, n) (sym b.is)
 
 abbrev Makes : Reading → List (List ℕ) → List Word → Reading → Type 0
-Makes r ls ws t = ((line_of_form r ws ≡ First) × (t ≡ in_second r)) ⊎ ((line_of_form r ws ≡ Mark) × (t ≡ r)) ⊎ ((line_of_form r ws ≡ Nothing) × LineSays r ls ws t)
+Makes r ls ws t = ((line_of_form r ws ≡ First) × (t ≡ in_second r)) ⊎ ((line_of_form r ws ≡ Mark) × (t ≡ r)) ⊎ ((line_of_form r ws ≡ Nothing) × LineMeans r ls ws t)
 
 makes_one : (r : Reading) (ls : List (List ℕ)) (ws : List Word) (t u : Reading) → Makes r ls ws t → Makes r ls ws u → t ≡ u
 makes_one r ls ws t u (inl a) (inl b) = a.1 ∙ sym b.1
@@ -91,19 +91,19 @@ listing_one text p q a b = sym a.classes ∙ ap (λ (r : Reading). r.base.done) 
 
 -- ---- a line that is refused isn't taken
 
-refused_says : (r : Reading) (ls : List (List ℕ)) (ws : List Word) (t : Reading) (code : ℕ) → IsUnsaid r ws code → LineSays r ls ws t → ⊥
-refused_says r ls ws t code (inl w) a = w.1 a.shape a.has_shape
-refused_says r ls ws t code (inr (inl w)) a =
+refused_reads : (r : Reading) (ls : List (List ℕ)) (ws : List Word) (t : Reading) (code : ℕ) → IsMeaningless r ws code → LineMeans r ls ws t → ⊥
+refused_reads r ls ws t code (inl w) a = w.1 a.shape a.has_shape
+refused_reads r ls ws t code (inr (inl w)) a =
     let m = w.1 in let e = shape_one r.form ws m.shape a.shape m.has_shape a.has_shape in
     not_both (may_stand_in_form r.form r.base a.shape) a.may_stand (sym (ap (may_stand_in_form r.form r.base) e) ∙ m.refused)
-refused_says r ls ws t code (inr (inr (inl m))) a =
+refused_reads r ls ws t code (inr (inr (inl m))) a =
     let e = shape_one r.form ws m.shape a.shape m.has_shape a.has_shape in
-    says_none r.form r.labels a.shape.slots a.shape.words a.says code a.spelled (subst (λ (x : Shape). MisspellsInForm r.form r.labels x.slots x.words code) e m.bad)
-refused_says r ls ws t code (inr (inr (inr w))) a =
+    reads_none r.form r.labels a.shape.slots a.shape.words a.word_values code a.spelled (subst (λ (x : Shape). MisspellsInForm r.form r.labels x.slots x.words code) e m.bad)
+refused_reads r ls ws t code (inr (inr (inr w))) a =
     let m = w.1 in let e = shape_one r.form ws m.shape a.shape m.has_shape a.has_shape in
-    let d = at_shape r.form r.labels m.shape a.shape m.says a.says e m.spelled a.spelled in
+    let d = at_shape r.form r.labels m.shape a.shape m.word_values a.word_values e m.spelled a.spelled in
     let k = ap (λ (x : Shape). x.kind) e in
-    let l : line_of m.shape.kind m.says ≡ line_of a.shape.kind a.says = cc in
+    let l : line_of m.shape.kind m.word_values ≡ line_of a.shape.kind a.word_values = cc in
     let x : None ≡ Some a.next = sym m.refused ∙ ap (add r.base) l ∙ a.added in cc
 
 refused_makes : (r : Reading) (ls : List (List ℕ)) (ws : List Word) (t : Reading) (code : ℕ) → AreRefused r ws code → Makes r ls ws t → ⊥
@@ -112,7 +112,7 @@ refused_makes r ls ws t code (inl w) (inr (inl a)) = let x : Refused code ≡ Ma
 refused_makes r ls ws t code (inl w) (inr (inr a)) = let x : Refused code ≡ Nothing = sym w ∙ a.0 in cc
 refused_makes r ls ws t code (inr w) (inl a) = let x : Nothing ≡ First = sym w.0 ∙ a.0 in cc
 refused_makes r ls ws t code (inr w) (inr (inl a)) = let x : Nothing ≡ Mark = sym w.0 ∙ a.0 in cc
-refused_makes r ls ws t code (inr w) (inr (inr a)) = refused_says r ls ws t code w.1 a.1
+refused_makes r ls ws t code (inr w) (inr (inr a)) = refused_reads r ls ws t code w.1 a.1
 
 refused_adds : (r : Reading) (ls : List (List ℕ)) (line : List ℕ) (t : Reading) (code : ℕ) → LineIsRefused r line code → AddsLine r ls line t → ⊥
 refused_adds r ls line t code w a = elim w.why [

@@ -7,11 +7,11 @@ use Rattle.program_types.specs.Content.{Units, Descriptor, Class}
 use Rattle.listing_lines.specs.Lines.{Line, super_line, implements_line, source_line}
 use Rattle.listing_slots.specs.Keys.{same}
 use Rattle.listing_parse.specs.States.{Open, ClassPart, at_heads, at_members, at_top, in_class, State, is_among, with_superclass, with_interface, with_source, with_block, class_line, inside, add}
-use Rattle.listing_parse.specs.Codes.{Numbered, said}
+use Rattle.listing_parse.specs.Codes.{Numbered, unnumbered}
 use Rattle.listing_parse.specs.Classes.{is_head, superclass_in, interface_in, source_in, at_most_one, NoneTwice}
 use Rattle.listing_parse.specs.inner.Runs.{at_line, Runs}
 use Rattle.listing_parse.proofs.HeldLaws.{first_false, second_false}
-use Rattle.listing_parse.proofs.Numbering.{Front, more_front, Behind, goes, starts, none_said, within, class_open}
+use Rattle.listing_parse.proofs.Numbering.{Front, more_front, Behind, goes, starts, none_read, within, class_open}
 
 -- ---- types that are the same
 
@@ -148,7 +148,7 @@ heads_read ((n, source_line us) ∷ ls) done late o k t i top r =
     }
 heads_read ((n, l) ∷ ls) done late o k t i top r = record {
   heads = [];
-  front = record { mine = []; after = (n, l) ∷ ls; split = refl; says = refl };
+  front = record { mine = []; after = (n, l) ∷ ls; split = refl; word_values = refl };
   are_heads = refl;
   behind = record { final = o; line = k; runs = (r.0, record { stands = r.1.stands; added = r.1.added }, r.2) };
   superclass = append-nil (at_most_one o.superclass);
@@ -177,33 +177,33 @@ three o final e a b c =
     ∙ ap (λ x. with_heads o o.superclass x final.source) (sym b)
     ∙ ap (λ x. with_heads o o.superclass o.interfaces x) (sym c)
 
-pub heads_go : (hs : List Line) (done : List Class) (late : Option ℕ) (o : Open) (k : ℕ) (after : List Numbered) (t : State) (ls : List Numbered) → said ls ≡ hs → list_all is_head hs ≡ true → (final : Open)
+pub heads_go : (hs : List Line) (done : List Class) (late : Option ℕ) (o : Open) (k : ℕ) (after : List Numbered) (t : State) (ls : List Numbered) → unnumbered ls ≡ hs → list_all is_head hs ≡ true → (final : Open)
     → at_most_one o.superclass ++ flat_map superclass_in hs ≡ at_most_one final.superclass → o.interfaces ++ flat_map interface_in hs ≡ final.interfaces → NoneTwice final.interfaces
     → at_most_one o.source ++ flat_map source_in hs ≡ at_most_one final.source → final ≡ with_heads o final.superclass final.interfaces final.source
     → ((m : ℕ) → Runs (within at_heads done late final m) after t) → Runs (within at_heads done late o k) (ls ++ after) t
 unfolding add inside
 heads_go [] done late o k after t ls e h final a b i c same r =
     let f = three o final same (one_more o.superclass final.superclass (sym (append-nil (at_most_one o.superclass)) ∙ a)) (sym (append-nil o.interfaces) ∙ b) (one_more o.source final.source (sym (append-nil (at_most_one o.source)) ∙ c)) in
-    subst (λ xs. Runs (within at_heads done late o k) (xs ++ after) t) (sym (none_said ls e)) (subst (λ x. Runs (within at_heads done late x k) after t) f (r k))
+    subst (λ xs. Runs (within at_heads done late o k) (xs ++ after) t) (sym (none_read ls e)) (subst (λ x. Runs (within at_heads done late x k) after t) f (r k))
 heads_go (super_line d ∷ hs) done late o k after t ls e h final a b i c same r =
     let st = starts ls (super_line d) hs e in
     let o1 = record o { superclass = Some d } in
     let none = none_before o.superclass final.superclass d (flat_map superclass_in hs) a in
     let a1 : at_most_one o1.superclass ++ flat_map superclass_in hs ≡ at_most_one final.superclass = ap (λ x. at_most_one x ++ (d ∷ flat_map superclass_in hs)) (sym none) ∙ a in
-    let y = heads_go hs done late o1 st.number after t st.rest st.says h final a1 b i c same r in
+    let y = heads_go hs done late o1 st.number after t st.rest st.word_values h final a1 b i c same r in
     goes (within at_heads done late o k) (within at_heads done late o1 st.number) ls after t (super_line d) hs st (record { stands = refl; added = super_goes (at_line (within at_heads done late o k) st.number) o d none }) y
 heads_go (implements_line d ∷ hs) done late o k after t ls e h final a b i c same r =
     let st = starts ls (implements_line d) hs e in
     let o1 = record o { interfaces = o.interfaces ++ d ∷ [] } in
     let none = distinct_last o.interfaces d (flat_map interface_in hs) (subst NoneTwice (sym b) i) in
     let b1 : o1.interfaces ++ flat_map interface_in hs ≡ final.interfaces = append_assoc o.interfaces (d ∷ []) (flat_map interface_in hs) ∙ b in
-    let y = heads_go hs done late o1 st.number after t st.rest st.says h final a b1 i c same r in
+    let y = heads_go hs done late o1 st.number after t st.rest st.word_values h final a b1 i c same r in
     goes (within at_heads done late o k) (within at_heads done late o1 st.number) ls after t (implements_line d) hs st (record { stands = refl; added = interface_goes (at_line (within at_heads done late o k) st.number) o d none }) y
 heads_go (source_line us ∷ hs) done late o k after t ls e h final a b i c same r =
     let st = starts ls (source_line us) hs e in
     let o1 = record o { source = Some us } in
     let none = none_before o.source final.source us (flat_map source_in hs) c in
     let c1 : at_most_one o1.source ++ flat_map source_in hs ≡ at_most_one final.source = ap (λ x. at_most_one x ++ (us ∷ flat_map source_in hs)) (sym none) ∙ c in
-    let y = heads_go hs done late o1 st.number after t st.rest st.says h final a b i c1 same r in
+    let y = heads_go hs done late o1 st.number after t st.rest st.word_values h final a b i c1 same r in
     goes (within at_heads done late o k) (within at_heads done late o1 st.number) ls after t (source_line us) hs st (record { stands = refl; added = source_goes (at_line (within at_heads done late o k) st.number) o us none }) y
 heads_go (l ∷ hs) done late o k after t ls e h final a b i c same r = absurd cc

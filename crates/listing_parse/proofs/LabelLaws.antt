@@ -23,10 +23,10 @@ use Rattle.listing_lines.proofs.AheadLaws.{ahead_skips, ahead_stops, ahead_marks
 use Rattle.listing_parse.specs.Text.{begins_mark}
 use Rattle.listing_parse.specs.Codes.{Numbered}
 use Rattle.listing_parse.specs.Classes.{NoneTwice}
-use Rattle.listing_parse.specs.Texts.{SaysLine, IsLabelLine, label_names, Where, outside, among, after_insns, SayLines, no_lines, silent, one_line, code_line, label_line, one_insn, no_insn, of_try, code_end}
+use Rattle.listing_parse.specs.Texts.{LineText, IsLabelLine, label_names, Where, outside, among, after_insns, LinesText, no_lines, silent, one_line, code_line, label_line, one_insn, no_insn, of_try, code_end}
 use Rattle.listing_parse.proofs.SecondFormLaws.{none_each, found_same, no_line_of_form}
 use Rattle.listing_parse.proofs.HeadLaws.{same_true, distinct_last}
-use Rattle.listing_parse.proofs.LineSteps.{insn_said, insn_as, labels_by}
+use Rattle.listing_parse.proofs.LineSteps.{insn_read, insn_as, labels_by}
 use Rattle.dex_base.proofs.ListFacts.{by_kind}
 use Rattle.listing_lines.proofs.LookLaws.{look_after, with_new}
 
@@ -175,30 +175,30 @@ not_both : (k : Kind) → is_insn k ≡ true → kind_ends k ≡ true → ⊥
 not_both kind.Try e f = cc
 not_both _ e f = cc
 
-goes_on : (es : List Label) (k : ℕ) (l : List ℕ) (x : Line) → SaysLine Two es k l x → insn_said x ≡ true → is_stop (first_word l) ≡ false
+goes_on : (es : List Label) (k : ℕ) (l : List ℕ) (x : Line) → LineText Two es k l x → insn_read x ≡ true → is_stop (first_word l) ≡ false
 goes_on es k l x s e = by s.has_shape
   where
     by : HasBareShape s.words s.shape → is_stop (first_word l) ≡ false
     by (inl b) = ap is_stop (first_is l s.words b.text b.after s.has_words b.words) ∙ leads_on b.text b.no_lead
     by (inr b) =
         let h = keyed_kind b.keyed.lead b.after b.row b.keyed.has_row in
-        let i : is_insn s.shape.kind ≡ true = insn_as s.shape.kind s.says ∙ ap insn_said s.is ∙ e in
+        let i : is_insn s.shape.kind ≡ true = insn_as s.shape.kind s.word_values ∙ ap insn_read s.is ∙ e in
         let j : is_insn s.shape.kind ≡ false = ap (λ (z : Shape). is_insn z.kind) b.is ∙ h.0 in
         absurd cc
 
-stops : (es : List Label) (k : ℕ) (l : List ℕ) (x : Line) → SaysLine Two es k l x → ends_insns x ≡ true → is_stop (first_word l) ≡ true
+stops : (es : List Label) (k : ℕ) (l : List ℕ) (x : Line) → LineText Two es k l x → ends_insns x ≡ true → is_stop (first_word l) ≡ true
 stops es k l x s e = by s.has_shape
   where
     by : HasBareShape s.words s.shape → is_stop (first_word l) ≡ true
     by (inl b) =
         let i : is_insn s.shape.kind ≡ true = ap (λ (z : Shape). is_insn z.kind) b.is ∙ insn_kind b.insn.text b.insn.after b.row b.insn.has_row in
-        absurd (not_both s.shape.kind i (ends_as s.shape.kind s.says ∙ ap ends_insns s.is ∙ e))
+        absurd (not_both s.shape.kind i (ends_as s.shape.kind s.word_values ∙ ap ends_insns s.is ∙ e))
     by (inr b) =
         let h = keyed_kind b.keyed.lead b.after b.row b.keyed.has_row in
-        let i : kind_ends b.row.0 ≡ true = sym (ap (λ (z : Shape). kind_ends z.kind) b.is) ∙ ends_as s.shape.kind s.says ∙ ap ends_insns s.is ∙ e in
+        let i : kind_ends b.row.0 ≡ true = sym (ap (λ (z : Shape). kind_ends z.kind) b.is) ∙ ends_as s.shape.kind s.word_values ∙ ap ends_insns s.is ∙ e in
         ap is_stop (first_is l s.words b.text b.after s.has_words b.words) ∙ stop_is b.keyed.lead b.text (h.1 i) (found_same lead_keys b.text b.keyed.lead b.keyed.found)
 
-no_mark : (es : List Label) (k : ℕ) (l : List ℕ) (x : Line) → SaysLine Two es k l x → is_mark (first_word l) ≡ false
+no_mark : (es : List Label) (k : ℕ) (l : List ℕ) (x : Line) → LineText Two es k l x → is_mark (first_word l) ≡ false
 no_mark es k l x s = by s.has_shape
   where
     at : (text : List ℕ) (after : List Word) → s.words ≡ plain_word text ∷ after → is_mark (first_word l) ≡ false
@@ -233,14 +233,14 @@ label_ahead pre line k form l ls name m =
     ∙ ap (λ w. labels_ahead (with_label pre (record { name = w; line = line; number = k })) (line + 1) k ls) f
 
 -- An instruction's line, where they are.
-pub insn_ahead : (pre es : List Label) (line k j : ℕ) (l : List ℕ) (ls : List (List ℕ)) (x : Line) → SaysLine Two es j l x → insn_said x ≡ true → labels_ahead pre line k (l ∷ ls) ≡ labels_ahead pre (line + 1) (k + 1) ls
+pub insn_ahead : (pre es : List Label) (line k j : ℕ) (l : List ℕ) (ls : List (List ℕ)) (x : Line) → LineText Two es j l x → insn_read x ≡ true → labels_ahead pre line k (l ∷ ls) ≡ labels_ahead pre (line + 1) (k + 1) ls
 insn_ahead pre es line k j l ls x s e = ahead_counts pre line k l ls s.not_skipped (goes_on es j l x s e) (no_mark es j l x s)
 
 -- A line that ends the instructions, where they are.
-pub end_ahead : (pre es : List Label) (line k j : ℕ) (l : List ℕ) (ls : List (List ℕ)) (x : Line) → SaysLine Two es j l x → ends_insns x ≡ true → labels_ahead pre line k (l ∷ ls) ≡ pre
+pub end_ahead : (pre es : List Label) (line k j : ℕ) (l : List ℕ) (ls : List (List ℕ)) (x : Line) → LineText Two es j l x → ends_insns x ≡ true → labels_ahead pre line k (l ∷ ls) ≡ pre
 end_ahead pre es line k j l ls x s e = ahead_stops pre line k l ls s.not_skipped (stops es j l x s e)
 
-ahead_is : {w : Where} {n : ℕ} {ls : List (List ℕ)} {xs : List Numbered} → SayLines Two w n ls xs → (pre : List Label) → AheadIs w pre n ls
+ahead_is : {w : Where} {n : ℕ} {ls : List (List ℕ)} {xs : List Numbered} → LinesText Two w n ls xs → (pre : List Label) → AheadIs w pre n ls
 ahead_is no_lines pre = tt
 ahead_is (silent {w = outside} e d) pre = tt
 ahead_is (silent {w = among labels ahead k} {n = n} {l = l} {ls = ls} e d) pre = λ h. ahead_skips pre (n + 1) k l ls e ∙ ahead_is d pre h
@@ -267,7 +267,7 @@ abbrev NoneAhead : Where → Type 0
 NoneAhead (among labels ahead k) = ahead ≡ []
 NoneAhead _ = Unit {0}
 
-none_ahead : {w : Where} {n : ℕ} {ls : List (List ℕ)} {xs : List Numbered} → SayLines One w n ls xs → NoneAhead w
+none_ahead : {w : Where} {n : ℕ} {ls : List (List ℕ)} {xs : List Numbered} → LinesText One w n ls xs → NoneAhead w
 none_ahead (silent e d) = none_ahead d
 none_ahead (label_line m d) = let h = m.second in absurd cc
 none_ahead (one_insn s d) = none_ahead d
@@ -281,10 +281,10 @@ abbrev pub NoLabels : Form → List Label → Type 0
 NoLabels One es = es ≡ []
 NoLabels Two es = Unit {0}
 
-pub ahead_there : (form : Form) (n r i o : ℕ) (labels : List Label) (ls : List (List ℕ)) (xs : List Numbered) → NoneTwice (label_names labels) → SayLines form (among labels labels 0) n ls xs → labels_by form (open_code r i o) (n + 1) ls [] ≡ labels
+pub ahead_there : (form : Form) (n r i o : ℕ) (labels : List Label) (ls : List (List ℕ)) (xs : List Numbered) → NoneTwice (label_names labels) → LinesText form (among labels labels 0) n ls xs → labels_by form (open_code r i o) (n + 1) ls [] ≡ labels
 ahead_there One n r i o labels ls xs h d = sym (none_ahead d)
 ahead_there Two n r i o labels ls xs h d = ahead_is d [] h
 
-pub no_labels : (form : Form) (k n : ℕ) (labels : List Label) (ls : List (List ℕ)) (xs : List Numbered) → SayLines form (among labels labels k) n ls xs → NoLabels form labels
+pub no_labels : (form : Form) (k n : ℕ) (labels : List Label) (ls : List (List ℕ)) (xs : List Numbered) → LinesText form (among labels labels k) n ls xs → NoLabels form labels
 no_labels One k n labels ls xs d = none_ahead d
 no_labels Two k n labels ls xs d = tt

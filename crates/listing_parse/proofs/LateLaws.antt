@@ -8,7 +8,7 @@ use Rattle.listing_lines.specs.Lines.{Line, first_line, open_class, end_class, o
 use Rattle.listing_lines.specs.Places.{is_start, is_top}
 use Rattle.listing_lines.specs.Needs.{Need, most_needed, insn_needs, line_needs, with_need, first_late, earliest}
 use Rattle.listing_parse.specs.States.{State, at_top, at_heads, in_class, stage_of, opened, closed, begun, class_of, owner_of, with_body, code_ended, late_in, with_block, inside, add}
-use Rattle.listing_parse.specs.Codes.{Numbered, said, leads_into}
+use Rattle.listing_parse.specs.Codes.{Numbered, unnumbered, has_targets_within}
 use Rattle.listing_parse.specs.inner.Codes.{late_line}
 use Rattle.listing_parse.specs.inner.Runs.{at_line, Runs}
 use Rattle.dex_base.proofs.ListFacts.{by_kind}
@@ -57,7 +57,7 @@ try_lead c from to = elim (cases_lt from c) [
 ]
 
 -- A line needs more than c instructions exactly if it doesn't lead into c of them.
-line_lead : (c : ℕ) (l : Line) → nat_lt c (line_needs l) ≡ not (leads_into c l)
+line_lead : (c : ℕ) (l : Line) → nat_lt c (line_needs l) ≡ not (has_targets_within c l)
 line_lead c (insn_line i) = insn_lead c i
 line_lead c (try_line from to) = try_lead c from to
 line_lead c (catch_line d k) = target_needs c k
@@ -68,10 +68,10 @@ line_lead c _ = le-ltb c 0 (omega arith)
 
 -- The line, if it is late.
 abbrev if_late : ℕ → ℕ → Line → Option ℕ
-if_late c n l = if leads_into c l then None else Some n
+if_late c n l = if has_targets_within c l then None else Some n
 
 late_cons : (c n : ℕ) (l : Line) (ls : List Numbered) → late_line c ((n, l) ∷ ls) ≡ earliest (if_late c n l) (late_line c ls)
-late_cons c n l ls = elim (by_kind (leads_into c l)) [
+late_cons c n l ls = elim (by_kind (has_targets_within c l)) [
   | inl e ↦ rw e refl
   | inr e ↦ rw e refl
 ]
@@ -91,7 +91,7 @@ late_more c needs n k = elim (cases_lt 0 k) [
 ]
 
 if_lead : (c n : ℕ) (l : Line) → (if nat_lt c (line_needs l) then Some n else None) ≡ if_late c n l
-if_lead c n l = elim (by_kind (leads_into c l)) [
+if_lead c n l = elim (by_kind (has_targets_within c l)) [
   | inl e ↦ rw (line_lead c l, e) refl
   | inr e ↦ rw (line_lead c l, e) refl
 ]
@@ -106,16 +106,16 @@ late_is c needs ((n, l) ∷ ls) =
 
 -- ---- no line is late
 
-pub none_late : (c : ℕ) (ls : List Numbered) → list_all (leads_into c) (said ls) ≡ true → late_line c ls ≡ None
+pub none_late : (c : ℕ) (ls : List Numbered) → list_all (has_targets_within c) (unnumbered ls) ≡ true → late_line c ls ≡ None
 none_late c [] e = refl
-none_late c ((n, l) ∷ ls) e = elim (by_kind (leads_into c l)) [
-  | inl f ↦ let g : list_all (leads_into c) (said ls) ≡ true = rw f at e in rw f (none_late c ls g)
+none_late c ((n, l) ∷ ls) e = elim (by_kind (has_targets_within c l)) [
+  | inl f ↦ let g : list_all (has_targets_within c) (unnumbered ls) ≡ true = rw f at e in rw f (none_late c ls g)
   | inr f ↦ let g : false ≡ true = rw f at e in absurd cc
 ]
 
-pub all_lead : (c : ℕ) (ls : List Numbered) → late_line c ls ≡ None → list_all (leads_into c) (said ls) ≡ true
+pub all_lead : (c : ℕ) (ls : List Numbered) → late_line c ls ≡ None → list_all (has_targets_within c) (unnumbered ls) ≡ true
 all_lead c [] e = refl
-all_lead c ((n, l) ∷ ls) e = elim (by_kind (leads_into c l)) [
+all_lead c ((n, l) ∷ ls) e = elim (by_kind (has_targets_within c l)) [
   | inl f ↦ let g : late_line c ls ≡ None = rw f at e in rw f (all_lead c ls g)
   | inr f ↦ let g : Some n ≡ None = rw f at e in absurd cc
 ]

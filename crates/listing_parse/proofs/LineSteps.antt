@@ -19,9 +19,9 @@ use Rattle.listing_lines.specs.Needs.{first_late, earliest}
 use Rattle.listing_lines.specs.Splitting.{is_skipped}
 use Rattle.listing_lines.specs.Labels.{Label, labels_ahead}
 use Rattle.listing_parse.specs.Forms.{HasShapeInForm, may_stand_in_form}
-use Rattle.listing_parse.specs.Text.{Reading, is_second, line_of_form, labels_after, LineSays, TakesLine}
+use Rattle.listing_parse.specs.Text.{Reading, is_second, line_of_form, labels_after, LineMeans, TakesLine}
 use Rattle.listing_parse.specs.declared.form_line.FormLine.TheVariants.{Nothing}
-use Rattle.listing_parse.specs.Texts.{is_numbered, SaysLine}
+use Rattle.listing_parse.specs.Texts.{is_numbered, LineText}
 use Rattle.listing_parse.specs.inner.Runs.{line_stands, Steps}
 use Rattle.listing_parse.proofs.SecondFormLaws.{no_line_of_form}
 use Rattle.listing_parse.proofs.LateLaws.{mapped, chosen}
@@ -33,16 +33,16 @@ rd form es s = record { form = form; labels = es; base = s }
 
 -- ---- kinds of lines, and lines
 
-abbrev pub insn_said : Line → Bool
-insn_said (insn_line i) = true
-insn_said _ = false
+abbrev pub insn_read : Line → Bool
+insn_read (insn_line i) = true
+insn_read _ = false
 
 stands_as : (st : Stage) (k : Kind) (ds : List Datum) → may_stand st k ≡ line_stands st (line_of k ds)
 unfolding may_stand line_of
 stands_as st kind.First ds = refl
 stands_as st _ ds = refl
 
-pub insn_as : (k : Kind) (ds : List Datum) → is_insn k ≡ insn_said (line_of k ds)
+pub insn_as : (k : Kind) (ds : List Datum) → is_insn k ≡ insn_read (line_of k ds)
 unfolding line_of
 insn_as (kind.Plain op) ds = refl
 insn_as _ ds = refl
@@ -172,7 +172,7 @@ may_be_there One k s sh m c n = rw m (number_there k s sh (is_insn sh.kind) refl
 may_be_there Two k s sh m c n = m
 
 -- A line that isn't an instruction's has any number.
-pub renumbered : (form : Form) (es : List Label) (k j : ℕ) (l : List ℕ) (x : Line) → insn_said x ≡ false → SaysLine form es k l x → SaysLine form es j l x
+pub renumbered : (form : Form) (es : List Label) (k j : ℕ) (l : List ℕ) (x : Line) → insn_read x ≡ false → LineText form es k l x → LineText form es j l x
 renumbered form es k j l x n s = record {
   not_skipped = s.not_skipped;
   words = s.words;
@@ -180,57 +180,57 @@ renumbered form es k j l x n s = record {
   shape = s.shape;
   has_shape = s.has_shape;
   numbered = by form;
-  says = s.says;
+  word_values = s.word_values;
   spelled = s.spelled;
   is = s.is;
 }
   where
     by : (f : Form) → is_numbered f j s.shape ≡ true
-    by One = let h : is_insn s.shape.kind ≡ false = insn_as s.shape.kind s.says ∙ ap insn_said s.is ∙ n in rw h refl
+    by One = let h : is_insn s.shape.kind ≡ false = insn_as s.shape.kind s.word_values ∙ ap insn_read s.is ∙ n in rw h refl
     by Two = refl
 
 -- What a line says, and where it leads.
 pub record LineStep (form : Form) (es : List Label) (s : State) (ls : List (List ℕ)) (l : List ℕ) (u : Reading) : Type 0 where
   pub x : Line
-  pub says : SaysLine form es (insn_count s.block) l x
+  pub word_values : LineText form es (insn_count s.block) l x
   pub steps : Steps s (s.lines + 1) x u.base
   pub labels : u.labels ≡ labels_by form x (s.lines + 1 + 1) ls es
   pub form_is : u.form ≡ form
   pub lines : u.base.lines ≡ s.lines + 1
 
-pub line_step : (form : Form) (es : List Label) (s : State) (ls : List (List ℕ)) (l : List ℕ) (ws : List Word) (u : Reading) → is_skipped l ≡ false → HasWords l ws → LineSays (rd form es (counted s)) ls ws u → LineStep form es s ls l u
+pub line_step : (form : Form) (es : List Label) (s : State) (ls : List (List ℕ)) (l : List ℕ) (ws : List Word) (u : Reading) → is_skipped l ≡ false → HasWords l ws → LineMeans (rd form es (counted s)) ls ws u → LineStep form es s ls l u
 line_step form es s ls l ws u e h m =
     let n = numbered_here form (counted s) m.shape m.may_stand in
-    let x = line_of m.shape.kind m.says in
+    let x = line_of m.shape.kind m.word_values in
     let b : u.base ≡ m.next = ap (λ (r : Reading). r.base) m.is in
     record {
       x = x;
-      says = record { not_skipped = e; words = ws; has_words = h; shape = m.shape; has_shape = m.has_shape; numbered = n.1; says = m.says; spelled = m.spelled; is = refl };
-      steps = record { stands = sym (stands_as (stage_of s.block) m.shape.kind m.says) ∙ n.0; added = m.added ∙ ap (λ y. Some y) (sym b) };
-      labels = ap (λ (r : Reading). r.labels) m.is ∙ labels_as form m.shape.kind m.says (s.lines + 1 + 1) ls es;
+      word_values = record { not_skipped = e; words = ws; has_words = h; shape = m.shape; has_shape = m.has_shape; numbered = n.1; word_values = m.word_values; spelled = m.spelled; is = refl };
+      steps = record { stands = sym (stands_as (stage_of s.block) m.shape.kind m.word_values) ∙ n.0; added = m.added ∙ ap (λ y. Some y) (sym b) };
+      labels = ap (λ (r : Reading). r.labels) m.is ∙ labels_as form m.shape.kind m.word_values (s.lines + 1 + 1) ls es;
       form_is = ap (λ (r : Reading). r.form) m.is;
       lines = ap (λ (y : State). y.lines) b ∙ lines_kept (counted s) m.next x m.added;
     }
 
 -- The line is taken so, where it is no line_of_form.
-pub step_by : (form : Form) (es : List Label) (s : State) (ls : List (List ℕ)) (l : List ℕ) (k : ℕ) (x : Line) (u : State) (y : SaysLine form es k l x) → (insn_said x ≡ true → insn_count s.block ≡ k) → line_of_form (rd form es (counted s)) y.words ≡ Nothing → Steps s (s.lines + 1) x u
+pub step_by : (form : Form) (es : List Label) (s : State) (ls : List (List ℕ)) (l : List ℕ) (k : ℕ) (x : Line) (u : State) (y : LineText form es k l x) → (insn_read x ≡ true → insn_count s.block ≡ k) → line_of_form (rd form es (counted s)) y.words ≡ Nothing → Steps s (s.lines + 1) x u
     → TakesLine (rd form es s) ls l (rd form (labels_by form x (s.lines + 1 + 1) ls es) u)
 step_by form es s ls l k x u y c a p =
-    let i : is_insn y.shape.kind ≡ insn_said x = insn_as y.shape.kind y.says ∙ ap insn_said y.is in
-    let m : may_stand (stage_of s.block) y.shape.kind ≡ true = stands_as (stage_of s.block) y.shape.kind y.says ∙ ap (line_stands (stage_of s.block)) y.is ∙ p.stands in
-    let t : LineSays (rd form es (counted s)) ls y.words (rd form (labels_by form x (s.lines + 1 + 1) ls es) u) = record {
+    let i : is_insn y.shape.kind ≡ insn_read x = insn_as y.shape.kind y.word_values ∙ ap insn_read y.is in
+    let m : may_stand (stage_of s.block) y.shape.kind ≡ true = stands_as (stage_of s.block) y.shape.kind y.word_values ∙ ap (line_stands (stage_of s.block)) y.is ∙ p.stands in
+    let t : LineMeans (rd form es (counted s)) ls y.words (rd form (labels_by form x (s.lines + 1 + 1) ls es) u) = record {
       shape = y.shape;
       has_shape = y.has_shape;
       may_stand = may_be_there form k (counted s) y.shape m (λ z. c (sym i ∙ z)) y.numbered;
-      says = y.says;
+      word_values = y.word_values;
       spelled = y.spelled;
       next = u;
       added = ap (add (counted s)) y.is ∙ p.added;
-      is = ap (λ z. rd form z u) (sym (labels_as form y.shape.kind y.says (s.lines + 1 + 1) ls es ∙ ap (λ z. labels_by form z (s.lines + 1 + 1) ls es) y.is));
+      is = ap (λ z. rd form z u) (sym (labels_as form y.shape.kind y.word_values (s.lines + 1 + 1) ls es ∙ ap (λ z. labels_by form z (s.lines + 1 + 1) ls es) y.is));
     } in
     inr (y.not_skipped, record { words = y.words; has_words = y.has_words; makes = inr (inr (a, t)) })
 
 -- The line is taken so after the first line.
-pub step_taken : (form : Form) (es : List Label) (s : State) (ls : List (List ℕ)) (l : List ℕ) (k : ℕ) (x : Line) (u : State) → SaysLine form es k l x → (insn_said x ≡ true → insn_count s.block ≡ k) → is_start (stage_of s.block) ≡ false → Steps s (s.lines + 1) x u
+pub step_taken : (form : Form) (es : List Label) (s : State) (ls : List (List ℕ)) (l : List ℕ) (k : ℕ) (x : Line) (u : State) → LineText form es k l x → (insn_read x ≡ true → insn_count s.block ≡ k) → is_start (stage_of s.block) ≡ false → Steps s (s.lines + 1) x u
     → TakesLine (rd form es s) ls l (rd form (labels_by form x (s.lines + 1 + 1) ls es) u)
 step_taken form es s ls l k x u y c b p = step_by form es s ls l k x u y c (line_of_form_nothing form es (counted s) y.words y.shape y.has_shape b) p

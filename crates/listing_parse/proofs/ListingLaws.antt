@@ -18,16 +18,16 @@ use Rattle.listing_lines.specs.declared.form.Form.{Form}
 use Rattle.listing_lines.specs.declared.form.Form.TheVariants.{One, Two}
 use Rattle.listing_parse.specs.States.{Block, at_start, at_top, in_code, State, stage_of, add}
 use Rattle.listing_lines.specs.Splitting.{lines, is_skipped}
-use Rattle.listing_parse.specs.Text.{Reading, is_second, line_of_form, in_second, LineSays, AddsLine, TakesLine, Reads, IsListing}
+use Rattle.listing_parse.specs.Text.{Reading, is_second, line_of_form, in_second, LineMeans, AddsLine, TakesLine, Reads, IsListing}
 use Rattle.listing_parse.specs.declared.form_line.FormLine.TheVariants.{Nothing, First, Mark}
-use Rattle.listing_parse.specs.Codes.{Numbered, said}
+use Rattle.listing_parse.specs.Codes.{Numbered, unnumbered}
 use Rattle.listing_parse.specs.Classes.{ClassesText}
-use Rattle.listing_parse.specs.inner.Reads.{AreRead, SayRun}
+use Rattle.listing_parse.specs.inner.Reads.{AreRead, RunText}
 use Rattle.listing_parse.specs.inner.Runs.{at_line, Steps, Runs, with_classes, is_outside}
-use Rattle.listing_parse.specs.Texts.{SaysLine, outside, SayLines, BeginsForm, ListingText}
+use Rattle.listing_parse.specs.Texts.{LineText, outside, LinesText, BeginsForm, ListingText}
 use Rattle.listing_parse.proofs.SecondFormLaws.{one_after}
 use Rattle.listing_parse.proofs.ClassLaws.{classes_read, classes_go}
-use Rattle.listing_parse.proofs.LineSteps.{rd, insn_said, insn_as, line_step, step_by, out, part_of}
+use Rattle.listing_parse.proofs.LineSteps.{rd, insn_read, insn_as, line_step, step_by, out, part_of}
 use Rattle.listing_parse.proofs.LabelLaws.{insn_kind}
 use Rattle.listing_parse.proofs.ReadOn.{read_on, to_reads}
 use Rattle.listing_parse.proofs.ReadBack.{mark_means, first_means, at_out, from_reads}
@@ -38,11 +38,11 @@ abbrev first_kind : Kind → Bool
 first_kind kind.First = true
 first_kind _ = false
 
-abbrev first_said : Line → Bool
-first_said first_line = true
-first_said _ = false
+abbrev first_read : Line → Bool
+first_read first_line = true
+first_read _ = false
 
-first_as : (k : Kind) (ds : List Datum) → first_kind k ≡ first_said (line_of k ds)
+first_as : (k : Kind) (ds : List Datum) → first_kind k ≡ first_read (line_of k ds)
 unfolding line_of
 first_as kind.First ds = refl
 first_as _ ds = refl
@@ -70,16 +70,16 @@ first_fits key.End ws row e = end_fits (is_first_key key.Code ws) row _ _ e (λ 
 first_fits key.Static ws row e = static_fits _ _ row _ e (λ z. absurd cc)
 first_fits _ ws row e = λ z. absurd cc
 
-not_second : (l : List ℕ) (y : SaysLine One [] 0 l first_line) → is_second y.words ≡ false
+not_second : (l : List ℕ) (y : LineText One [] 0 l first_line) → is_second y.words ≡ false
 not_second l y = by y.has_shape
   where
     by : HasShape y.words y.shape → is_second y.words ≡ false
     by (inl b) =
         let i : is_insn y.shape.kind ≡ true = ap (λ (z : Shape). is_insn z.kind) b.is ∙ insn_kind b.insn.text b.insn.after b.row b.insn.has_row in
-        let j : is_insn y.shape.kind ≡ false = insn_as y.shape.kind y.says ∙ ap insn_said y.is in
+        let j : is_insn y.shape.kind ≡ false = insn_as y.shape.kind y.word_values ∙ ap insn_read y.is in
         absurd cc
     by (inr b) =
-        let i : first_kind b.row.0 ≡ true = sym (ap (λ (z : Shape). first_kind z.kind) b.is) ∙ first_as y.shape.kind y.says ∙ ap first_said y.is in
+        let i : first_kind b.row.0 ≡ true = sym (ap (λ (z : Shape). first_kind z.kind) b.is) ∙ first_as y.shape.kind y.word_values ∙ ap first_read y.is in
         ap is_second b.words ∙ one_after b.row.1 (plain_word b.text) b.after (first_fits b.keyed.lead b.after b.row b.keyed.has_row i) b.keyed.forms
 
 -- ---- up to the first line
@@ -102,7 +102,7 @@ record Headed (n : ℕ) (ls : List (List ℕ)) (t : Reading) : Type 0 where
   line_is : line ≡ n + length before + 1
   runs : Reads (rd form [] (outside_at line)) after [] t
 
-first_headed : (n : ℕ) (l : List ℕ) (ls : List (List ℕ)) (u t : Reading) (x : Line) → SaysLine One [] 0 l x → Steps (begun_at n) (n + 1) x u.base → u.labels ≡ [] → u.form ≡ One → Reads u ls [] t → Headed n (l ∷ ls) t
+first_headed : (n : ℕ) (l : List ℕ) (ls : List (List ℕ)) (u t : Reading) (x : Line) → LineText One [] 0 l x → Steps (begun_at n) (n + 1) x u.base → u.labels ≡ [] → u.form ≡ One → Reads u ls [] t → Headed n (l ∷ ls) t
 unfolding add
 first_headed n l ls u t first_line y p e f r =
     let b : u.base ≡ outside_at (n + 1) = let h : Some (outside_at (n + 1)) ≡ Some u.base = p.added in cc in
@@ -124,7 +124,7 @@ first_headed n l ls u t x y p e f r = let h = p.stands in absurd cc
 adds_headed : (n : ℕ) (l : List ℕ) (ls : List (List ℕ)) (u t : Reading) → is_skipped l ≡ false → AddsLine (rd One [] (begun_at (n + 1))) ls l u → Reads u ls [] t → Headed n (l ∷ ls) t
 adds_headed n l ls u t q a r = by a.makes
   where
-    by : ((line_of_form (rd One [] (begun_at (n + 1))) a.words ≡ First) × (u ≡ in_second (rd One [] (begun_at (n + 1))))) ⊎ ((line_of_form (rd One [] (begun_at (n + 1))) a.words ≡ Mark) × (u ≡ rd One [] (begun_at (n + 1)))) ⊎ ((line_of_form (rd One [] (begun_at (n + 1))) a.words ≡ Nothing) × LineSays (rd One [] (begun_at (n + 1))) ls a.words u)
+    by : ((line_of_form (rd One [] (begun_at (n + 1))) a.words ≡ First) × (u ≡ in_second (rd One [] (begun_at (n + 1))))) ⊎ ((line_of_form (rd One [] (begun_at (n + 1))) a.words ≡ Mark) × (u ≡ rd One [] (begun_at (n + 1)))) ⊎ ((line_of_form (rd One [] (begun_at (n + 1))) a.words ≡ Nothing) × LineMeans (rd One [] (begun_at (n + 1))) ls a.words u)
         → Headed n (l ∷ ls) t
     by (inl m) = record {
       form = Two;
@@ -141,7 +141,7 @@ adds_headed n l ls u t q a r = by a.makes
     by (inr (inl m)) = let h = (mark_means One [] (begun_at (n + 1)) a.words m.0).second in absurd cc
     by (inr (inr m)) =
         let y = line_step One [] (begun_at n) ls l a.words u q a.has_words m.1 in
-        first_headed n l ls u t y.x y.says y.steps y.labels y.form_is r
+        first_headed n l ls u t y.x y.word_values y.steps y.labels y.form_is r
 
 head_read : (ls : List (List ℕ)) (n : ℕ) (t : Reading) → t.base.block ≡ at_top → Reads (rd One [] (begun_at n)) ls [] t → Headed n ls t
 head_read [] n t top r = let h : at_start ≡ at_top = ap (λ (z : Reading). z.base.block) r ∙ top in absurd cc
@@ -196,9 +196,9 @@ listing_read text p x =
         split = h.split;
         silent = h.silent;
         begins = h.begins;
-        lines_said = g.0;
-        say = subst (λ z. SayLines h.form outside z h.after g.0) n g.1;
-        classes = subst (ClassesText (said g.0)) e c.are_texts;
+        program_lines = g.0;
+        lines_text = subst (λ z. LinesText h.form outside z h.after g.0) n g.1;
+        classes = subst (ClassesText (unnumbered g.0)) e c.are_texts;
       },
       x.formed,
     )
@@ -208,8 +208,8 @@ listing_goes text p y =
     let x = y.0 in
     let s = outside_at (length x.before + 1) in
     let t = with_classes s p 0 in
-    let r = classes_go s t x.lines_said (record { classes = p; are_texts = x.classes; whole = refl }) in
-    let z = to_reads x.form x.say [] s t refl (refl, refl) r in
+    let r = classes_go s t x.program_lines (record { classes = p; are_texts = x.classes; whole = refl }) in
+    let z = to_reads x.form x.lines_text [] s t refl (refl, refl) r in
     let e : length x.before + 1 ≡ 0 + length x.before + 1 = omega arith in
     let h = head_on x.before x.first x.after x.form 0 (rd x.form [] (at_line t z.0)) x.silent x.begins (subst (λ n. Reads (rd x.form [] (outside_at n)) x.after [] (rd x.form [] (at_line t z.0))) e z.1) in
     record {
@@ -232,10 +232,10 @@ outside_is at_start e h = absurd cc
 outside_is (in_code o b p) e h = absurd cc
 outside_is _ e h = refl
 
-pub lines_read : (form : Form) (s t : State) (ls : List (List ℕ)) → is_start (stage_of s.block) ≡ false → is_outside s.block ≡ true → is_outside t.block ≡ true → AreRead form s ls t → SayRun form s ls t
+pub lines_read : (form : Form) (s t : State) (ls : List (List ℕ)) → is_start (stage_of s.block) ≡ false → is_outside s.block ≡ true → is_outside t.block ≡ true → AreRead form s ls t → RunText form s ls t
 lines_read form s t ls e h top r =
     let g = from_reads ls at_out form [] s (rd form [] (at_line t r.0)) (refl, outside_is s.block e h) top r.1 in
-    record { lines_said = g.0; say = g.1; run = runs_end g.0 s t r.0 g.2 }
+    record { program_lines = g.0; lines_text = g.1; run = runs_end g.0 s t r.0 g.2 }
 
-pub lines_go : (form : Form) (s t : State) (ls : List (List ℕ)) → is_start (stage_of s.block) ≡ false → is_outside s.block ≡ true → SayRun form s ls t → AreRead form s ls t
-lines_go form s t ls e h x = to_reads form x.say [] s t refl (refl, outside_is s.block e h) x.run
+pub lines_go : (form : Form) (s t : State) (ls : List (List ℕ)) → is_start (stage_of s.block) ≡ false → is_outside s.block ≡ true → RunText form s ls t → AreRead form s ls t
+lines_go form s t ls e h x = to_reads form x.lines_text [] s t refl (refl, outside_is s.block e h) x.run

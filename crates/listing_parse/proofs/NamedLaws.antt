@@ -172,13 +172,13 @@ add_named s l n h = IfSome-map (λ b. with_block s b) BlockIsNamed StateIsNamed 
 pub first_named : (r : Reading) → r ≡ begin → StateIsNamed r.base
 first_named r e = subst (λ (x : Reading). StateIsNamed x.base) (sym e) (record { done = tt; block = tt })
 
-pub said_named : (old new : Spellings) (r t : Reading) (k : Kind) (ds : List Datum) → StayValid old new ds → add r.base (line_of k ds) ≡ Some t.base → ReadingIsNamed old r → ReadingIsNamed new t
-said_named old new r t k ds stay e n = λ valid.
+pub read_named : (old new : Spellings) (r t : Reading) (k : Kind) (ds : List Datum) → StayValid old new ds → add r.base (line_of k ds) ≡ Some t.base → ReadingIsNamed old r → ReadingIsNamed new t
+read_named old new r t k ds stay e n = λ valid.
     let h = stay valid in
     subst (λ (o : Option State). IfSome o StateIsNamed) e (add_named r.base (line_of k ds) (line_named k ds h.1) (n h.0))
 
-pub insn_said_named : (old new : Spellings) (r t : Reading) (i : Insn) → StayNamed old new i → add r.base (insn_line i) ≡ Some t.base → ReadingIsNamed old r → ReadingIsNamed new t
-insn_said_named old new r t i stay e n = λ valid.
+pub insn_read_named : (old new : Spellings) (r t : Reading) (i : Insn) → StayNamed old new i → add r.base (insn_line i) ≡ Some t.base → ReadingIsNamed old r → ReadingIsNamed new t
+insn_read_named old new r t i stay e n = λ valid.
     let h = stay valid in
     subst (λ (o : Option State). IfSome o StateIsNamed) e (add_named r.base (insn_line i) h.1 (n h.0))
 

@@ -4,7 +4,7 @@ use Rattle.std.proofs.lemmas.List.{map-append, length-append}
 use Rattle.program_types.specs.Content.{Class}
 use Rattle.listing_lines.specs.Lines.{Line}
 use Rattle.listing_parse.specs.States.{Open, ClassPart, at_top, in_class, closed, State}
-use Rattle.listing_parse.specs.Codes.{Numbered, said}
+use Rattle.listing_parse.specs.Codes.{Numbered, unnumbered}
 use Rattle.listing_parse.specs.inner.Runs.{at_line, Runs, Steps}
 
 -- The lines begin with this one.
@@ -12,41 +12,41 @@ pub record Starts (ls : List Numbered) (x : Line) (xs : List Line) : Type 0 wher
   pub number : ℕ
   pub rest : List Numbered
   pub is : ls ≡ (number, x) ∷ rest
-  pub says : said rest ≡ xs
+  pub word_values : unnumbered rest ≡ xs
 
-pub starts : (ls : List Numbered) (x : Line) (xs : List Line) → said ls ≡ x ∷ xs → Starts ls x xs
+pub starts : (ls : List Numbered) (x : Line) (xs : List Line) → unnumbered ls ≡ x ∷ xs → Starts ls x xs
 starts [] x xs e = absurd cc
-starts ((n, l) ∷ ls) x xs e = let h : l ≡ x = cc in record { number = n; rest = ls; is = ap (λ y. (n, y) ∷ ls) h; says = cc }
+starts ((n, l) ∷ ls) x xs e = let h : l ≡ x = cc in record { number = n; rest = ls; is = ap (λ y. (n, y) ∷ ls) h; word_values = cc }
 
 -- The lines are those in front and those after.
 pub record Splits (ls : List Numbered) (xs ys : List Line) : Type 0 where
   pub front : List Numbered
   pub back : List Numbered
   pub is : ls ≡ front ++ back
-  pub in_front : said front ≡ xs
-  pub after : said back ≡ ys
+  pub in_front : unnumbered front ≡ xs
+  pub after : unnumbered back ≡ ys
 
-pub splits : (ls : List Numbered) (xs ys : List Line) → said ls ≡ xs ++ ys → Splits ls xs ys
+pub splits : (ls : List Numbered) (xs ys : List Line) → unnumbered ls ≡ xs ++ ys → Splits ls xs ys
 splits ls [] ys e = record { front = []; back = ls; is = refl; in_front = refl; after = e }
 splits [] (x ∷ xs) ys e = absurd cc
 splits ((n, l) ∷ ls) (x ∷ xs) ys e =
     let h : l ≡ x = cc in
-    let t : said ls ≡ xs ++ ys = cc in
+    let t : unnumbered ls ≡ xs ++ ys = cc in
     let k = splits ls xs ys t in
     record {
       front = (n, l) ∷ k.front;
       back = k.back;
       is = ap (λ y. (n, l) ∷ y) k.is;
-      in_front = ap (λ y. y ∷ said k.front) h ∙ ap (λ y. x ∷ y) k.in_front;
+      in_front = ap (λ y. y ∷ unnumbered k.front) h ∙ ap (λ y. x ∷ y) k.in_front;
       after = k.after;
     }
 
-pub none_said : (ls : List Numbered) → said ls ≡ [] → ls ≡ []
-none_said [] e = refl
-none_said (l ∷ ls) e = absurd cc
+pub none_read : (ls : List Numbered) → unnumbered ls ≡ [] → ls ≡ []
+none_read [] e = refl
+none_read (l ∷ ls) e = absurd cc
 
-pub said_append : (xs ys : List Numbered) → said (xs ++ ys) ≡ said xs ++ said ys
-said_append xs ys = map-append (λ (l : Numbered). l.1) xs ys
+pub read_append : (xs ys : List Numbered) → unnumbered (xs ++ ys) ≡ unnumbered xs ++ unnumbered ys
+read_append xs ys = map-append (λ (l : Numbered). l.1) xs ys
 
 pub length_after : (xs ys zs : List Numbered) → xs ≡ ys ++ zs → length zs ≤ length xs
 length_after xs ys zs e = let h = ap length e in let k = length-append ys zs in omega arith
@@ -56,11 +56,11 @@ pub record Front (ls : List Numbered) (xs : List Line) : Type 0 where
   pub mine : List Numbered
   pub after : List Numbered
   pub split : ls ≡ mine ++ after
-  pub says : said mine ≡ xs
+  pub word_values : unnumbered mine ≡ xs
 
 -- one line more in front
 abbrev pub more_front : {ls : List Numbered} {xs : List Line} (n : ℕ) (l : Line) → Front ls xs → Front ((n, l) ∷ ls) (l ∷ xs)
-more_front n l f = record { mine = (n, l) ∷ f.mine; after = f.after; split = ap (λ z. (n, l) ∷ z) f.split; says = ap (λ z. l ∷ z) f.says }
+more_front n l f = record { mine = (n, l) ∷ f.mine; after = f.after; split = ap (λ z. (n, l) ∷ z) f.split; word_values = ap (λ z. l ∷ z) f.word_values }
 
 -- the lines, and of those after them the next
 abbrev pub front_then : {ls : List Numbered} {xs ys zs : List Line} (f : Front ls xs) → Front f.after ys → xs ++ ys ≡ zs → Front ls zs
@@ -68,7 +68,7 @@ front_then {xs = xs} f g e = record {
   mine = f.mine ++ g.mine;
   after = g.after;
   split = f.split ∙ ap (λ z. f.mine ++ z) g.split ∙ sym (append_assoc f.mine g.mine g.after);
-  says = said_append f.mine g.mine ∙ ap (λ z. z ++ said g.mine) f.says ∙ ap (λ z. xs ++ z) g.says ∙ e;
+  word_values = read_append f.mine g.mine ∙ ap (λ z. z ++ unnumbered g.mine) f.word_values ∙ ap (λ z. xs ++ z) g.word_values ∙ e;
 }
 
 -- What was read, up to a line from where the lines after it run on.

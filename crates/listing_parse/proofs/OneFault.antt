@@ -16,8 +16,8 @@ use Rattle.listing_lines.specs.declared.form.Form.{Form}
 use Rattle.listing_lines.specs.declared.form.Form.TheVariants.{One, Two}
 use Rattle.listing_parse.specs.Forms.{HasShapeInForm, may_stand_in_form, MisspellsInForm}
 use Rattle.listing_parse.specs.declared.form_line.FormLine.TheVariants.{Nothing, Refused}
-use Rattle.listing_parse.specs.Text.{Reading, begin, line_counted, IsMisplaced, IsMisspelled, IsTwice, IsUnsaid, AreRefused, Reads, LineIsRefused, IsBadLine, ListingBreaks}
-use Rattle.listing_parse.proofs.ExactLaws.{not_both, shape_one, says_none, reads_one, reads_over, refused_takes, bad_is_unread}
+use Rattle.listing_parse.specs.Text.{Reading, begin, line_counted, IsMisplaced, IsMisspelled, IsTwice, IsMeaningless, AreRefused, Reads, LineIsRefused, IsBadLine, ListingBreaks}
+use Rattle.listing_parse.proofs.ExactLaws.{not_both, shape_one, reads_none, reads_one, reads_over, refused_takes, bad_is_unread}
 
 -- ---- the first word that says nothing in its slot
 
@@ -49,36 +49,36 @@ not_misplaced r ws s m h stands =
 not_misspelled : (r : Reading) (ws : List Word) (c : ℕ) → IsMisspelled r ws c → IsTwice r ws → ⊥
 not_misspelled r ws c m t =
     let e = shape_one r.form ws m.shape t.shape m.has_shape t.has_shape in
-    says_none r.form r.labels t.shape.slots t.shape.words t.says c t.spelled (subst (λ (x : Shape). MisspellsInForm r.form r.labels x.slots x.words c) e m.bad)
+    reads_none r.form r.labels t.shape.slots t.shape.words t.word_values c t.spelled (subst (λ (x : Shape). MisspellsInForm r.form r.labels x.slots x.words c) e m.bad)
 
 misspelled_one : (r : Reading) (ws : List Word) (c d : ℕ) → IsMisspelled r ws c → IsMisspelled r ws d → c ≡ d
 misspelled_one r ws c d a b =
     let e = shape_one r.form ws a.shape b.shape a.has_shape b.has_shape in
     misspells_one r.form r.labels b.shape.slots b.shape.words c d (subst (λ (x : Shape). MisspellsInForm r.form r.labels x.slots x.words c) e a.bad) b.bad
 
-unsaid_one : (r : Reading) (ws : List Word) (c d : ℕ) → IsUnsaid r ws c → IsUnsaid r ws d → c ≡ d
-unsaid_one r ws c d (inl a) (inl b) = a.0 ∙ sym b.0
-unsaid_one r ws c d (inl a) (inr (inl b)) = absurd (a.1 b.1.shape b.1.has_shape)
-unsaid_one r ws c d (inl a) (inr (inr (inl b))) = absurd (a.1 b.shape b.has_shape)
-unsaid_one r ws c d (inl a) (inr (inr (inr b))) = absurd (a.1 b.1.shape b.1.has_shape)
-unsaid_one r ws c d (inr (inl a)) (inl b) = absurd (b.1 a.1.shape a.1.has_shape)
-unsaid_one r ws c d (inr (inl a)) (inr (inl b)) = a.0 ∙ sym b.0
-unsaid_one r ws c d (inr (inl a)) (inr (inr (inl b))) = absurd (not_misplaced r ws b.shape a.1 b.has_shape b.may_stand)
-unsaid_one r ws c d (inr (inl a)) (inr (inr (inr b))) = absurd (not_misplaced r ws b.1.shape a.1 b.1.has_shape b.1.may_stand)
-unsaid_one r ws c d (inr (inr (inl a))) (inl b) = absurd (b.1 a.shape a.has_shape)
-unsaid_one r ws c d (inr (inr (inl a))) (inr (inl b)) = absurd (not_misplaced r ws a.shape b.1 a.has_shape a.may_stand)
-unsaid_one r ws c d (inr (inr (inl a))) (inr (inr (inl b))) = misspelled_one r ws c d a b
-unsaid_one r ws c d (inr (inr (inl a))) (inr (inr (inr b))) = absurd (not_misspelled r ws c a b.1)
-unsaid_one r ws c d (inr (inr (inr a))) (inl b) = absurd (b.1 a.1.shape a.1.has_shape)
-unsaid_one r ws c d (inr (inr (inr a))) (inr (inl b)) = absurd (not_misplaced r ws a.1.shape b.1 a.1.has_shape a.1.may_stand)
-unsaid_one r ws c d (inr (inr (inr a))) (inr (inr (inl b))) = absurd (not_misspelled r ws d b a.1)
-unsaid_one r ws c d (inr (inr (inr a))) (inr (inr (inr b))) = a.0 ∙ sym b.0
+meaningless_one : (r : Reading) (ws : List Word) (c d : ℕ) → IsMeaningless r ws c → IsMeaningless r ws d → c ≡ d
+meaningless_one r ws c d (inl a) (inl b) = a.0 ∙ sym b.0
+meaningless_one r ws c d (inl a) (inr (inl b)) = absurd (a.1 b.1.shape b.1.has_shape)
+meaningless_one r ws c d (inl a) (inr (inr (inl b))) = absurd (a.1 b.shape b.has_shape)
+meaningless_one r ws c d (inl a) (inr (inr (inr b))) = absurd (a.1 b.1.shape b.1.has_shape)
+meaningless_one r ws c d (inr (inl a)) (inl b) = absurd (b.1 a.1.shape a.1.has_shape)
+meaningless_one r ws c d (inr (inl a)) (inr (inl b)) = a.0 ∙ sym b.0
+meaningless_one r ws c d (inr (inl a)) (inr (inr (inl b))) = absurd (not_misplaced r ws b.shape a.1 b.has_shape b.may_stand)
+meaningless_one r ws c d (inr (inl a)) (inr (inr (inr b))) = absurd (not_misplaced r ws b.1.shape a.1 b.1.has_shape b.1.may_stand)
+meaningless_one r ws c d (inr (inr (inl a))) (inl b) = absurd (b.1 a.shape a.has_shape)
+meaningless_one r ws c d (inr (inr (inl a))) (inr (inl b)) = absurd (not_misplaced r ws a.shape b.1 a.has_shape a.may_stand)
+meaningless_one r ws c d (inr (inr (inl a))) (inr (inr (inl b))) = misspelled_one r ws c d a b
+meaningless_one r ws c d (inr (inr (inl a))) (inr (inr (inr b))) = absurd (not_misspelled r ws c a b.1)
+meaningless_one r ws c d (inr (inr (inr a))) (inl b) = absurd (b.1 a.1.shape a.1.has_shape)
+meaningless_one r ws c d (inr (inr (inr a))) (inr (inl b)) = absurd (not_misplaced r ws a.1.shape b.1 a.1.has_shape a.1.may_stand)
+meaningless_one r ws c d (inr (inr (inr a))) (inr (inr (inl b))) = absurd (not_misspelled r ws d b a.1)
+meaningless_one r ws c d (inr (inr (inr a))) (inr (inr (inr b))) = a.0 ∙ sym b.0
 
 words_refused_one : (r : Reading) (ws : List Word) (c d : ℕ) → AreRefused r ws c → AreRefused r ws d → c ≡ d
 words_refused_one r ws c d (inl a) (inl b) = let x : Refused c ≡ Refused d = sym a ∙ b in cc
 words_refused_one r ws c d (inl a) (inr b) = let x : Refused c ≡ Nothing = sym a ∙ b.0 in absurd cc
 words_refused_one r ws c d (inr a) (inl b) = let x : Refused d ≡ Nothing = sym b ∙ a.0 in absurd cc
-words_refused_one r ws c d (inr a) (inr b) = unsaid_one r ws c d a.1 b.1
+words_refused_one r ws c d (inr a) (inr b) = meaningless_one r ws c d a.1 b.1
 
 -- ---- the first line that is refused
 

@@ -14,15 +14,15 @@ use Rattle.listing_parse.specs.States.{Block, at_start, State, stage_of, insn_co
 use Rattle.listing_lines.specs.Splitting.{is_skipped}
 use Rattle.listing_lines.specs.Labels.{Label, is_label, lookup, with_label, labels_ahead}
 use Rattle.listing_lines.proofs.AheadLaws.{ahead_skips}
-use Rattle.listing_parse.specs.Text.{Reading, is_second, begins_mark, is_on, line_of_mark, line_of_form, in_second, LineSays, AddsLine, TakesLine, Reads}
+use Rattle.listing_parse.specs.Text.{Reading, is_second, begins_mark, is_on, line_of_mark, line_of_form, in_second, LineMeans, AddsLine, TakesLine, Reads}
 use Rattle.listing_parse.specs.declared.form_line.FormLine.TheVariants.{Nothing, Refused, First, Mark}
 use Rattle.listing_parse.specs.Codes.{Numbered}
 use Rattle.listing_parse.specs.Classes.{NoneTwice}
 use Rattle.listing_parse.specs.inner.Runs.{line_stands, at_line, Steps, Runs, is_outside}
-use Rattle.listing_parse.specs.Texts.{SaysLine, IsLabelLine, opens_code, is_of_try, label_names, Where, outside, among, after_insns, SayLines, no_lines, silent, one_line, code_line, label_line, one_insn, no_insn, of_try, code_end}
+use Rattle.listing_parse.specs.Texts.{LineText, IsLabelLine, opens_code, is_of_try, label_names, Where, outside, among, after_insns, LinesText, no_lines, silent, one_line, code_line, label_line, one_insn, no_insn, of_try, code_end}
 use Rattle.listing_parse.proofs.CodeLaws.{again}
 use Rattle.listing_parse.proofs.HeadLaws.{distinct_more}
-use Rattle.listing_parse.proofs.LineSteps.{rd, insn_said, labels_by, out, insns, later, part_of, part_after, part_moves, out_is, insns_is, later_is, renumbered, line_step}
+use Rattle.listing_parse.proofs.LineSteps.{rd, insn_read, labels_by, out, insns, later, part_of, part_after, part_moves, out_is, insns_is, later_is, renumbered, line_step}
 use Rattle.listing_parse.proofs.LabelLaws.{not_named, names_append, look_front, found_le, ahead_extends, label_ahead, insn_ahead, end_ahead, ends_insns, NoLabels}
 use Rattle.listing_parse.proofs.ReadOn.{same_labels, within_place, none_by, end_by, out_goes}
 use Rattle.listing_lines.proofs.LookLaws.{with_new}
@@ -114,7 +114,7 @@ Fits at_later form es s ls = NoLabels form es × (part_of s.block ≡ later)
 
 -- The lines say some of a program, which make t of s.
 abbrev pub Sayings : Form → Where → ℕ → List (List ℕ) → State → State → Type 0
-Sayings form w n ls s t = (xs : List Numbered) × SayLines form w n ls xs × Runs s xs t
+Sayings form w n ls s t = (xs : List Numbered) × LinesText form w n ls xs × Runs s xs t
 
 abbrev pub Gives : Stand → Form → List Label → ℕ → State → List (List ℕ) → State → Type 0
 Gives at_out form es n s ls t = Sayings form outside n ls s t
@@ -196,36 +196,36 @@ abbrev After : Form → List Label → State → List (List ℕ) → Reading →
 After form es s ls t = (st : Stand) → Fits st form es s ls → Gives st form es s.lines s ls t.base
 
 -- Outside of codes.
-plain_gives : (form : Form) (es : List Label) (s : State) (l : List ℕ) (ls : List (List ℕ)) (t : Reading) (x : Line) (u : State) → Fits at_out form es s (l ∷ ls) → SaysLine form es (insn_count s.block) l x → Steps s (s.lines + 1) x u → u.lines ≡ s.lines + 1
+plain_gives : (form : Form) (es : List Label) (s : State) (l : List ℕ) (ls : List (List ℕ)) (t : Reading) (x : Line) (u : State) → Fits at_out form es s (l ∷ ls) → LineText form es (insn_count s.block) l x → Steps s (s.lines + 1) x u → u.lines ≡ s.lines + 1
     → After form (labels_by form x (s.lines + 1 + 1) ls es) u ls t → opens_code x ≡ false → Gives at_out form es s.lines s (l ∷ ls) t.base
 plain_gives form es s l ls t x u f y p e hyp o =
-    let y1 : SaysLine form [] 0 l x = subst (λ z. SaysLine form z 0 l x) f.0 (subst (λ k. SaysLine form es k l x) (out_is s.block f.1).4 y) in
+    let y1 : LineText form [] 0 l x = subst (λ z. LineText form z 0 l x) f.0 (subst (λ k. LineText form es k l x) (out_is s.block f.1).4 y) in
     let none = ap (labels_by form x (s.lines + 1 + 1) ls) f.0 ∙ none_by form x (s.lines + 1 + 1) ls o in
     let part : part_of u.block ≡ out = part_moves s (s.lines + 1) x u p ∙ ap (part_after x) f.1 ∙ out_goes x s.block f.1 p.stands o in
     let g = hyp at_out (none, part) in
-    ((s.lines + 1, x) ∷ g.0, one_line y1 o (subst (λ z. SayLines form outside z ls g.0) e g.1), (u, p, g.2))
+    ((s.lines + 1, x) ∷ g.0, one_line y1 o (subst (λ z. LinesText form outside z ls g.0) e g.1), (u, p, g.2))
 
 code_begins : (form : Form) (es : List Label) (n m a b c : ℕ) (ls : List (List ℕ)) → es ≡ [] → n ≡ m → IsAhead form [] (n + 1) 0 ls (labels_by form (open_code a b c) (m + 1) ls es)
 code_begins One es n m a b c ls h e = (refl, h)
 code_begins Two es n m a b c ls h e = ap (λ z. labels_ahead [] (z + 1) 0 ls) e
 
-out_gives : (form : Form) (es : List Label) (s : State) (l : List ℕ) (ls : List (List ℕ)) (t : Reading) (x : Line) (u : State) → Fits at_out form es s (l ∷ ls) → SaysLine form es (insn_count s.block) l x → Steps s (s.lines + 1) x u → u.lines ≡ s.lines + 1
+out_gives : (form : Form) (es : List Label) (s : State) (l : List ℕ) (ls : List (List ℕ)) (t : Reading) (x : Line) (u : State) → Fits at_out form es s (l ∷ ls) → LineText form es (insn_count s.block) l x → Steps s (s.lines + 1) x u → u.lines ≡ s.lines + 1
     → After form (labels_by form x (s.lines + 1 + 1) ls es) u ls t → Gives at_out form es s.lines s (l ∷ ls) t.base
 out_gives form es s l ls t (open_code a b c) u f y p e hyp =
     let x = open_code a b c in
     let es1 = labels_by form x (s.lines + 1 + 1) ls es in
-    let y1 : SaysLine form [] 0 l x = subst (λ z. SaysLine form z 0 l x) f.0 (subst (λ k. SaysLine form es k l x) (out_is s.block f.1).4 y) in
+    let y1 : LineText form [] 0 l x = subst (λ z. LineText form z 0 l x) f.0 (subst (λ k. LineText form es k l x) (out_is s.block f.1).4 y) in
     let g = hyp (at_insn [] 0) (part_moves s (s.lines + 1) x u p, code_begins form es u.lines (s.lines + 1) a b c ls f.0 e, tt, tt) in
-    let d = subst (λ z. SayLines form (among es1 z 0) u.lines ls g.3.0) (sym g.1) g.3.1 in
-    ((s.lines + 1, x) ∷ g.3.0, code_line y1 g.2 (subst (λ z. SayLines form (among es1 es1 0) z ls g.3.0) e d), (u, p, g.3.2))
+    let d = subst (λ z. LinesText form (among es1 z 0) u.lines ls g.3.0) (sym g.1) g.3.1 in
+    ((s.lines + 1, x) ∷ g.3.0, code_line y1 g.2 (subst (λ z. LinesText form (among es1 es1 0) z ls g.3.0) e d), (u, p, g.3.2))
 out_gives form es s l ls t x u f y p e hyp = plain_gives form es s l ls t x u f y p e hyp refl
 
 -- Among the instructions of a code.
-insn_on : (form : Form) (pre es : List Label) (n k j : ℕ) (l : List ℕ) (ls : List (List ℕ)) (x : Line) → SaysLine form es j l x → insn_said x ≡ true → IsAhead form pre n k (l ∷ ls) es → IsAhead form pre (n + 1) (k + 1) ls es
+insn_on : (form : Form) (pre es : List Label) (n k j : ℕ) (l : List ℕ) (ls : List (List ℕ)) (x : Line) → LineText form es j l x → insn_read x ≡ true → IsAhead form pre n k (l ∷ ls) es → IsAhead form pre (n + 1) (k + 1) ls es
 insn_on One pre es n k j l ls x y i h = h
 insn_on Two pre es n k j l ls x y i h = sym (insn_ahead pre es n k j l ls x y i) ∙ h
 
-end_on : (form : Form) (pre es : List Label) (n k j : ℕ) (l : List ℕ) (ls : List (List ℕ)) (x : Line) → SaysLine form es j l x → ends_insns x ≡ true → IsAhead form pre n k (l ∷ ls) es → es ≡ pre
+end_on : (form : Form) (pre es : List Label) (n k j : ℕ) (l : List ℕ) (ls : List (List ℕ)) (x : Line) → LineText form es j l x → ends_insns x ≡ true → IsAhead form pre n k (l ∷ ls) es → es ≡ pre
 end_on One pre es n k j l ls x y i h = h.1 ∙ sym h.0
 end_on Two pre es n k j l ls x y i h = sym h ∙ end_ahead pre es n k j l ls x y i
 
@@ -233,21 +233,21 @@ none_on : (form : Form) (pre es : List Label) (n k : ℕ) (ls : List (List ℕ))
 none_on One pre es n k ls h = h.1
 none_on Two pre es n k ls h = tt
 
-insn_gives : (pre : List Label) (k : ℕ) (form : Form) (es : List Label) (s : State) (l : List ℕ) (ls : List (List ℕ)) (t : Reading) (x : Line) (u : State) → Fits (at_insn pre k) form es s (l ∷ ls) → SaysLine form es (insn_count s.block) l x → Steps s (s.lines + 1) x u
+insn_gives : (pre : List Label) (k : ℕ) (form : Form) (es : List Label) (s : State) (l : List ℕ) (ls : List (List ℕ)) (t : Reading) (x : Line) (u : State) → Fits (at_insn pre k) form es s (l ∷ ls) → LineText form es (insn_count s.block) l x → Steps s (s.lines + 1) x u
     → line_stands Insns x ≡ true → u.lines ≡ s.lines + 1 → After form (labels_by form x (s.lines + 1 + 1) ls es) u ls t → Gives (at_insn pre k) form es s.lines s (l ∷ ls) t.base
 insn_gives pre k form es s l ls t (insn_line i) u f y p w e hyp =
     let x = insn_line i in
     let es1 = labels_by form x (s.lines + 1 + 1) ls es in
     let same : es1 ≡ es = same_labels form x (s.lines + 1 + 1) ls es refl in
-    let y1 = subst (λ z. SaysLine form es z l x) (insns_is s.block k f.0).1 y in
+    let y1 = subst (λ z. LineText form es z l x) (insns_is s.block k f.0).1 y in
     let part : part_of u.block ≡ insns (k + 1) = part_moves s (s.lines + 1) x u p ∙ ap (part_after x) f.0 in
     let a = insn_on form pre es (s.lines + 1) k (insn_count s.block) l ls x y refl f.1 in
     let a1 = subst (λ z. IsAhead form pre (z + 1) (k + 1) ls es) (sym e) a in
     let a2 = subst (λ z. IsAhead form pre (u.lines + 1) (k + 1) ls z) (sym same) a1 in
     let le = subst (λ z. AllByRecursion (λ (l : Label). l.line ≤ z) pre) (sym e) (all_le pre s.lines f.3) in
     let g = hyp (at_insn pre (k + 1)) (part, a2, f.2, le) in
-    let d = subst (λ z. SayLines form (among z g.0 (k + 1)) u.lines ls g.3.0) same g.3.1 in
-    (g.0, sym same ∙ g.1, subst (λ z. NoneTwice (label_names z)) same g.2, ((s.lines + 1, x) ∷ g.3.0, one_insn y1 (subst (λ z. SayLines form (among es g.0 (k + 1)) z ls g.3.0) e d), (u, p, g.3.2)))
+    let d = subst (λ z. LinesText form (among z g.0 (k + 1)) u.lines ls g.3.0) same g.3.1 in
+    (g.0, sym same ∙ g.1, subst (λ z. NoneTwice (label_names z)) same g.2, ((s.lines + 1, x) ∷ g.3.0, one_insn y1 (subst (λ z. LinesText form (among es g.0 (k + 1)) z ls g.3.0) e d), (u, p, g.3.2)))
 insn_gives pre k form es s l ls t (try_line from to) u f y p w e hyp =
     let x = try_line from to in
     let es1 = labels_by form x (s.lines + 1 + 1) ls es in
@@ -255,29 +255,29 @@ insn_gives pre k form es s l ls t (try_line from to) u f y p w e hyp =
     let q : es ≡ pre = end_on form pre es (s.lines + 1) k (insn_count s.block) l ls x y refl f.1 in
     let none = none_on form pre es (s.lines + 1) k (l ∷ ls) f.1 in
     let g = hyp at_later (subst (NoLabels form) (sym same) none, part_moves s (s.lines + 1) x u p) in
-    let d = subst (λ z. SayLines form (after_insns z) u.lines ls g.0) same g.1 in
+    let d = subst (λ z. LinesText form (after_insns z) u.lines ls g.0) same g.1 in
     let y1 = renumbered form es (insn_count s.block) 0 l x refl y in
-    ([], q ∙ sym (append-nil pre), subst (λ z. NoneTwice (label_names z)) (sym q) f.2, ((s.lines + 1, x) ∷ g.0, no_insn (of_try y1 refl (subst (λ z. SayLines form (after_insns es) z ls g.0) e d)), (u, p, g.2)))
+    ([], q ∙ sym (append-nil pre), subst (λ z. NoneTwice (label_names z)) (sym q) f.2, ((s.lines + 1, x) ∷ g.0, no_insn (of_try y1 refl (subst (λ z. LinesText form (after_insns es) z ls g.0) e d)), (u, p, g.2)))
 insn_gives pre k form es s l ls t end_code u f y p w e hyp =
     let q : es ≡ pre = end_on form pre es (s.lines + 1) k (insn_count s.block) l ls end_code y refl f.1 in
     let none = none_on form pre es (s.lines + 1) k (l ∷ ls) f.1 in
     let g = hyp at_out (end_by form (s.lines + 1 + 1) ls es none, part_moves s (s.lines + 1) end_code u p) in
     let y1 = renumbered form es (insn_count s.block) 0 l end_code refl y in
-    ([], q ∙ sym (append-nil pre), subst (λ z. NoneTwice (label_names z)) (sym q) f.2, ((s.lines + 1, end_code) ∷ g.0, no_insn (code_end y1 (subst (λ z. SayLines form outside z ls g.0) e g.1)), (u, p, g.2)))
+    ([], q ∙ sym (append-nil pre), subst (λ z. NoneTwice (label_names z)) (sym q) f.2, ((s.lines + 1, end_code) ∷ g.0, no_insn (code_end y1 (subst (λ z. LinesText form outside z ls g.0) e g.1)), (u, p, g.2)))
 insn_gives pre k form es s l ls t x u f y p w e hyp = absurd cc
 
 -- After the instructions of a code.
-try_gives : (form : Form) (es : List Label) (s : State) (l : List ℕ) (ls : List (List ℕ)) (t : Reading) (x : Line) (u : State) → NoLabels form es → SaysLine form es (insn_count s.block) l x → Steps s (s.lines + 1) x u → u.lines ≡ s.lines + 1
-    → After form (labels_by form x (s.lines + 1 + 1) ls es) u ls t → is_of_try x ≡ true → within_place x ≡ true → insn_said x ≡ false → part_of u.block ≡ later → Gives at_later form es s.lines s (l ∷ ls) t.base
+try_gives : (form : Form) (es : List Label) (s : State) (l : List ℕ) (ls : List (List ℕ)) (t : Reading) (x : Line) (u : State) → NoLabels form es → LineText form es (insn_count s.block) l x → Steps s (s.lines + 1) x u → u.lines ≡ s.lines + 1
+    → After form (labels_by form x (s.lines + 1 + 1) ls es) u ls t → is_of_try x ≡ true → within_place x ≡ true → insn_read x ≡ false → part_of u.block ≡ later → Gives at_later form es s.lines s (l ∷ ls) t.base
 try_gives form es s l ls t x u f y p e hyp o v i part =
     let es1 = labels_by form x (s.lines + 1 + 1) ls es in
     let same : es1 ≡ es = same_labels form x (s.lines + 1 + 1) ls es v in
     let g = hyp at_later (subst (NoLabels form) (sym same) f, part) in
-    let d = subst (λ z. SayLines form (after_insns z) u.lines ls g.0) same g.1 in
+    let d = subst (λ z. LinesText form (after_insns z) u.lines ls g.0) same g.1 in
     let y1 = renumbered form es (insn_count s.block) 0 l x i y in
-    ((s.lines + 1, x) ∷ g.0, of_try y1 o (subst (λ z. SayLines form (after_insns es) z ls g.0) e d), (u, p, g.2))
+    ((s.lines + 1, x) ∷ g.0, of_try y1 o (subst (λ z. LinesText form (after_insns es) z ls g.0) e d), (u, p, g.2))
 
-later_gives : (form : Form) (es : List Label) (s : State) (l : List ℕ) (ls : List (List ℕ)) (t : Reading) (x : Line) (u : State) → NoLabels form es → SaysLine form es (insn_count s.block) l x → Steps s (s.lines + 1) x u
+later_gives : (form : Form) (es : List Label) (s : State) (l : List ℕ) (ls : List (List ℕ)) (t : Reading) (x : Line) (u : State) → NoLabels form es → LineText form es (insn_count s.block) l x → Steps s (s.lines + 1) x u
     → (line_stands Tries x ≡ true) ⊎ (line_stands Caught x ≡ true) → u.lines ≡ s.lines + 1 → After form (labels_by form x (s.lines + 1 + 1) ls es) u ls t → Gives at_later form es s.lines s (l ∷ ls) t.base
 later_gives form es s l ls t (try_line from to) u f y p w e hyp = try_gives form es s l ls t (try_line from to) u f y p e hyp refl refl refl (part_moves s (s.lines + 1) (try_line from to) u p)
 later_gives form es s l ls t (catch_line d h) u f y p w e hyp = try_gives form es s l ls t (catch_line d h) u f y p e hyp refl refl refl (part_moves s (s.lines + 1) (catch_line d h) u p)
@@ -285,11 +285,11 @@ later_gives form es s l ls t (catch_all_line h) u f y p w e hyp = try_gives form
 later_gives form es s l ls t end_code u f y p w e hyp =
     let g = hyp at_out (end_by form (s.lines + 1 + 1) ls es f, part_moves s (s.lines + 1) end_code u p) in
     let y1 = renumbered form es (insn_count s.block) 0 l end_code refl y in
-    ((s.lines + 1, end_code) ∷ g.0, code_end y1 (subst (λ z. SayLines form outside z ls g.0) e g.1), (u, p, g.2))
+    ((s.lines + 1, end_code) ∷ g.0, code_end y1 (subst (λ z. LinesText form outside z ls g.0) e g.1), (u, p, g.2))
 later_gives form es s l ls t x u f y p (inl w) e hyp = absurd cc
 later_gives form es s l ls t x u f y p (inr w) e hyp = absurd cc
 
-line_gives : (st : Stand) (form : Form) (es : List Label) (s : State) (l : List ℕ) (ls : List (List ℕ)) (t : Reading) (x : Line) (u : State) → Fits st form es s (l ∷ ls) → SaysLine form es (insn_count s.block) l x → Steps s (s.lines + 1) x u → u.lines ≡ s.lines + 1
+line_gives : (st : Stand) (form : Form) (es : List Label) (s : State) (l : List ℕ) (ls : List (List ℕ)) (t : Reading) (x : Line) (u : State) → Fits st form es s (l ∷ ls) → LineText form es (insn_count s.block) l x → Steps s (s.lines + 1) x u → u.lines ≡ s.lines + 1
     → After form (labels_by form x (s.lines + 1 + 1) ls es) u ls t → Gives st form es s.lines s (l ∷ ls) t.base
 line_gives at_out form es s l ls t x u f y p e hyp = out_gives form es s l ls t x u f y p e hyp
 line_gives (at_insn pre k) form es s l ls t x u f y p e hyp = insn_gives pre k form es s l ls t x u f y p (sym (ap (λ z. line_stands z x) (insns_is s.block k f.0).0) ∙ p.stands) e hyp
@@ -323,7 +323,7 @@ end_gives at_later form es s t f top r = absurd (not_later t.base.block top (sym
 adds_gives : (st : Stand) (form : Form) (es : List Label) (s : State) (l : List ℕ) (ls : List (List ℕ)) (u t : Reading) → Fits st form es s (l ∷ ls) → Hyp ls t → is_skipped l ≡ false → AddsLine (rd form es (counted s)) ls l u → Reads u ls [] t → Gives st form es s.lines s (l ∷ ls) t.base
 adds_gives st form es s l ls u t f hyp q a r = by a.makes
   where
-    by : ((line_of_form (rd form es (counted s)) a.words ≡ First) × (u ≡ in_second (rd form es (counted s)))) ⊎ ((line_of_form (rd form es (counted s)) a.words ≡ Mark) × (u ≡ rd form es (counted s))) ⊎ ((line_of_form (rd form es (counted s)) a.words ≡ Nothing) × LineSays (rd form es (counted s)) ls a.words u)
+    by : ((line_of_form (rd form es (counted s)) a.words ≡ First) × (u ≡ in_second (rd form es (counted s)))) ⊎ ((line_of_form (rd form es (counted s)) a.words ≡ Mark) × (u ≡ rd form es (counted s))) ⊎ ((line_of_form (rd form es (counted s)) a.words ≡ Nothing) × LineMeans (rd form es (counted s)) ls a.words u)
         → Gives st form es s.lines s (l ∷ ls) t.base
     by (inl m) = let h = (first_means form es (counted s) a.words m.0).1 in let g : is_start (stage_of s.block) ≡ false = not_begun st form es s (l ∷ ls) f in absurd cc
     by (inr (inl m)) = mark_gives st form es s l ls t a.words f q a.has_words (mark_means form es (counted s) a.words m.0) hyp (subst (λ z. Reads z ls [] t) m.1 r)
@@ -331,7 +331,7 @@ adds_gives st form es s l ls u t f hyp q a r = by a.makes
         let y = line_step form es s ls l a.words u q a.has_words m.1 in
         let es1 = labels_by form y.x (s.lines + 1 + 1) ls es in
         let is : u ≡ rd form es1 u.base = ap (λ z. record { form = z; labels = u.labels; base = u.base }) y.form_is ∙ ap (λ z. rd form z u.base) y.labels in
-        line_gives st form es s l ls t y.x u.base f y.says y.steps y.lines (λ sd g. hyp sd form es1 u.base g (subst (λ z. Reads z ls [] t) is r))
+        line_gives st form es s l ls t y.x u.base f y.word_values y.steps y.lines (λ sd g. hyp sd form es1 u.base g (subst (λ z. Reads z ls [] t) is r))
 
 pub from_reads : (ls : List (List ℕ)) (st : Stand) (form : Form) (es : List Label) (s : State) (t : Reading) → Fits st form es s ls → is_outside t.base.block ≡ true → Reads (rd form es s) ls [] t → Gives st form es s.lines s ls t.base
 from_reads [] st form es s t f top r = end_gives st form es s t f top r

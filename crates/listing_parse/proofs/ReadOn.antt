@@ -15,9 +15,9 @@ use Rattle.listing_parse.specs.declared.form_line.FormLine.TheVariants.{Mark}
 use Rattle.listing_parse.specs.Codes.{Numbered}
 use Rattle.listing_parse.specs.Classes.{NoneTwice}
 use Rattle.listing_parse.specs.inner.Runs.{line_stands, at_line, Steps, Runs}
-use Rattle.listing_parse.specs.Texts.{SaysLine, opens_code, is_of_try, label_names, Where, outside, among, after_insns, SayLines, no_lines, silent, one_line, code_line, label_line, one_insn, no_insn, of_try, code_end}
+use Rattle.listing_parse.specs.Texts.{LineText, opens_code, is_of_try, label_names, Where, outside, among, after_insns, LinesText, no_lines, silent, one_line, code_line, label_line, one_insn, no_insn, of_try, code_end}
 use Rattle.listing_parse.proofs.CodeLaws.{again}
-use Rattle.listing_parse.proofs.LineSteps.{rd, insn_said, labels_by, Part, out, insns, later, part_of, part_after, part_moves, lines_kept, out_is, insns_is, later_is, step_taken}
+use Rattle.listing_parse.proofs.LineSteps.{rd, insn_read, labels_by, Part, out, insns, later, part_of, part_after, part_moves, lines_kept, out_is, insns_is, later_is, step_taken}
 use Rattle.listing_parse.proofs.LabelLaws.{look_there, label_marks, NoLabels, ahead_there, no_labels}
 
 -- ---- what a line leaves as it is
@@ -52,7 +52,7 @@ try_goes : (x : Line) (p : Part) → is_of_try x ≡ true → part_after x p ≡
 try_goes (try_line from to) p e = refl
 try_goes _ p e = cc
 
-try_no_insn : (x : Line) → is_of_try x ≡ true → insn_said x ≡ false
+try_no_insn : (x : Line) → is_of_try x ≡ true → insn_read x ≡ false
 try_no_insn (insn_line i) e = absurd cc
 try_no_insn x e = refl
 
@@ -98,14 +98,14 @@ abbrev pub ReadTo : Form → List Label → State → List (List ℕ) → State 
 ReadTo form es s ls t = (m : ℕ) × Reads (rd form es s) ls [] (rd form [] (at_line t m))
 
 -- A line of the program, and what is read after it.
-step_on : (form : Form) (es : List Label) (s t : State) (l : List ℕ) (ls : List (List ℕ)) (n k : ℕ) (x : Line) (xs : List Numbered) → s.lines ≡ n → SaysLine form es k l x → (insn_said x ≡ true → insn_count s.block ≡ k) → is_start (stage_of s.block) ≡ false
+step_on : (form : Form) (es : List Label) (s t : State) (l : List ℕ) (ls : List (List ℕ)) (n k : ℕ) (x : Line) (xs : List Numbered) → s.lines ≡ n → LineText form es k l x → (insn_read x ≡ true → insn_count s.block ≡ k) → is_start (stage_of s.block) ≡ false
     → Runs s ((n + 1, x) ∷ xs) t → ((u : State) → Steps s (s.lines + 1) x u → u.lines ≡ n + 1 → Runs u xs t → ReadTo form (labels_by form x (s.lines + 1 + 1) ls es) u ls t) → ReadTo form es s (l ∷ ls) t
 step_on form es s t l ls n k x xs e y c b r after =
     let p : Steps s (s.lines + 1) x r.0 = subst (λ z. Steps s (z + 1) x r.0) (sym e) r.1 in
     let z = after r.0 p (lines_kept (at_line s (s.lines + 1)) r.0 x p.added ∙ ap (λ v. v + 1) e) r.2 in
     (z.0, read_on (rd form es s) (rd form (labels_by form x (s.lines + 1 + 1) ls es) r.0) (rd form [] (at_line t z.0)) l ls (step_taken form es s ls l k x r.0 y c b p) z.1)
 
-pub to_reads : (form : Form) {w : Where} {n : ℕ} {ls : List (List ℕ)} {xs : List Numbered} → SayLines form w n ls xs → (es : List Label) (s t : State) → s.lines ≡ n → Meets form w es s → Runs s xs t → ReadTo form es s ls t
+pub to_reads : (form : Form) {w : Where} {n : ℕ} {ls : List (List ℕ)} {xs : List Numbered} → LinesText form w n ls xs → (es : List Label) (s t : State) → s.lines ≡ n → Meets form w es s → Runs s xs t → ReadTo form es s ls t
 to_reads form no_lines es s t e m r =
     (s.lines, ap (λ z. rd form z s) m.0 ∙ ap (λ z. rd form [] z) (sym (ap (λ z. at_line z s.lines) r)))
 to_reads form (silent {w = w} {l = l} {ls = ls} q d) es s t e m r =
@@ -113,14 +113,14 @@ to_reads form (silent {w = w} {l = l} {ls = ls} q d) es s t e m r =
     (y.0, read_on (rd form es s) (rd form es (counted s)) (rd form [] (at_line t y.0)) l ls (inl (q, refl)) y.1)
 to_reads form (one_line {n = n} {l = l} {ls = ls} {x = x} {xs = xs} y o d) es s t e m r =
     let i = out_is s.block m.1 in
-    step_on form es s t l ls n 0 x xs e (subst (λ z. SaysLine form z 0 l x) (sym m.0) y) (λ h. i.4) i.3 r (λ u p f more.
+    step_on form es s t l ls n 0 x xs e (subst (λ z. LineText form z 0 l x) (sym m.0) y) (λ h. i.4) i.3 r (λ u p f more.
     let none = ap (labels_by form x (s.lines + 1 + 1) ls) m.0 ∙ none_by form x (s.lines + 1 + 1) ls o in
     let part : part_of u.block ≡ out = part_moves s (s.lines + 1) x u p ∙ ap (part_after x) m.1 ∙ out_goes x s.block m.1 p.stands o in
     to_reads form d _ u t f (none, part) more)
 to_reads form (code_line {n = n} {l = l} {ls = ls} {r = a} {i = b} {o = c} {labels = labels} {xs = xs} y distinct d) es s t e m r =
     let x = open_code a b c in
     let i = out_is s.block m.1 in
-    step_on form es s t l ls n 0 x xs e (subst (λ z. SaysLine form z 0 l x) (sym m.0) y) (λ h. i.4) i.3 r (λ u p f more.
+    step_on form es s t l ls n 0 x xs e (subst (λ z. LineText form z 0 l x) (sym m.0) y) (λ h. i.4) i.3 r (λ u p f more.
     let there = ap (labels_by form x (s.lines + 1 + 1) ls) m.0 ∙ ap (λ v. labels_by form x (v + 1 + 1) ls []) e ∙ ahead_there form (n + 1) a b c labels ls xs distinct d in
     to_reads form d _ u t f (there, part_moves s (s.lines + 1) x u p, distinct, no_labels form 0 (n + 1) labels ls xs d, ([], refl)) more)
 to_reads form (label_line {labels = labels} {ahead = ahead} {k = k} {n = n} {l = l} {name = name} {ls = ls} {xs = xs} y d) es s t e m r =
@@ -136,18 +136,18 @@ to_reads form (label_line {labels = labels} {ahead = ahead} {k = k} {n = n} {l =
 to_reads form (one_insn {labels = labels} {ahead = ahead} {k = k} {n = n} {l = l} {ls = ls} {i = a} {xs = xs} y d) es s t e m r =
     let x = insn_line a in
     let i = insns_is s.block k m.1 in
-    step_on form es s t l ls n k x xs e (subst (λ z. SaysLine form z k l x) (sym m.0) y) (λ h. i.1) (ap is_start i.0) r (λ u p f more.
+    step_on form es s t l ls n k x xs e (subst (λ z. LineText form z k l x) (sym m.0) y) (λ h. i.1) (ap is_start i.0) r (λ u p f more.
     let same = same_labels form x (s.lines + 1 + 1) ls es refl ∙ m.0 in
     let part : part_of u.block ≡ insns (k + 1) = part_moves s (s.lines + 1) x u p ∙ ap (part_after x) m.1 in
     to_reads form d _ u t f (same, part, m.2, m.3, m.4) more)
 to_reads form (no_insn {labels = labels} {k = k} d) es s t e m r = to_reads form d es s t e (m.0, inr (k, m.1), m.3) r
 to_reads form (of_try {labels = labels} {n = n} {l = l} {ls = ls} {x = x} {xs = xs} y o d) es s t e m r =
     let no = try_no_insn x o in
-    step_on form es s t l ls n 0 x xs e (subst (λ z. SaysLine form z 0 l x) (sym m.0) y) (λ h. absurd cc) (begun_by s.block m.1) r (λ u p f more.
+    step_on form es s t l ls n 0 x xs e (subst (λ z. LineText form z 0 l x) (sym m.0) y) (λ h. absurd cc) (begun_by s.block m.1) r (λ u p f more.
     let same = same_labels form x (s.lines + 1 + 1) ls es (try_within x o) ∙ m.0 in
     let part : part_of u.block ≡ later = part_moves s (s.lines + 1) x u p ∙ try_goes x (part_of s.block) o in
     to_reads form d _ u t f (same, inl part, m.2) more)
 to_reads form (code_end {labels = labels} {n = n} {l = l} {ls = ls} {xs = xs} y d) es s t e m r =
-    step_on form es s t l ls n 0 end_code xs e (subst (λ z. SaysLine form z 0 l end_code) (sym m.0) y) (λ h. absurd cc) (begun_by s.block m.1) r (λ u p f more.
+    step_on form es s t l ls n 0 end_code xs e (subst (λ z. LineText form z 0 l end_code) (sym m.0) y) (λ h. absurd cc) (begun_by s.block m.1) r (λ u p f more.
     let none = end_by form (s.lines + 1 + 1) ls es (subst (NoLabels form) (sym m.0) m.2) in
     to_reads form d _ u t f (none, part_moves s (s.lines + 1) end_code u p) more)

@@ -27,7 +27,7 @@ use Rattle.listing_slots.specs.declared.slot.Mark.TheVariants as mark
 use Rattle.listing_slots.specs.declared.slot.Slot.{Slot}
 use Rattle.listing_slots.specs.declared.slot.Slot.TheVariants as slot
 use Rattle.listing_slots.specs.Keys.{key_text, same, find_key, lead_keys}
-use Rattle.listing_slots.specs.Data.{Datum, byte, half, word, tiny, short, int, long, named, said, byte_of, name_of}
+use Rattle.listing_slots.specs.Data.{Datum, byte, half, word, tiny, short, int, long, named, key_word, byte_of, name_of}
 use Rattle.listing_slots.specs.Slots.{IsSignedWithin, SpellsSlot, has_form, have_forms}
 use Rattle.listing_slots.specs.Shapes.{Shape, HasBareShape, before_close, name_slot, plain_slots, register4, target}
 use Rattle.listing_slots.specs.inner.ValidNames.{Spellings}
@@ -44,9 +44,9 @@ use Rattle.listing_parse.specs.States.{at_heads, at_members, after_method, Block
 use Rattle.listing_parse.specs.Forms.{HasShapeInForm, may_stand_in_form, SpellsInForm}
 use Rattle.listing_parse.specs.inner.Named.{ReadingIsNamed, StayNamed}
 use Rattle.listing_parse.specs.Text.{Reading, is_second, begins_mark, line_of_form, labels_after, AddsLine}
-use Rattle.listing_parse.specs.inner.Short.{TakesDigits, TakesNumber, EndsInInteger, TakesSaid, TakesEach, TakesRegisters, SayInsn, IsShortLine}
+use Rattle.listing_parse.specs.inner.Short.{TakesDigits, TakesNumber, EndsInInteger, TakesOperand, TakesEach, TakesRegisters, InsnText, IsShortLine}
 use Rattle.listing_parse.specs.declared.form_line.FormLine.TheVariants.{Nothing}
-use Rattle.listing_parse.proofs.NamedLaws.{insn_said_named}
+use Rattle.listing_parse.proofs.NamedLaws.{insn_read_named}
 use Rattle.listing_parse.proofs.RefusedLaws.{taken}
 use Rattle.listing_parse.proofs.SecondFormLaws.{no_line_of_form}
 
@@ -107,26 +107,26 @@ count_taken most text t n rest e h = record {
 
 -- ---- what a word says in its slot
 
-pub byte_said : (es : List Label) {m : Mark} {most : ℕ} {text : List ℕ} {n : ℕ} {rest : List ℕ} → TakesNumber m most text n rest → TakesSaid es (slot.Byte m most) text (byte n) rest
-byte_said es {n = n} h = record { spelled_by = plain_word h.spelled_by; taken = h.taken; form = refl; says = (n, h.number, refl) }
+pub byte_read : (es : List Label) {m : Mark} {most : ℕ} {text : List ℕ} {n : ℕ} {rest : List ℕ} → TakesNumber m most text n rest → TakesOperand es (slot.Byte m most) text (byte n) rest
+byte_read es {n = n} h = record { spelled_by = plain_word h.spelled_by; taken = h.taken; form = refl; word_values = (n, h.number, refl) }
 
-pub half_said : (es : List Label) {m : Mark} {most : ℕ} {text : List ℕ} {n : ℕ} {rest : List ℕ} → TakesNumber m most text n rest → TakesSaid es (slot.Half m most) text (half n) rest
-half_said es {n = n} h = record { spelled_by = plain_word h.spelled_by; taken = h.taken; form = refl; says = (n, h.number, refl) }
+pub half_read : (es : List Label) {m : Mark} {most : ℕ} {text : List ℕ} {n : ℕ} {rest : List ℕ} → TakesNumber m most text n rest → TakesOperand es (slot.Half m most) text (half n) rest
+half_read es {n = n} h = record { spelled_by = plain_word h.spelled_by; taken = h.taken; form = refl; word_values = (n, h.number, refl) }
 
-pub nibble_said : (es : List Label) {text : List ℕ} {z : ℤ} → EndsInInteger 7 text z → TakesSaid es slot.Nibble text (tiny z) []
-nibble_said es {z = z} h = record { spelled_by = plain_word h.spelled_by; taken = h.taken; form = refl; says = (z, h.number, refl) }
+pub nibble_read : (es : List Label) {text : List ℕ} {z : ℤ} → EndsInInteger 7 text z → TakesOperand es slot.Nibble text (tiny z) []
+nibble_read es {z = z} h = record { spelled_by = plain_word h.spelled_by; taken = h.taken; form = refl; word_values = (z, h.number, refl) }
 
-pub tiny_said : (es : List Label) {text : List ℕ} {z : ℤ} → EndsInInteger 127 text z → TakesSaid es slot.Tiny text (tiny z) []
-tiny_said es {z = z} h = record { spelled_by = plain_word h.spelled_by; taken = h.taken; form = refl; says = (z, h.number, refl) }
+pub tiny_read : (es : List Label) {text : List ℕ} {z : ℤ} → EndsInInteger 127 text z → TakesOperand es slot.Tiny text (tiny z) []
+tiny_read es {z = z} h = record { spelled_by = plain_word h.spelled_by; taken = h.taken; form = refl; word_values = (z, h.number, refl) }
 
-pub short_said : (es : List Label) {text : List ℕ} {z : ℤ} → EndsInInteger 32767 text z → TakesSaid es slot.Short text (short z) []
-short_said es {z = z} h = record { spelled_by = plain_word h.spelled_by; taken = h.taken; form = refl; says = (z, h.number, refl) }
+pub short_read : (es : List Label) {text : List ℕ} {z : ℤ} → EndsInInteger 32767 text z → TakesOperand es slot.Short text (short z) []
+short_read es {z = z} h = record { spelled_by = plain_word h.spelled_by; taken = h.taken; form = refl; word_values = (z, h.number, refl) }
 
-pub int_said : (es : List Label) {text : List ℕ} {z : ℤ} → EndsInInteger 2147483647 text z → TakesSaid es slot.Int text (int z) []
-int_said es {z = z} h = record { spelled_by = plain_word h.spelled_by; taken = h.taken; form = refl; says = (z, h.number, refl) }
+pub int_read : (es : List Label) {text : List ℕ} {z : ℤ} → EndsInInteger 2147483647 text z → TakesOperand es slot.Int text (int z) []
+int_read es {z = z} h = record { spelled_by = plain_word h.spelled_by; taken = h.taken; form = refl; word_values = (z, h.number, refl) }
 
-pub long_said : (es : List Label) {text : List ℕ} {z : ℤ} → EndsInInteger 9223372036854775807 text z → TakesSaid es slot.Long text (long z) []
-long_said es {z = z} h = record { spelled_by = plain_word h.spelled_by; taken = h.taken; form = refl; says = (z, h.number, refl) }
+pub long_read : (es : List Label) {text : List ℕ} {z : ℤ} → EndsInInteger 9223372036854775807 text z → TakesOperand es slot.Long text (long z) []
+long_read es {z = z} h = record { spelled_by = plain_word h.spelled_by; taken = h.taken; form = refl; word_values = (z, h.number, refl) }
 
 pub fits_8 : (z : ℤ) → IsSignedWithin 127 z → FitsSigned w8 z
 fits_8 (pos n) h = search rules
@@ -148,15 +148,15 @@ pub nibble_fits : (z : ℤ) → IsSignedWithin 7 z → FitsSigned w8 z
 nibble_fits (pos n) h = search rules
 nibble_fits (negsuc n) h = search rules
 
-pub target_said : (es : List Label) {text w : List ℕ} {n : ℕ} → TakesPlain (after_spaces text) w [] → SpellsLabel es (plain_word w) (word n) → TakesSaid es target text (word n) []
-target_said es {w = w} t h = record { spelled_by = plain_word w; taken = t; form = refl; says = h }
+pub target_read : (es : List Label) {text w : List ℕ} {n : ℕ} → TakesPlain (after_spaces text) w [] → SpellsLabel es (plain_word w) (word n) → TakesOperand es target text (word n) []
+target_read es {w = w} t h = record { spelled_by = plain_word w; taken = t; form = refl; word_values = h }
 
-pub name_said : (es : List Label) (k : Option IndexKind) (text w : List ℕ) (d : Datum) → TakesPlain (after_spaces text) w [] → SpellsSlot (name_slot k) (plain_word w) d → TakesSaid es (name_slot k) text d []
-name_said es (Some index.String) text w d t h = let e = h.1 in absurd cc
-name_said es (Some index.Type) text w d t h = record { spelled_by = plain_word w; taken = t; form = refl; says = h }
-name_said es (Some index.Field) text w d t h = record { spelled_by = plain_word w; taken = t; form = refl; says = h }
-name_said es (Some index.Method) text w d t h = record { spelled_by = plain_word w; taken = t; form = refl; says = h }
-name_said es None text w d t h = record { spelled_by = plain_word w; taken = t; form = refl; says = h }
+pub name_read : (es : List Label) (k : Option IndexKind) (text w : List ℕ) (d : Datum) → TakesPlain (after_spaces text) w [] → SpellsSlot (name_slot k) (plain_word w) d → TakesOperand es (name_slot k) text d []
+name_read es (Some index.String) text w d t h = let e = h.1 in absurd cc
+name_read es (Some index.Type) text w d t h = record { spelled_by = plain_word w; taken = t; form = refl; word_values = h }
+name_read es (Some index.Field) text w d t h = record { spelled_by = plain_word w; taken = t; form = refl; word_values = h }
+name_read es (Some index.Method) text w d t h = record { spelled_by = plain_word w; taken = t; form = refl; word_values = h }
+name_read es None text w d t h = record { spelled_by = plain_word w; taken = t; form = refl; word_values = h }
 
 -- ---- words one after the other
 
@@ -167,7 +167,7 @@ each_words es [] text (d ∷ ds) rest h = absurd h
 each_words es (s ∷ ss) text [] rest h = absurd h
 each_words es (s ∷ ss) text (d ∷ ds) rest h =
     let m = each_words es ss h.0 ds rest h.2 in
-    (h.1.spelled_by ∷ m.0, (h.0, h.1.taken, m.1), rw h.1.form m.2, (h.1.says, m.3))
+    (h.1.spelled_by ∷ m.0, (h.0, h.1.taken, m.1), rw h.1.form m.2, (h.1.word_values, m.3))
 
 pub each_join : (es : List Label) (ss ts : List Slot) (text : List ℕ) (ds gs : List Datum) (mid rest : List ℕ) → TakesEach es ss text ds mid → TakesEach es ts mid gs rest → TakesEach es (ss ++ ts) text (ds ++ gs) rest
 each_join es [] ts text [] gs mid rest h k = subst (λ (t : List ℕ). TakesEach es ts t gs rest) (sym h) k
@@ -176,49 +176,49 @@ each_join es (s ∷ ss) ts text [] gs mid rest h k = absurd h
 each_join es (s ∷ ss) ts text (d ∷ ds) gs mid rest h k = (h.0, h.1, each_join es ss ts h.0 ds gs mid rest h.2 k)
 
 -- Words that are all there is say the instruction; their slots are those of the format, whatever else they are.
-pub all_said : (es : List Label) (f : Format) (op : ℕ) (text : List ℕ) (ss : List Slot) (ds : List Datum) (i : Insn) → TakesEach es ss text ds []
-    → ((ws : List Word) → have_forms ss ws ≡ true → SpellsAll es ss ws ds → plain_slots (Some f) (index_kind_of op) ws ≡ ss) → i ≡ insn_of (Some f) op ds → SayInsn es f op text i
-all_said es f op text ss ds i h slots is =
+pub all_taken : (es : List Label) (f : Format) (op : ℕ) (text : List ℕ) (ss : List Slot) (ds : List Datum) (i : Insn) → TakesEach es ss text ds []
+    → ((ws : List Word) → have_forms ss ws ≡ true → SpellsAll es ss ws ds → plain_slots (Some f) (index_kind_of op) ws ≡ ss) → i ≡ insn_of (Some f) op ds → InsnText es f op text i
+all_taken es f op text ss ds i h slots is =
     let w = each_words es ss text ds [] h in
     let e = slots w.0 w.2 w.3 in
     record {
       words = w.0;
       has_words = record { end = []; words = w.1; spaces = refl };
       forms = subst (λ (x : List Slot). have_forms x w.0 ≡ true) (sym e) w.2;
-      says = ds;
+      word_values = ds;
       spelled = subst (λ (x : List Slot). SpellsAll es x w.0 ds) (sym e) w.3;
       is = is;
     }
 
-pub one_said : (es : List Label) {f g : Format} {op : ℕ} {text : List ℕ} {s : Slot} {d : Datum} {i : Insn} → f ≡ g → TakesSaid es s text d []
-    → ((ws : List Word) → plain_slots (Some g) (index_kind_of op) ws ≡ s ∷ []) → i ≡ insn_of (Some g) op (d ∷ []) → SayInsn es f op text i
-one_said es {g = g} {op = op} {text = text} {s = s} {d = d} {i = i} e h slots is =
-    subst (λ (x : Format). SayInsn es x op text i) (sym e) (all_said es g op text (s ∷ []) (d ∷ []) i ([], h, refl) (λ ws a b. slots ws) is)
+pub one_read : (es : List Label) {f g : Format} {op : ℕ} {text : List ℕ} {s : Slot} {d : Datum} {i : Insn} → f ≡ g → TakesOperand es s text d []
+    → ((ws : List Word) → plain_slots (Some g) (index_kind_of op) ws ≡ s ∷ []) → i ≡ insn_of (Some g) op (d ∷ []) → InsnText es f op text i
+one_read es {g = g} {op = op} {text = text} {s = s} {d = d} {i = i} e h slots is =
+    subst (λ (x : Format). InsnText es x op text i) (sym e) (all_taken es g op text (s ∷ []) (d ∷ []) i ([], h, refl) (λ ws a b. slots ws) is)
 
-pub two_said : (es : List Label) {f g : Format} {op : ℕ} {text more : List ℕ} {s t : Slot} {d k : Datum} {i : Insn} → f ≡ g → TakesSaid es s text d more → TakesSaid es t more k []
-    → ((ws : List Word) → plain_slots (Some g) (index_kind_of op) ws ≡ s ∷ t ∷ []) → i ≡ insn_of (Some g) op (d ∷ k ∷ []) → SayInsn es f op text i
-two_said es {g = g} {op = op} {text = text} {more = more} {s = s} {t = t} {d = d} {k = k} {i = i} e h j slots is =
-    subst (λ (x : Format). SayInsn es x op text i) (sym e) (all_said es g op text (s ∷ t ∷ []) (d ∷ k ∷ []) i (more, h, ([], j, refl)) (λ ws a b. slots ws) is)
+pub two_read : (es : List Label) {f g : Format} {op : ℕ} {text more : List ℕ} {s t : Slot} {d k : Datum} {i : Insn} → f ≡ g → TakesOperand es s text d more → TakesOperand es t more k []
+    → ((ws : List Word) → plain_slots (Some g) (index_kind_of op) ws ≡ s ∷ t ∷ []) → i ≡ insn_of (Some g) op (d ∷ k ∷ []) → InsnText es f op text i
+two_read es {g = g} {op = op} {text = text} {more = more} {s = s} {t = t} {d = d} {k = k} {i = i} e h j slots is =
+    subst (λ (x : Format). InsnText es x op text i) (sym e) (all_taken es g op text (s ∷ t ∷ []) (d ∷ k ∷ []) i (more, h, ([], j, refl)) (λ ws a b. slots ws) is)
 
-pub three_said : (es : List Label) {f g : Format} {op : ℕ} {text more last : List ℕ} {s t u : Slot} {d k m : Datum} {i : Insn} → f ≡ g → TakesSaid es s text d more → TakesSaid es t more k last → TakesSaid es u last m []
-    → ((ws : List Word) → plain_slots (Some g) (index_kind_of op) ws ≡ s ∷ t ∷ u ∷ []) → i ≡ insn_of (Some g) op (d ∷ k ∷ m ∷ []) → SayInsn es f op text i
-three_said es {g = g} {op = op} {text = text} {more = more} {last = last} {s = s} {t = t} {u = u} {d = d} {k = k} {m = m} {i = i} e h j l slots is =
-    subst (λ (x : Format). SayInsn es x op text i) (sym e) (all_said es g op text (s ∷ t ∷ u ∷ []) (d ∷ k ∷ m ∷ []) i (more, h, (last, j, ([], l, refl))) (λ ws a b. slots ws) is)
+pub three_read : (es : List Label) {f g : Format} {op : ℕ} {text more last : List ℕ} {s t u : Slot} {d k m : Datum} {i : Insn} → f ≡ g → TakesOperand es s text d more → TakesOperand es t more k last → TakesOperand es u last m []
+    → ((ws : List Word) → plain_slots (Some g) (index_kind_of op) ws ≡ s ∷ t ∷ u ∷ []) → i ≡ insn_of (Some g) op (d ∷ k ∷ m ∷ []) → InsnText es f op text i
+three_read es {g = g} {op = op} {text = text} {more = more} {last = last} {s = s} {t = t} {u = u} {d = d} {k = k} {m = m} {i = i} e h j l slots is =
+    subst (λ (x : Format). InsnText es x op text i) (sym e) (all_taken es g op text (s ∷ t ∷ u ∷ []) (d ∷ k ∷ m ∷ []) i (more, h, (last, j, ([], l, refl))) (λ ws a b. slots ws) is)
 
-pub none_said : (es : List Label) {f : Format} {op : ℕ} (text : List ℕ) → f ≡ format.F10x → length text ≡ 0 → SayInsn es f op text (content.I10x op)
+pub none_read : (es : List Label) {f : Format} {op : ℕ} (text : List ℕ) → f ≡ format.F10x → length text ≡ 0 → InsnText es f op text (content.I10x op)
 unfolding insn_of
-none_said es {op = op} [] e n = subst (λ (x : Format). SayInsn es x op [] (content.I10x op)) (sym e) (all_said es format.F10x op [] [] [] (content.I10x op) refl (λ ws a b. refl) refl)
-none_said es (c ∷ text) e n = absurd (omega arith)
+none_read es {op = op} [] e n = subst (λ (x : Format). InsnText es x op [] (content.I10x op)) (sym e) (all_taken es format.F10x op [] [] [] (content.I10x op) refl (λ ws a b. refl) refl)
+none_read es (c ∷ text) e n = absurd (omega arith)
 
 -- ---- registers in braces
 
-pub open_said : (es : List Label) (text rest : List ℕ) → text ≡ 32 ∷ 123 ∷ rest → up_to_space rest ≡ [] → TakesSaid es (slot.Key key.Open) text (said key.Open) rest
+pub open_read : (es : List Label) (text rest : List ℕ) → text ≡ 32 ∷ 123 ∷ rest → up_to_space rest ≡ [] → TakesOperand es (slot.Key key.Open) text (key_word key.Open) rest
 unfolding same key_text
-open_said es text rest e ends = record { spelled_by = plain_word (123 ∷ []); taken = word_taken text (123 ∷ []) rest e (front_written 123 [] (omega arith) (omega arith) tt) ends; form = refl; says = refl }
+open_read es text rest e ends = record { spelled_by = plain_word (123 ∷ []); taken = word_taken text (123 ∷ []) rest e (front_written 123 [] (omega arith) (omega arith) tt) ends; form = refl; word_values = refl }
 
-pub close_said : (es : List Label) (text rest : List ℕ) → text ≡ 32 ∷ 125 ∷ rest → up_to_space rest ≡ [] → TakesSaid es (slot.Key key.Close) text (said key.Close) rest
+pub close_read : (es : List Label) (text rest : List ℕ) → text ≡ 32 ∷ 125 ∷ rest → up_to_space rest ≡ [] → TakesOperand es (slot.Key key.Close) text (key_word key.Close) rest
 unfolding same key_text
-close_said es text rest e ends = record { spelled_by = plain_word (125 ∷ []); taken = word_taken text (125 ∷ []) rest e (front_written 125 [] (omega arith) (omega arith) tt) ends; form = refl; says = refl }
+close_read es text rest e ends = record { spelled_by = plain_word (125 ∷ []); taken = word_taken text (125 ∷ []) rest e (front_written 125 [] (omega arith) (omega arith) tt) ends; form = refl; word_values = refl }
 
 abbrev inside : List ℕ → Slot → List Slot
 inside rs x = replicate (length rs) register4 ++ (slot.Key key.Close ∷ x ∷ [])
@@ -237,14 +237,14 @@ before_is es (r ∷ rs) (suc most) x (w ∷ ws) gs h f s =
     rw j (omega (arith, i))
 
 brace_slots : (es : List Label) (k : Option IndexKind) (rs : List ℕ) (ws : List Word) (gs : List Datum) → length rs ≤ 5 → have_forms (slot.Key key.Open ∷ inside rs (name_slot k)) ws ≡ true
-    → SpellsAll es (slot.Key key.Open ∷ inside rs (name_slot k)) ws (said key.Open ∷ (map byte rs ++ gs)) → plain_slots (Some format.F35c) k ws ≡ slot.Key key.Open ∷ inside rs (name_slot k)
+    → SpellsAll es (slot.Key key.Open ∷ inside rs (name_slot k)) ws (key_word key.Open ∷ (map byte rs ++ gs)) → plain_slots (Some format.F35c) k ws ≡ slot.Key key.Open ∷ inside rs (name_slot k)
 unfolding have_forms
 brace_slots es k rs [] gs h f s = absurd s
 brace_slots es k rs (w ∷ ws) gs h f s =
     let b = before_is es rs 5 (name_slot k) ws gs h (and_parts (has_form (slot.Key key.Open) w) (have_forms (inside rs (name_slot k)) ws) f).1 s.1 in
     ap (λ n. slot.Key key.Open ∷ (replicate n register4 ++ (slot.Key key.Close ∷ name_slot k ∷ []))) b
 
-braces_are : (op : ℕ) (rs : List ℕ) (which : Name) → length rs ≤ 5 → content.I35c op (length rs) (rs ++ replicate (5 - length rs) 0) which ≡ insn_of (Some format.F35c) op (said key.Open ∷ (map byte rs ++ (said key.Close ∷ named which ∷ [])))
+braces_are : (op : ℕ) (rs : List ℕ) (which : Name) → length rs ≤ 5 → content.I35c op (length rs) (rs ++ replicate (5 - length rs) 0) which ≡ insn_of (Some format.F35c) op (key_word key.Open ∷ (map byte rs ++ (key_word key.Close ∷ named which ∷ [])))
 unfolding insn_of byte_of name_of
 braces_are op [] which h = refl
 braces_are op (a ∷ []) which h = refl
@@ -254,15 +254,15 @@ braces_are op (a ∷ b ∷ c ∷ d ∷ []) which h = refl
 braces_are op (a ∷ b ∷ c ∷ d ∷ e ∷ []) which h = refl
 braces_are op (a ∷ b ∷ c ∷ d ∷ e ∷ f ∷ rs) which h = absurd (omega arith)
 
-pub braces_said : (es : List Label) (op : ℕ) (text front closing rest regs : List ℕ) (n : ℕ) (which : Name) → text ≡ 32 ∷ 123 ∷ front → up_to_space front ≡ [] → TakesRegisters front regs n closing
-    → closing ≡ 32 ∷ 125 ∷ rest → up_to_space rest ≡ [] → TakesSaid es (name_slot (index_kind_of op)) rest (named which) [] → SayInsn es format.F35c op text (content.I35c op n regs which)
-braces_said es op text front closing rest regs n which e ends t f stops h =
+pub braces_read : (es : List Label) (op : ℕ) (text front closing rest regs : List ℕ) (n : ℕ) (which : Name) → text ≡ 32 ∷ 123 ∷ front → up_to_space front ≡ [] → TakesRegisters front regs n closing
+    → closing ≡ 32 ∷ 125 ∷ rest → up_to_space rest ≡ [] → TakesOperand es (name_slot (index_kind_of op)) rest (named which) [] → InsnText es format.F35c op text (content.I35c op n regs which)
+braces_read es op text front closing rest regs n which e ends t f stops h =
     let k = index_kind_of op in
     let rs = t.given in
-    let gs = said key.Close ∷ named which ∷ [] in
+    let gs = key_word key.Close ∷ named which ∷ [] in
     let same = ap (λ (m : ℕ). content.I35c op m regs which) t.count ∙ ap (λ (l : List ℕ). content.I35c op (length rs) l which) t.padded in
-    all_said es format.F35c op text (slot.Key key.Open ∷ inside rs (name_slot k)) (said key.Open ∷ (map byte rs ++ gs)) (content.I35c op n regs which)
-    (front, open_said es text front e ends, each_join es (replicate (length rs) register4) (slot.Key key.Close ∷ name_slot k ∷ []) front (map byte rs) gs closing [] (t.each es) (rest, close_said es closing rest f stops, ([], h, refl)))
+    all_taken es format.F35c op text (slot.Key key.Open ∷ inside rs (name_slot k)) (key_word key.Open ∷ (map byte rs ++ gs)) (content.I35c op n regs which)
+    (front, open_read es text front e ends, each_join es (replicate (length rs) register4) (slot.Key key.Close ∷ name_slot k ∷ []) front (map byte rs) gs closing [] (t.each es) (rest, close_read es closing rest f stops, ([], h, refl)))
     (λ ws a b. brace_slots es k rs ws gs t.most a b)
     (same ∙ braces_are op rs which t.most)
 
@@ -303,8 +303,8 @@ second_is One e = absurd cc
 second_is Two e = refl
 
 pub is_short : (r : Reading) (line m rest : List ℕ) (op : ℕ) (f : Format) (i : Insn) → is_two r.form ≡ true → is_insns (stage_of r.base.block) ≡ true → IsNamed op m → format_of op ≡ Some f → after_spaces line ≡ m ++ rest
-    → (0 < length rest → get_or rest 0 0 ≡ 32) → SayInsn r.labels f op rest i → IsShortLine r line i
-is_short r line m rest op f i second stands names has joined stops says = record {
+    → (0 < length rest → get_or rest 0 0 ≡ 32) → InsnText r.labels f op rest i → IsShortLine r line i
+is_short r line m rest op f i second stands names has joined stops word_values = record {
   second = second_is r.form second;
   stands = stands;
   mnemonic = m;
@@ -314,7 +314,7 @@ is_short r line m rest op f i second stands names has joined stops says = record
   taken = named_taken op line m rest names joined (stops_there rest stops);
   named = names;
   has_format = has;
-  operands = says;
+  operands = word_values;
 }
 
 no_lead : (m : List ℕ) → fits m ≡ true → 0 < length m → None ≡ find_key lead_keys m
@@ -354,18 +354,18 @@ short_adds r t line i next h a is = λ ls.
     let sh : Shape = record { kind = kind.Plain h.op; label = []; slots = ss; words = o.words } in
     let forms = subst (λ (x : Option Format). have_forms (plain_slots x k o.words) o.words ≡ true) e o.forms in
     let bare : HasBareShape ws sh = bare_shape ws o.words h.mnemonic (kind.Plain h.op, ss) refl (no_lead h.mnemonic (named_fits h.op h.mnemonic h.named) h.taken.some) (record { text = h.mnemonic; after = o.words; words = refl; has_row = inl (h.op, h.named, refl); forms = forms }) in
-    let spelled = subst (λ (x : Option Format). SpellsAll r.labels (plain_slots x k o.words) o.words o.says) e o.spelled in
-    let same : insn_line i ≡ line_of (kind.Plain h.op) o.says = ap insn_line (o.is ∙ ap (λ (x : Option Format). insn_of x h.op o.says) e) in
+    let spelled = subst (λ (x : Option Format). SpellsAll r.labels (plain_slots x k o.words) o.words o.word_values) e o.spelled in
+    let same : insn_line i ≡ line_of (kind.Plain h.op) o.word_values = ap insn_line (o.is ∙ ap (λ (x : Option Format). insn_of x h.op o.word_values) e) in
     let n = no_line_of_form ws sh bare in
     record {
       words = ws;
       has_words = record { end = o.has_words.end; words = (h.rest, h.taken, o.has_words.words); spaces = o.has_words.spaces };
       makes = inr (inr (
         nothing_else r ws n.0 n.1 h.second,
-        taken r t ls ws sh o.says next
+        taken r t ls ws sh o.word_values next
             (subst (λ (x : Form). HasShapeInForm x ws sh) (sym h.second) bare)
             (subst (λ (x : Form). may_stand_in_form x r.base sh ≡ true) (sym h.second) h.stands)
-            (subst (λ (x : Form). SpellsInForm x r.labels ss o.words o.says) (sym h.second) spelled)
+            (subst (λ (x : Form). SpellsInForm x r.labels ss o.words o.word_values) (sym h.second) spelled)
             (sym (ap (add r.base) same) ∙ a)
             (is ∙ ap (λ (es : List Label). record { form = r.form; labels = es; base = next }) (labels_kept r.form h.op (r.base.lines + 1) ls r.labels)),
       ));
@@ -396,5 +396,5 @@ short_added r t line i next false h a is = absurd (always_adds r.base i h.stands
 
 pub short_named : (old new : Spellings) (r : Reading) (i : Insn) (next : State) (b : Bool) → is_insns (stage_of r.base.block) ≡ true → StayNamed old new i → MatchBool b (add r.base (insn_line i) ≡ Some next) (add r.base (insn_line i) ≡ None)
     → ReadingIsNamed old r → ReadingIsNamed new (record { form = r.form; labels = r.labels; base = next })
-short_named old new r i next true s stay a = insn_said_named old new r (record { form = r.form; labels = r.labels; base = next }) i stay a
+short_named old new r i next true s stay a = insn_read_named old new r (record { form = r.form; labels = r.labels; base = next }) i stay a
 short_named old new r i next false s stay a = absurd (always_adds r.base i s a)

@@ -10,7 +10,7 @@ use Rattle.program_types.specs.Key.{Key, key_cmp}
 use Rattle.program_rules.specs.Rules.{member_key, method_key}
 use Rattle.listing_lines.specs.Lines.{Line, open_class, end_class, super_line, implements_line, source_line, static_line, instance_line, direct_line, virtual_line}
 use Rattle.listing_parse.specs.Members.{Given, given_key}
-use Rattle.listing_parse.specs.Codes.{code_lines, leads_into}
+use Rattle.listing_parse.specs.Codes.{code_lines, has_targets_within}
 
 -- ---- before the members
 
@@ -100,8 +100,8 @@ code_in (virtual_entry m c) = at_most_one c
 code_in _ = []
 
 -- Each target in the code is one of its instructions.
-abbrev pub LeadsInside : Code → Type 0
-LeadsInside c = list_all (leads_into (length c.insns)) (code_lines c) ≡ true
+abbrev pub TargetsWithin : Code → Type 0
+TargetsWithin c = list_all (has_targets_within (length c.insns)) (code_lines c) ≡ true
 
 -- Each key is below those after it.
 abbrev pub Rise : List Key → Type 0
@@ -145,7 +145,7 @@ AreValues [] _ = ⊥
 
 -- ---- a class, and all classes
 
--- The lines are the text of the class: the line that opens it, what stands before its members, these in any order, and
+-- The lines are the text of the class: the line that opens it, what is before its members, these in any order, and
 -- `end class`.
 pub record ClassText (ls : List Line) (c : Class) : Type 0 where
   pub heads : List Line
@@ -163,7 +163,7 @@ pub record ClassText (ls : List Line) (c : Class) : Type 0 where
   pub instances : AreSorted member_key (flat_map instance_in entries) c.instances
   pub directs : AreSorted method_key (flat_map direct_in entries) c.directs
   pub virtuals : AreSorted method_key (flat_map virtual_in entries) c.virtuals
-  pub targets : AllByRecursion LeadsInside (flat_map code_in entries)
+  pub targets : AllByRecursion TargetsWithin (flat_map code_in entries)
 
 -- The lines are the texts of the classes, one after the other.
 abbrev pub ClassesText : List Line → Program → Type 0

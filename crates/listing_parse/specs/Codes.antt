@@ -10,9 +10,9 @@ use Rattle.listing_lines.specs.Lines.{Line, open_code, end_code, insn_line, try_
 abbrev pub Numbered : Type 0
 Numbered = ℕ × Line
 
--- What the lines say.
-abbrev pub said : List Numbered → List Line
-said ls = map (λ (l : Numbered). l.1) ls
+-- The lines without their numbers.
+abbrev pub unnumbered : List Numbered → List Line
+unnumbered ls = map (λ (l : Numbered). l.1) ls
 
 -- ---- the text of a code
 
@@ -44,9 +44,9 @@ code_lines c = open_code c.registers c.ins c.outs ∷ (inner_lines c ++ end_code
 -- ---- targets
 
 -- Each target of the line is one of the n instructions of its code; what a try covers may end after the last one.
-abbrev pub leads_into : ℕ → Line → Bool
-leads_into n (insn_line i) = list_all (λ to. nat_lt to n) (insn_leads i)
-leads_into n (try_line from to) = nat_lt from n && nat_le to n
-leads_into n (catch_line d k) = nat_lt k n
-leads_into n (catch_all_line k) = nat_lt k n
-leads_into n _ = true
+abbrev pub has_targets_within : ℕ → Line → Bool
+has_targets_within n (insn_line i) = list_all (λ to. nat_lt to n) (insn_leads i)
+has_targets_within n (try_line from to) = nat_lt from n && nat_le to n
+has_targets_within n (catch_line d k) = nat_lt k n
+has_targets_within n (catch_all_line k) = nat_lt k n
+has_targets_within n _ = true

@@ -68,7 +68,7 @@ pub data Block : Type 0 where
   in_class : Open → ClassPart → Block
   in_code : Open → OpenBody → CodePart → Block
 
--- What stands in a listing so far: the whole classes, the block that is open, how many lines were read, and the lowest line
+-- What a listing has so far: the whole classes, the block that is open, how many lines were read, and the lowest line
 -- with a target that is no instruction of its code.
 pub record State : Type 0 where
   pub done : List Class
@@ -244,7 +244,7 @@ code_line b p _ = None
 
 -- ---- a line more
 
--- A line that may stand inside the open block is added to it, and what its targets need is noted for this line: none
+-- A line that is allowed inside the open block is added to it, and what its targets need is noted for this line: none
 -- where it gives again what may be given once.
 unfoldable pub inside : Block → ℕ → Line → Option Block
 inside (in_class o p) n line = option_map (λ c. in_class c.0 c.1) (class_line o line)

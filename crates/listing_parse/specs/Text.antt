@@ -86,21 +86,21 @@ labels_after Two kind.EndCode line ls es = []
 labels_after _ _ line ls es = es
 
 -- The line has this meaning for the program, and these lines follow it.
-pub record LineSays (r : Reading) (ls : List (List ℕ)) (ws : List Word) (t : Reading) : Type 0 where
+pub record LineMeans (r : Reading) (ls : List (List ℕ)) (ws : List Word) (t : Reading) : Type 0 where
   pub shape : Shape
   pub has_shape : HasShapeInForm r.form ws shape
   pub may_stand : may_stand_in_form r.form r.base shape ≡ true
-  pub says : List Datum
-  pub spelled : SpellsInForm r.form r.labels shape.slots shape.words says
+  pub word_values : List Datum
+  pub spelled : SpellsInForm r.form r.labels shape.slots shape.words word_values
   pub next : State
-  pub added : add r.base (line_of shape.kind says) ≡ Some next
+  pub added : add r.base (line_of shape.kind word_values) ≡ Some next
   pub is : t ≡ record { form = r.form; labels = labels_after r.form shape.kind (r.base.lines + 1) ls r.labels; base = next }
 
 -- After the lines that make r, and before these, this line makes it t.
 pub record AddsLine (r : Reading) (ls : List (List ℕ)) (line : List ℕ) (t : Reading) : Type 0 where
   pub words : List Word
   pub has_words : HasWords line words
-  pub makes : ((line_of_form r words ≡ First) × (t ≡ in_second r)) ⊎ ((line_of_form r words ≡ Mark) × (t ≡ r)) ⊎ ((line_of_form r words ≡ Nothing) × LineSays r ls words t)
+  pub makes : ((line_of_form r words ≡ First) × (t ≡ in_second r)) ⊎ ((line_of_form r words ≡ Mark) × (t ≡ r)) ⊎ ((line_of_form r words ≡ Nothing) × LineMeans r ls words t)
 
 -- A line is read, whether it is ignored or not: it counts in any case.
 abbrev pub TakesLine : Reading → List (List ℕ) → List ℕ → Reading → Type 0
@@ -145,17 +145,17 @@ pub record IsTwice (r : Reading) (ws : List Word) : Type 0 where
   pub shape : Shape
   pub has_shape : HasShapeInForm r.form ws shape
   pub may_stand : may_stand_in_form r.form r.base shape ≡ true
-  pub says : List Datum
-  pub spelled : SpellsInForm r.form r.labels shape.slots shape.words says
-  pub refused : add r.base (line_of shape.kind says) ≡ None
+  pub word_values : List Datum
+  pub spelled : SpellsInForm r.form r.labels shape.slots shape.words word_values
+  pub refused : add r.base (line_of shape.kind word_values) ≡ None
 
 -- Why these words have no meaning for the program: 100 Word if they have no shape, or one of the others.
-abbrev pub IsUnsaid : Reading → List Word → ℕ → Type 0
-IsUnsaid r ws code = ((code ≡ 100) × ((sh : Shape) → HasShapeInForm r.form ws sh → ⊥)) ⊎ ((code ≡ 103) × IsMisplaced r ws) ⊎ IsMisspelled r ws code ⊎ ((code ≡ 104) × IsTwice r ws)
+abbrev pub IsMeaningless : Reading → List Word → ℕ → Type 0
+IsMeaningless r ws code = ((code ≡ 100) × ((sh : Shape) → HasShapeInForm r.form ws sh → ⊥)) ⊎ ((code ≡ 103) × IsMisplaced r ws) ⊎ IsMisspelled r ws code ⊎ ((code ≡ 104) × IsTwice r ws)
 
 -- Why these words are refused: as the first line of a form or as a label's line, or as any other.
 abbrev pub AreRefused : Reading → List Word → ℕ → Type 0
-AreRefused r ws code = (line_of_form r ws ≡ Refused code) ⊎ ((line_of_form r ws ≡ Nothing) × IsUnsaid r ws code)
+AreRefused r ws code = (line_of_form r ws ≡ Refused code) ⊎ ((line_of_form r ws ≡ Nothing) × IsMeaningless r ws code)
 
 -- Why a line is refused after the lines that make r.
 pub record LineIsRefused (r : Reading) (line : List ℕ) (code : ℕ) : Type 0 where

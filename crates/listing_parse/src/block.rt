@@ -40,7 +40,7 @@ impl<'a> Block<'a> {
     ghost use Rattle.listing_parse.specs.inner.States.{class_again};
     ghost use Rattle.listing_parse.specs.inner.View.{owner, open_body, block};
 
-    /// Where the next line stands.
+    /// Where the next line is.
     #[rattlefmt::skip]
     #[tactic(auto, unfolding(crate::specs::inner::View::block))]
     pub fn stage(&self) -> Stage
@@ -179,7 +179,7 @@ impl<'a> Block<'a> {
         Ok(true)
     }
 
-    /// A line that may stand inside the open block is added to it, the one with this number; false where it gives again
+    /// A line that is allowed inside the open block is added to it, the one with this number; false where it gives again
     /// what may be given once.
     #[tactic(auto, unfolding(crate::specs::inner::View::block, crate::specs::States::inside))]
     pub(crate) fn add(

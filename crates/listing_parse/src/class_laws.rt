@@ -1,4 +1,4 @@
-//! The laws of classes. They have no code: each says of the definitions what its contract says.
+//! The laws of classes. They have no code: each has its law as its contract.
 
 ghost use Rattle.std.specs.Prelude.{◌≡◌, ◌↔◌, ◌∷◌, ℕ, List, None};
 ghost use Rattle.program_types.specs.Content.{Descriptor};

@@ -35,7 +35,7 @@ impl<'a> Draft<'a> {
     ghost use Rattle.listing_words.specs.Words.{Word};
     ghost use Rattle.listing_slots.specs.declared.slot.Slot.{Slot};
     ghost use Rattle.program_types.specs.View.{desc, class, insn};
-    ghost use Rattle.listing_lines.specs.Lines as says;
+    ghost use Rattle.listing_lines.specs.Lines as spec;
     ghost use Rattle.listing_lines.specs.inner.LineView.{line};
     ghost use Rattle.listing_lines.specs.Needs.{earliest};
     ghost use Rattle.listing_slots.specs.inner.ShapeView.{shape};
@@ -120,8 +120,8 @@ impl<'a> Draft<'a> {
     #[tactic(auto, unfolding(crate::specs::inner::View::state, crate::specs::inner::View::block, crate::specs::States::add))]
     fn begin(&mut self) -> bool
         ensures begun { MatchBool result
-            (add (state self.old) says.first_line ≡ Some (state self.new))
-            (add (state self.old) says.first_line ≡ None) }
+            (add (state self.old) spec.first_line ≡ Some (state self.new))
+            (add (state self.old) spec.first_line ≡ None) }
         ensures lines { self.new.lines ≡ self.old.lines }
     {
         match self.block {
@@ -137,8 +137,8 @@ impl<'a> Draft<'a> {
     #[tactic(auto, unfolding(crate::specs::inner::View::state, crate::specs::inner::View::block, crate::specs::States::add))]
     fn open_class(&mut self, ty: Desc<'a>, flags: u32) -> bool
         ensures opened { MatchBool result
-            (add (state self.old) (says.open_class (desc ty.entry) flags) ≡ Some (state self.new))
-            (add (state self.old) (says.open_class (desc ty.entry) flags) ≡ None) }
+            (add (state self.old) (spec.open_class (desc ty.entry) flags) ≡ Some (state self.new))
+            (add (state self.old) (spec.open_class (desc ty.entry) flags) ≡ None) }
         ensures lines { self.new.lines ≡ self.old.lines }
     {
         match self.block {
@@ -157,8 +157,8 @@ impl<'a> Draft<'a> {
     #[tactic(auto, unfolding(crate::specs::inner::View::state, crate::specs::States::add))]
     fn open_code(&mut self, registers: u16, ins: u16, outs: u16) -> bool
         ensures opened { MatchBool result
-            (add (state self.old) (says.open_code registers ins outs) ≡ Some (state self.new))
-            (add (state self.old) (says.open_code registers ins outs) ≡ None) }
+            (add (state self.old) (spec.open_code registers ins outs) ≡ Some (state self.new))
+            (add (state self.old) (spec.open_code registers ins outs) ≡ None) }
         ensures lines { self.new.lines ≡ self.old.lines }
     {
         let Some(owner) = self.block.owner() else {
@@ -173,8 +173,8 @@ impl<'a> Draft<'a> {
     #[tactic(auto, unfolding(crate::specs::inner::View::state, crate::specs::inner::View::block, crate::specs::States::add))]
     fn end_class(&mut self, arena: &'a Bump) -> Result<bool, Fault>
         ensures ended { IfOk result (λ yes. MatchBool yes
-            (add (state self.old) says.end_class ≡ Some (state self.new))
-            (add (state self.old) says.end_class ≡ None)) }
+            (add (state self.old) spec.end_class ≡ Some (state self.new))
+            (add (state self.old) spec.end_class ≡ None)) }
         ensures lines { self.new.lines ≡ self.old.lines }
         ensures memory { IsOkUnless result memory }
     {
@@ -191,8 +191,8 @@ impl<'a> Draft<'a> {
     #[tactic(auto, unfolding(crate::specs::inner::View::state, crate::specs::States::add))]
     fn end_code(&mut self, arena: &'a Bump) -> Result<bool, Fault>
         ensures ended { IfOk result (λ yes. MatchBool yes
-            (add (state self.old) says.end_code ≡ Some (state self.new))
-            (add (state self.old) says.end_code ≡ None)) }
+            (add (state self.old) spec.end_code ≡ Some (state self.new))
+            (add (state self.old) spec.end_code ≡ None)) }
         ensures lines { self.new.lines ≡ self.old.lines }
         ensures memory { IsOkUnless result memory }
     {
@@ -228,8 +228,8 @@ impl<'a> Draft<'a> {
     #[tactic(auto, unfolding(crate::specs::inner::View::state, crate::specs::States::add))]
     pub fn add_insn(&mut self, new: Insn<'a>) -> Result<bool, Fault>
         ensures added { IfOk result (λ yes. MatchBool yes
-            (add (state self.old) (says.insn_line (insn new.entry)) ≡ Some (state self.new))
-            (add (state self.old) (says.insn_line (insn new.entry)) ≡ None)) }
+            (add (state self.old) (spec.insn_line (insn new.entry)) ≡ Some (state self.new))
+            (add (state self.old) (spec.insn_line (insn new.entry)) ≡ None)) }
         ensures lines { self.new.lines ≡ self.old.lines }
         ensures memory { IsOkUnless result memory }
     {

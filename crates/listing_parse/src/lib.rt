@@ -41,5 +41,5 @@ pub use listing::{parse, parse_seeded};
 pub use open_class::{ClassPart, Defined, FieldKey, InClass, MethodKey, Open, Owner, Static};
 pub use open_code::{CodePart, InCode, OpenBody, OpenTry};
 pub use reading::Reading;
-pub use text_laws::lines_are_read_as_they_say;
+pub use text_laws::lines_are_read_as_their_text;
 pub use whole_laws::a_listing_is_its_lines;

@@ -13,7 +13,7 @@ ghost use Rattle.listing_parse.specs.inner.View.{state};
 ghost use Rattle.listing_lines.specs.Splitting.{lines, is_skipped};
 ghost use Rattle.listing_parse.specs.Forms.{HasShapeInForm, SpellsInForm, MisspellsInForm};
 ghost use Rattle.listing_parse.specs.inner.Named.{ReadingIsNamed};
-ghost use Rattle.listing_parse.specs.Text.{line_counted, LineSays, IsUnsaid, AddsLine, TakesLine, LineIsRefused};
+ghost use Rattle.listing_parse.specs.Text.{line_counted, LineMeans, IsMeaningless, AddsLine, TakesLine, LineIsRefused};
 ghost use Rattle.listing_parse.specs.inner.ReadingView.{reading};
 
 use crate::draft::Draft;
@@ -51,7 +51,7 @@ pub(crate) struct Scratch<'a, 'b> {
     pub(crate) arena: &'a Bump,
     pub(crate) words: Vec<Word<'a, 'b>>,
     pub(crate) slots: Vec<Slot>,
-    pub(crate) says: Vec<Datum<'a>>,
+    pub(crate) word_values: Vec<Datum<'a>>,
     pub(crate) spelled: Spelled<'a, 'b>,
 }
 
@@ -62,7 +62,7 @@ impl<'a, 'b> Drop for Scratch<'a, 'b> {
             arena: _,
             words: _,
             slots: _,
-            says: _,
+            word_values: _,
             spelled: _,
         } = self;
     }
@@ -75,9 +75,9 @@ fn read_slots<'a, 'b>(
     lead: usize,
 ) -> Result<Option<u16>, Fault>
     requires { lead + length scratch.old.slots.items ≡ length scratch.old.words.items }
-    ensures all { IfOk result (λ r. IfNone r (SpellsInForm listing.now.form listing.now.labels scratch.old.slots.items (drop lead (map word scratch.old.words.items)) (map datum scratch.new.says.items))) }
+    ensures all { IfOk result (λ r. IfNone r (SpellsInForm listing.now.form listing.now.labels scratch.old.slots.items (drop lead (map word scratch.old.words.items)) (map datum scratch.new.word_values.items))) }
     ensures bad { IfOk result (λ r. IfSome r (λ code. MisspellsInForm listing.now.form listing.now.labels scratch.old.slots.items (drop lead (map word scratch.old.words.items)) code)) }
-    ensures valid { IfOk result (λ r. IfNone r (StayValid scratch.old.spelled scratch.new.spelled (map datum scratch.new.says.items))) }
+    ensures valid { IfOk result (λ r. IfNone r (StayValid scratch.old.spelled scratch.new.spelled (map datum scratch.new.word_values.items))) }
     ensures memory { IsOkUnless result memory }
 {
     let (_, operands) = scratch.words.as_slice().split_at(lead);
@@ -88,7 +88,7 @@ fn read_slots<'a, 'b>(
             scratch.arena,
             slots,
             operands,
-            &mut scratch.says,
+            &mut scratch.word_values,
         ),
         Form::Two => read_all(
             &mut scratch.spelled,
@@ -97,7 +97,7 @@ fn read_slots<'a, 'b>(
             listing.passed,
             slots,
             operands,
-            &mut scratch.says,
+            &mut scratch.word_values,
         ),
     }
 }
@@ -108,18 +108,18 @@ fn add_kind<'a>(
     arena: &'a Bump,
     draft: &mut Draft<'a>,
     kind: Kind,
-    said: &[Datum<'a>],
+    word_values: &[Datum<'a>],
 ) -> Result<bool, Fault>
     ensures added { IfOk result (λ yes. MatchBool yes
-        (add (state draft.old) (line_of kind (map datum said.now)) ≡ Some (state draft.new))
-        (add (state draft.old) (line_of kind (map datum said.now)) ≡ None)) }
+        (add (state draft.old) (line_of kind (map datum word_values.now)) ≡ Some (state draft.new))
+        (add (state draft.old) (line_of kind (map datum word_values.now)) ≡ None)) }
     ensures lines { draft.new.lines ≡ draft.old.lines }
     ensures memory { IsOkUnless result memory }
 {
     if let Kind::Plain(op) = kind {
-        return draft.add_insn(make_insn(op, said));
+        return draft.add_insn(make_insn(op, word_values));
     }
-    let next = make_line(arena, kind, said)?;
+    let next = make_line(arena, kind, word_values)?;
     draft.add(arena, next)
 }
 
@@ -130,9 +130,9 @@ fn add_content<'a, 'b>(
     after: &'b [u8],
 ) -> Result<(), Fault>
     requires { listing.old.draft.lines + 1 + length after.now < 2 ^ 64 }
-    ensures taken { OnOk result (LineSays (reading listing.old) (lines after.now) (map word scratch.old.words.items) (reading listing.new)) }
+    ensures taken { OnOk result (LineMeans (reading listing.old) (lines after.now) (map word scratch.old.words.items) (reading listing.new)) }
     ensures named { OnOk result (ReadingIsNamed scratch.old.spelled (reading listing.old) → ReadingIsNamed scratch.new.spelled (reading listing.new)) }
-    ensures refused { IfErr result (λ e. e ≢ memory → IsUnsaid (reading listing.old) (map word scratch.old.words.items) e.code) }
+    ensures refused { IfErr result (λ e. e ≢ memory → IsMeaningless (reading listing.old) (map word scratch.old.words.items) e.code) }
     ensures place { IfErr result (λ e. e ≢ memory → e.place ≡ listing.old.draft.lines) }
     ensures lines { OnOk result (listing.new.draft.lines ≡ listing.old.draft.lines) }
 {
@@ -146,8 +146,8 @@ fn add_content<'a, 'b>(
     if let Some(code) = read_slots(scratch, listing, found.lead)? {
         return Err(Fault::at(code, listing.draft.lines));
     }
-    let said = scratch.says.as_slice();
-    if !add_kind(scratch.arena, &mut listing.draft, found.kind, said)? {
+    let word_values = scratch.word_values.as_slice();
+    if !add_kind(scratch.arena, &mut listing.draft, found.kind, word_values)? {
         return Err(Fault::at(fault::LINE_TWICE, listing.draft.lines));
     }
     listing.find_labels(found.kind, after)
@@ -160,7 +160,7 @@ fn add_line<'a, 'b>(
     line: &'b [u8],
     after: &'b [u8],
 ) -> Result<(), Fault>
-    requires says { is_skipped line.now ≡ false }
+    requires not_skipped { is_skipped line.now ≡ false }
     requires short { listing.old.draft.lines + 1 + length after.now < 2 ^ 64 }
     ensures taken { OnOk result (AddsLine (reading listing.old) (lines after.now) line.now (reading listing.new)) }
     ensures named { OnOk result (ReadingIsNamed scratch.old.spelled (reading listing.old) → ReadingIsNamed scratch.new.spelled (reading listing.new)) }

@@ -65,7 +65,7 @@ fn read_lines<'a>(
         arena,
         words: Vec::new(alloc),
         slots: Vec::new(alloc),
-        says: Vec::new(alloc),
+        word_values: Vec::new(alloc),
         spelled: Spelled::new(alloc, seed, (text.len() / BYTES_A_NAME).min(MOST_NAMES))?,
     };
     let mut listing = begin(alloc, seed, arena);

@@ -164,7 +164,7 @@ impl<'a, 't> Reading<'a, 't> {
     #[tactic(auto, unfolding(crate::specs::inner::ReadingView::reading))]
     pub(crate) fn find_labels(&mut self, kind: Kind, after: &'t [u8]) -> Result<(), Fault>
         requires { self.old.draft.lines + 1 + length after.now < 2 ^ 64 }
-        ensures looked { OnOk result (reading self.new ≡ record (reading self.old) { labels = labels_after self.old.form kind (self.old.draft.lines + 1) (lines after.now) (reading self.old).labels }) }
+        ensures read_ahead { OnOk result (reading self.new ≡ record (reading self.old) { labels = labels_after self.old.form kind (self.old.draft.lines + 1) (lines after.now) (reading self.old).labels }) }
         ensures lines { self.new.draft.lines ≡ self.old.draft.lines }
         ensures memory { IsOkUnless result memory }
     {

@@ -12,7 +12,7 @@ ghost use Rattle.listing_slots.specs.Shapes.{target, name_slot};
 ghost use Rattle.listing_slots.specs.inner.ValidNames.{StayValid, StayWhole};
 ghost use Rattle.listing_lines.specs.Labels.{Label};
 ghost use Rattle.listing_parse.specs.inner.Named.{StayNamed};
-ghost use Rattle.listing_parse.specs.inner.Short.{TakesSaid, SayInsn, IsShortLine};
+ghost use Rattle.listing_parse.specs.inner.Short.{TakesOperand, InsnText, IsShortLine};
 ghost use Rattle.listing_parse.specs.inner.ReadingView.{reading};
 
 use crate::lines::Scratch;
@@ -30,7 +30,7 @@ use program_types::{Insn, Name};
 
 /// An instruction of registers alone.
 fn of_registers<'a>(format: Format, op: u8, rest: &[u8]) -> Option<Insn<'a>>
-    ensures said { IfSome result (λ i. (es : List Label) → SayInsn es format op rest.now (insn i)) }
+    ensures word_values { IfSome result (λ i. (es : List Label) → InsnText es format op rest.now (insn i)) }
     ensures unnamed { IfSome result (λ i. names_of_insn (insn i) ≡ []) }
 {
     match format {
@@ -66,7 +66,7 @@ fn of_registers<'a>(format: Format, op: u8, rest: &[u8]) -> Option<Insn<'a>>
 
 /// An instruction whose last operand is a literal, after a register of four bits.
 fn of_literal4<'a>(format: Format, op: u8, rest: &[u8]) -> Option<Insn<'a>>
-    ensures said { IfSome result (λ i. (es : List Label) → SayInsn es format op rest.now (insn i)) }
+    ensures word_values { IfSome result (λ i. (es : List Label) → InsnText es format op rest.now (insn i)) }
     ensures unnamed { IfSome result (λ i. names_of_insn (insn i) ≡ []) }
 {
     let (a, rest) = take4(rest)?;
@@ -86,7 +86,7 @@ fn of_literal4<'a>(format: Format, op: u8, rest: &[u8]) -> Option<Insn<'a>>
 
 /// An instruction whose last operand is a literal, after a register of eight bits.
 fn of_literal8<'a>(format: Format, op: u8, rest: &[u8]) -> Option<Insn<'a>>
-    ensures said { IfSome result (λ i. (es : List Label) → SayInsn es format op rest.now (insn i)) }
+    ensures word_values { IfSome result (λ i. (es : List Label) → InsnText es format op rest.now (insn i)) }
     ensures unnamed { IfSome result (λ i. names_of_insn (insn i) ≡ []) }
 {
     let (a, rest) = take8(rest)?;
@@ -118,14 +118,14 @@ fn of_literal8<'a>(format: Format, op: u8, rest: &[u8]) -> Option<Insn<'a>>
 
 /// The instruction that the last word marks.
 fn last_target(listing: &Reading<'_, '_>, text: &[u8]) -> Option<u32>
-    ensures { IfSome result (λ n. TakesSaid listing.now.labels target text.now (word n) []) }
+    ensures { IfSome result (λ n. TakesOperand listing.now.labels target text.now (word n) []) }
 {
     read_target(&listing.labels, listing.passed, last_plain(text)?)
 }
 
 /// An instruction whose last operand is a target.
 fn of_target<'a>(listing: &Reading<'_, '_>, format: Format, op: u8, rest: &[u8]) -> Option<Insn<'a>>
-    ensures said { IfSome result (λ i. SayInsn listing.now.labels format op rest.now (insn i)) }
+    ensures word_values { IfSome result (λ i. InsnText listing.now.labels format op rest.now (insn i)) }
     ensures unnamed { IfSome result (λ i. names_of_insn (insn i) ≡ []) }
 {
     match format {
@@ -168,7 +168,7 @@ fn of_numbers<'a>(
     op: u8,
     rest: &[u8],
 ) -> Option<Insn<'a>>
-    ensures said { IfSome result (λ i. SayInsn listing.now.labels format op rest.now (insn i)) }
+    ensures word_values { IfSome result (λ i. InsnText listing.now.labels format op rest.now (insn i)) }
     ensures unnamed { IfSome result (λ i. names_of_insn (insn i) ≡ []) }
 {
     match format {
@@ -189,7 +189,7 @@ fn last_named<'a, 'b>(
     op: u8,
     text: &'b [u8],
 ) -> Result<Option<Name<'a>>, Fault>
-    ensures said { IfOk result (λ r. IfSome r (λ n. (es : List Label) → TakesSaid es (name_slot (index_kind_of op)) text.now (named (name n)) [])) }
+    ensures word_values { IfOk result (λ r. IfSome r (λ n. (es : List Label) → TakesOperand es (name_slot (index_kind_of op)) text.now (named (name n)) [])) }
     ensures valid { IfOk result (λ r. IfSome r (λ n. StayValid scratch.old.spelled scratch.new.spelled (named (name n) ∷ []))) }
     ensures same { IfOk result (λ r. IfNone r (scratch.new.spelled ≡ scratch.old.spelled)) }
     ensures memory { IsOkUnless result memory }
@@ -211,7 +211,7 @@ fn of_register_name<'a, 'b>(
     op: u8,
     rest: &'b [u8],
 ) -> Result<Option<Insn<'a>>, Fault>
-    ensures said { IfOk result (λ r. IfSome r (λ i. (es : List Label) → SayInsn es format op rest.now (insn i))) }
+    ensures word_values { IfOk result (λ r. IfSome r (λ i. (es : List Label) → InsnText es format op rest.now (insn i))) }
     ensures named { IfOk result (λ r. IfSome r (λ i. StayNamed scratch.old.spelled scratch.new.spelled (insn i))) }
     ensures kept { IfOk result (λ r. IfNone r (StayWhole scratch.old.spelled scratch.new.spelled)) }
     ensures memory { IsOkUnless result memory }
@@ -235,7 +235,7 @@ fn of_registers_name<'a, 'b>(
     op: u8,
     rest: &'b [u8],
 ) -> Result<Option<Insn<'a>>, Fault>
-    ensures said { IfOk result (λ r. IfSome r (λ i. (es : List Label) → SayInsn es Format.F22c op rest.now (insn i))) }
+    ensures word_values { IfOk result (λ r. IfSome r (λ i. (es : List Label) → InsnText es Format.F22c op rest.now (insn i))) }
     ensures named { IfOk result (λ r. IfSome r (λ i. StayNamed scratch.old.spelled scratch.new.spelled (insn i))) }
     ensures kept { IfOk result (λ r. IfNone r (StayWhole scratch.old.spelled scratch.new.spelled)) }
     ensures memory { IsOkUnless result memory }
@@ -258,7 +258,7 @@ fn of_range_name<'a, 'b>(
     op: u8,
     rest: &'b [u8],
 ) -> Result<Option<Insn<'a>>, Fault>
-    ensures said { IfOk result (λ r. IfSome r (λ i. (es : List Label) → SayInsn es Format.F3rc op rest.now (insn i))) }
+    ensures word_values { IfOk result (λ r. IfSome r (λ i. (es : List Label) → InsnText es Format.F3rc op rest.now (insn i))) }
     ensures named { IfOk result (λ r. IfSome r (λ i. StayNamed scratch.old.spelled scratch.new.spelled (insn i))) }
     ensures kept { IfOk result (λ r. IfNone r (StayWhole scratch.old.spelled scratch.new.spelled)) }
     ensures memory { IsOkUnless result memory }
@@ -281,7 +281,7 @@ fn of_braces_name<'a, 'b>(
     op: u8,
     rest: &'b [u8],
 ) -> Result<Option<Insn<'a>>, Fault>
-    ensures said { IfOk result (λ r. IfSome r (λ i. (es : List Label) → SayInsn es Format.F35c op rest.now (insn i))) }
+    ensures word_values { IfOk result (λ r. IfSome r (λ i. (es : List Label) → InsnText es Format.F35c op rest.now (insn i))) }
     ensures named { IfOk result (λ r. IfSome r (λ i. StayNamed scratch.old.spelled scratch.new.spelled (insn i))) }
     ensures kept { IfOk result (λ r. IfNone r (StayWhole scratch.old.spelled scratch.new.spelled)) }
     ensures memory { IsOkUnless result memory }
@@ -306,7 +306,7 @@ fn of_name<'a, 'b>(
     op: u8,
     rest: &'b [u8],
 ) -> Result<Option<Insn<'a>>, Fault>
-    ensures said { IfOk result (λ r. IfSome r (λ i. (es : List Label) → SayInsn es format op rest.now (insn i))) }
+    ensures word_values { IfOk result (λ r. IfSome r (λ i. (es : List Label) → InsnText es format op rest.now (insn i))) }
     ensures named { IfOk result (λ r. IfSome r (λ i. StayNamed scratch.old.spelled scratch.new.spelled (insn i))) }
     ensures kept { IfOk result (λ r. IfNone r (StayWhole scratch.old.spelled scratch.new.spelled)) }
     ensures memory { IsOkUnless result memory }
@@ -327,7 +327,7 @@ fn of_format<'a, 'b>(
     op: u8,
     rest: &'b [u8],
 ) -> Result<Option<Insn<'a>>, Fault>
-    ensures said { IfOk result (λ r. IfSome r (λ i. SayInsn listing.now.labels format op rest.now (insn i))) }
+    ensures word_values { IfOk result (λ r. IfSome r (λ i. InsnText listing.now.labels format op rest.now (insn i))) }
     ensures named { IfOk result (λ r. IfSome r (λ i. StayNamed scratch.old.spelled scratch.new.spelled (insn i))) }
     ensures kept { IfOk result (λ r. IfNone r (StayWhole scratch.old.spelled scratch.new.spelled)) }
     ensures memory { IsOkUnless result memory }
@@ -348,7 +348,7 @@ pub(crate) fn read_short<'a, 'b>(
     listing: &Reading<'a, 'b>,
     line: &'b [u8],
 ) -> Result<Option<Insn<'a>>, Fault>
-    ensures said { IfOk result (λ r. IfSome r (λ i. IsShortLine (reading listing.now) line.now (insn i))) }
+    ensures word_values { IfOk result (λ r. IfSome r (λ i. IsShortLine (reading listing.now) line.now (insn i))) }
     ensures named { IfOk result (λ r. IfSome r (λ i. StayNamed scratch.old.spelled scratch.new.spelled (insn i))) }
     ensures kept { IfOk result (λ r. IfNone r (StayWhole scratch.old.spelled scratch.new.spelled)) }
     ensures memory { IsOkUnless result memory }

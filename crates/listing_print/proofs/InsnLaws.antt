@@ -68,10 +68,10 @@ targets_slots : (form : Form) (ts : List ℕ) → slots_of (map to ts) ≡ repli
 targets_slots form [] = refl
 targets_slots form (t ∷ ts) = ap (λ ss. target ∷ ss) (targets_slots form ts)
 
-targets_say : (ts : List ℕ) → map word_of (data_of (map to ts)) ≡ ts
+targets_read : (ts : List ℕ) → map word_of (data_of (map to ts)) ≡ ts
 unfolding word_of
-targets_say [] = refl
-targets_say (t ∷ ts) = ap (λ ns. t ∷ ns) (targets_say ts)
+targets_read [] = refl
+targets_read (t ∷ ts) = ap (λ ns. t ∷ ns) (targets_read ts)
 
 pairs_slots : (ks : List ℤ) (ts : List ℕ) → length ks ≡ length ts → slots_of (pair_operands ks ts) ≡ pairs (length ks)
 unfolding pairs
@@ -84,22 +84,22 @@ pairs_length form [] [] e = refl
 pairs_length form (k ∷ ks) (t ∷ ts) e = let i = pairs_length form ks ts (omega arith) in omega arith
 pairs_length form _ _ e = absurd (omega arith)
 
-keys_say : (ks : List ℤ) (ts : List ℕ) → length ks ≡ length ts → map int_of (alternate (data_of (pair_operands ks ts))) ≡ ks
+keys_read : (ks : List ℤ) (ts : List ℕ) → length ks ≡ length ts → map int_of (alternate (data_of (pair_operands ks ts))) ≡ ks
 unfolding alternate int_of
-keys_say [] [] e = refl
-keys_say (k ∷ ks) (t ∷ ts) e = ap (λ zs. k ∷ zs) (keys_say ks ts (omega arith))
-keys_say _ _ e = absurd (omega arith)
+keys_read [] [] e = refl
+keys_read (k ∷ ks) (t ∷ ts) e = ap (λ zs. k ∷ zs) (keys_read ks ts (omega arith))
+keys_read _ _ e = absurd (omega arith)
 
 next_alternate : (d : Datum) (ds : List Datum) → alternate (d ∷ ds) ≡ d ∷ alternate (drop 1 ds)
 unfolding alternate
 next_alternate d [] = refl
 next_alternate d (x ∷ ds) = refl
 
-pair_targets_say : (ks : List ℤ) (ts : List ℕ) → length ks ≡ length ts → map word_of (alternate (drop 1 (data_of (pair_operands ks ts)))) ≡ ts
+pair_targets_read : (ks : List ℤ) (ts : List ℕ) → length ks ≡ length ts → map word_of (alternate (drop 1 (data_of (pair_operands ks ts)))) ≡ ts
 unfolding alternate word_of
-pair_targets_say [] [] e = refl
-pair_targets_say (k ∷ ks) (t ∷ ts) e = ap (map word_of) (next_alternate _ (data_of (pair_operands ks ts))) ∙ ap (λ ns. t ∷ ns) (pair_targets_say ks ts (omega arith))
-pair_targets_say _ _ e = absurd (omega arith)
+pair_targets_read [] [] e = refl
+pair_targets_read (k ∷ ks) (t ∷ ts) e = ap (map word_of) (next_alternate _ (data_of (pair_operands ks ts))) ∙ ap (λ ns. t ∷ ns) (pair_targets_read ks ts (omega arith))
+pair_targets_read _ _ e = absurd (omega arith)
 
 -- the row of a payload
 key_row_of : (k : Key) (ws : List Word) (r : Row) → Some k ≡ find_key payload_keys (key_text k) → Some r ≡ payload_row k ws → IsInsnRow (key_text k) ws r
@@ -130,52 +130,52 @@ insn_row form _ h = plain_row _ _ _ _ h refl
 
 -- ---- what the slots say
 
-plain_says : (op : ℕ) (f : Format) (ds : List Datum) (i : Insn) → format_of op ≡ Some f → insn_of (Some f) op ds ≡ i → line_of (kind.Plain op) ds ≡ insn_line i
+plain_reads : (op : ℕ) (f : Format) (ds : List Datum) (i : Insn) → format_of op ≡ Some f → insn_of (Some f) op ds ≡ i → line_of (kind.Plain op) ds ≡ insn_line i
 unfolding line_of
-plain_says op f ds i e g = ap (λ (o : Option Format). insn_line (insn_of o op ds)) e ∙ ap insn_line g
+plain_reads op f ds i e g = ap (λ (o : Option Format). insn_line (insn_of o op ds)) e ∙ ap insn_line g
 
-name_says : (which : Name) → (name_operand which).says ≡ named which
-name_says (OfText us) = refl
-name_says _ = refl
+name_reads : (which : Name) → (name_operand which).value ≡ named which
+name_reads (OfText us) = refl
+name_reads _ = refl
 
-brace_says : (op n a b c d e : ℕ) (which : Name) → n ≤ 5 → drop n (a ∷ b ∷ c ∷ d ∷ e ∷ []) ≡ replicate (5 - n) 0 → insn_of (Some format.F35c) op (data_of (braces (take n (a ∷ b ∷ c ∷ d ∷ e ∷ [])) (name_operand which))) ≡ content.I35c op n (a ∷ b ∷ c ∷ d ∷ e ∷ []) which
+brace_reads : (op n a b c d e : ℕ) (which : Name) → n ≤ 5 → drop n (a ∷ b ∷ c ∷ d ∷ e ∷ []) ≡ replicate (5 - n) 0 → insn_of (Some format.F35c) op (data_of (braces (take n (a ∷ b ∷ c ∷ d ∷ e ∷ [])) (name_operand which))) ≡ content.I35c op n (a ∷ b ∷ c ∷ d ∷ e ∷ []) which
 unfolding insn_of byte_of name_of
-brace_says op zero a b c d e which l h = let i : a ≡ 0 = cc in let j : b ≡ 0 = cc in let k : c ≡ 0 = cc in let m : d ≡ 0 = cc in let o : e ≡ 0 = cc in rw (i, j, k, m, o, name_says which) refl
-brace_says op (suc zero) a b c d e which l h = let j : b ≡ 0 = cc in let k : c ≡ 0 = cc in let m : d ≡ 0 = cc in let o : e ≡ 0 = cc in rw (j, k, m, o, name_says which) refl
-brace_says op (suc (suc zero)) a b c d e which l h = let k : c ≡ 0 = cc in let m : d ≡ 0 = cc in let o : e ≡ 0 = cc in rw (k, m, o, name_says which) refl
-brace_says op (suc (suc (suc zero))) a b c d e which l h = let m : d ≡ 0 = cc in let o : e ≡ 0 = cc in rw (m, o, name_says which) refl
-brace_says op (suc (suc (suc (suc zero)))) a b c d e which l h = let o : e ≡ 0 = cc in rw (o, name_says which) refl
-brace_says op (suc (suc (suc (suc (suc zero))))) a b c d e which l h = rw (name_says which) refl
-brace_says op (suc (suc (suc (suc (suc (suc n)))))) a b c d e which l h = absurd (omega arith)
+brace_reads op zero a b c d e which l h = let i : a ≡ 0 = cc in let j : b ≡ 0 = cc in let k : c ≡ 0 = cc in let m : d ≡ 0 = cc in let o : e ≡ 0 = cc in rw (i, j, k, m, o, name_reads which) refl
+brace_reads op (suc zero) a b c d e which l h = let j : b ≡ 0 = cc in let k : c ≡ 0 = cc in let m : d ≡ 0 = cc in let o : e ≡ 0 = cc in rw (j, k, m, o, name_reads which) refl
+brace_reads op (suc (suc zero)) a b c d e which l h = let k : c ≡ 0 = cc in let m : d ≡ 0 = cc in let o : e ≡ 0 = cc in rw (k, m, o, name_reads which) refl
+brace_reads op (suc (suc (suc zero))) a b c d e which l h = let m : d ≡ 0 = cc in let o : e ≡ 0 = cc in rw (m, o, name_reads which) refl
+brace_reads op (suc (suc (suc (suc zero)))) a b c d e which l h = let o : e ≡ 0 = cc in rw (o, name_reads which) refl
+brace_reads op (suc (suc (suc (suc (suc zero))))) a b c d e which l h = rw (name_reads which) refl
+brace_reads op (suc (suc (suc (suc (suc (suc n)))))) a b c d e which l h = absurd (omega arith)
 
-call_says : (op n : ℕ) (regs : List ℕ) (which : Name) → n ≤ 5 → length regs ≡ 5 → drop n regs ≡ replicate (5 - n) 0 → insn_of (Some format.F35c) op (data_of (braces (take n regs) (name_operand which))) ≡ content.I35c op n regs which
-call_says op n (a ∷ b ∷ c ∷ d ∷ e ∷ []) which l f h = brace_says op n a b c d e which l h
-call_says op n _ which l f h = absurd (omega arith)
+call_reads : (op n : ℕ) (regs : List ℕ) (which : Name) → n ≤ 5 → length regs ≡ 5 → drop n regs ≡ replicate (5 - n) 0 → insn_of (Some format.F35c) op (data_of (braces (take n regs) (name_operand which))) ≡ content.I35c op n regs which
+call_reads op n (a ∷ b ∷ c ∷ d ∷ e ∷ []) which l f h = brace_reads op n a b c d e which l h
+call_reads op n _ which l f h = absurd (omega arith)
 
-data_says : (width : ℕ) (bytes : List ℕ) → line_of kind.Elements (data_of (insn_operands (content.Data width bytes))) ≡ insn_line (content.Data width bytes)
+data_reads : (width : ℕ) (bytes : List ℕ) → line_of kind.Elements (data_of (insn_operands (content.Data width bytes))) ≡ insn_line (content.Data width bytes)
 unfolding line_of half_of elements_of
-data_says width [] = refl
-data_says width (b ∷ bytes) = refl
+data_reads width [] = refl
+data_reads width (b ∷ bytes) = refl
 
-packed_says : (first : ℤ) (targets : List ℕ) → line_of kind.Packed (data_of (insn_operands (content.Packed first targets))) ≡ insn_line (content.Packed first targets)
+packed_reads : (first : ℤ) (targets : List ℕ) → line_of kind.Packed (data_of (insn_operands (content.Packed first targets))) ≡ insn_line (content.Packed first targets)
 unfolding line_of int_of
-packed_says first targets = ap (λ ts. insn_line (content.Packed first ts)) (targets_say targets)
+packed_reads first targets = ap (λ ts. insn_line (content.Packed first ts)) (targets_read targets)
 
-sparse_says : (keys : List ℤ) (targets : List ℕ) → length keys ≡ length targets → line_of kind.Sparse (data_of (insn_operands (content.Sparse keys targets))) ≡ insn_line (content.Sparse keys targets)
+sparse_reads : (keys : List ℤ) (targets : List ℕ) → length keys ≡ length targets → line_of kind.Sparse (data_of (insn_operands (content.Sparse keys targets))) ≡ insn_line (content.Sparse keys targets)
 unfolding line_of
-sparse_says keys targets e = ap (λ ks. insn_line (content.Sparse ks (map word_of (alternate (drop 1 (data_of (pair_operands keys targets))))))) (keys_say keys targets e) ∙ ap (λ ts. insn_line (content.Sparse keys ts)) (pair_targets_say keys targets e)
+sparse_reads keys targets e = ap (λ ks. insn_line (content.Sparse ks (map word_of (alternate (drop 1 (data_of (pair_operands keys targets))))))) (keys_read keys targets e) ∙ ap (λ ts. insn_line (content.Sparse keys ts)) (pair_targets_read keys targets e)
 
-pub insn_says : (i : Insn) → OpcodeFits i → line_of (insn_kind i) (data_of (insn_operands i)) ≡ insn_line i
+pub insn_reads : (i : Insn) → OpcodeFits i → line_of (insn_kind i) (data_of (insn_operands i)) ≡ insn_line i
 unfolding insn_of byte_of half_of word_of tiny_of short_of int_of long_of name_of
-insn_says (content.I21c op a which) h = plain_says op format.F21c _ _ h.0 (rw (name_says which) refl)
-insn_says (content.I31c op a which) h = plain_says op format.F31c _ _ h.0 (rw (name_says which) refl)
-insn_says (content.I22c op a b which) h = plain_says op format.F22c _ _ h.0 (rw (name_says which) refl)
-insn_says (content.I3rc op n first which) h = plain_says op format.F3rc _ _ h.0 (rw (name_says which) refl)
-insn_says (content.I35c op n regs which) h = plain_says op format.F35c _ _ h.0 (call_says op n regs which h.2 h.3 h.4)
-insn_says (content.Packed first targets) h = packed_says first targets
-insn_says (content.Sparse keys targets) h = sparse_says keys targets h
-insn_says (content.Data width bytes) h = data_says width bytes
-insn_says _ h = plain_says _ _ _ _ h refl
+insn_reads (content.I21c op a which) h = plain_reads op format.F21c _ _ h.0 (rw (name_reads which) refl)
+insn_reads (content.I31c op a which) h = plain_reads op format.F31c _ _ h.0 (rw (name_reads which) refl)
+insn_reads (content.I22c op a b which) h = plain_reads op format.F22c _ _ h.0 (rw (name_reads which) refl)
+insn_reads (content.I3rc op n first which) h = plain_reads op format.F3rc _ _ h.0 (rw (name_reads which) refl)
+insn_reads (content.I35c op n regs which) h = plain_reads op format.F35c _ _ h.0 (call_reads op n regs which h.2 h.3 h.4)
+insn_reads (content.Packed first targets) h = packed_reads first targets
+insn_reads (content.Sparse keys targets) h = sparse_reads keys targets h
+insn_reads (content.Data width bytes) h = data_reads width bytes
+insn_reads _ h = plain_reads _ _ _ _ h refl
 
 -- ---- the number of an instruction
 

@@ -5,7 +5,7 @@ use Rattle.std.proofs.lemmas.List.{append-nil}
 use Rattle.program_types.specs.Content as content
 use Rattle.program_types.specs.Content.{Value, Values, no_values, more_values, Name, OfText}
 use Rattle.listing_slots.specs.declared.key.Key.TheVariants as key
-use Rattle.listing_slots.specs.Data.{Datum, said}
+use Rattle.listing_slots.specs.Data.{Datum, key_word}
 use Rattle.listing_lines.specs.Lines.{Making, with_word, with_value, value_of, first_value}
 use Rattle.listing_print.specs.Operands.{Operand, keyword, named_operands, value_operands, values_operands}
 use Rattle.listing_print.specs.inner.Reading.{data_of}
@@ -14,7 +14,7 @@ use Rattle.program_types.proofs.Nesting.{listed, values-listed}
 
 pub data_join : (os ps : List Operand) → data_of (os ++ ps) ≡ data_of os ++ data_of ps
 data_join [] ps = refl
-data_join (o ∷ os) ps = ap (λ ds. o.says ∷ ds) (data_join os ps)
+data_join (o ∷ os) ps = ap (λ ds. o.value ∷ ds) (data_join os ps)
 
 -- after these values
 abbrev with_values : Making → List Value → Making
@@ -27,7 +27,7 @@ one_more : (m : Making) (v : Value) (vs : List Value) → with_values (with_valu
 one_more m v vs = ap (λ xs. record { values = xs; begins = m.begins }) (append_assoc m.values (v ∷ []) vs)
 
 -- a whole array
-array_made : (m : Making) (vs : Values) → with_word (record { values = m.values ++ listed vs; begins = length m.values ∷ m.begins }) (said key.Close) ≡ with_value m (content.Array vs)
+array_made : (m : Making) (vs : Values) → with_word (record { values = m.values ++ listed vs; begins = length m.values ∷ m.begins }) (key_word key.Close) ≡ with_value m (content.Array vs)
 array_made m vs = rw (take-append_seam m.values (listed vs), drop-append_seam m.values (listed vs), values-listed vs) refl
 
 named_fold : (which : Name) (m : Making) (rest : List Datum) → fold with_word m (data_of (named_operands which) ++ rest) ≡ fold with_word (with_value m (content.Named which)) rest
@@ -42,9 +42,9 @@ mutual
   pub value_fold : (v : Value) (m : Making) (rest : List Datum) → fold with_word m (data_of (value_operands v) ++ rest) ≡ fold with_word (with_value m v) rest
   value_fold (content.Named which) m rest = named_fold which m rest
   value_fold (content.Array vs) m rest =
-      let d : data_of (values_operands vs ++ (keyword key.Close ∷ [])) ++ rest ≡ data_of (values_operands vs) ++ (said key.Close ∷ rest) = ap (λ ds. ds ++ rest) (data_join (values_operands vs) (keyword key.Close ∷ [])) ∙ append_assoc (data_of (values_operands vs)) (said key.Close ∷ []) rest in
+      let d : data_of (values_operands vs ++ (keyword key.Close ∷ [])) ++ rest ≡ data_of (values_operands vs) ++ (key_word key.Close ∷ rest) = ap (λ ds. ds ++ rest) (data_join (values_operands vs) (keyword key.Close ∷ [])) ∙ append_assoc (data_of (values_operands vs)) (key_word key.Close ∷ []) rest in
       let n : Making = record { values = m.values; begins = length m.values ∷ m.begins } in
-      ap (fold with_word n) d ∙ values_fold vs n (said key.Close ∷ rest) ∙ ap (λ x. fold with_word x rest) (array_made m vs)
+      ap (fold with_word n) d ∙ values_fold vs n (key_word key.Close ∷ rest) ∙ ap (λ x. fold with_word x rest) (array_made m vs)
   value_fold (content.Boolean b) m rest = truth_fold b m rest
   value_fold _ m rest = refl
 

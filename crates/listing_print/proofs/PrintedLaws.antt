@@ -27,11 +27,11 @@ use Rattle.listing_slots.proofs.ValueSlotLaws.{after_slots}
 
 -- The words of operands.
 abbrev pub words_of : List Operand → List Word
-words_of os = map (λ (o : Operand). shown o.slot o.says) os
+words_of os = map (λ (o : Operand). shown o.slot o.value) os
 
 words_all : (os : List Operand) → shown_all (slots_of os) (data_of os) ≡ words_of os
 words_all [] = refl
-words_all (o ∷ os) = ap (λ ws. shown o.slot o.says ∷ ws) (words_all os)
+words_all (o ∷ os) = ap (λ ws. shown o.slot o.value ∷ ws) (words_all os)
 
 fits_all : (os : List Operand) → FitOperands os → FitSlots (slots_of os) (data_of os)
 fits_all [] h = tt
@@ -42,7 +42,7 @@ printed_spelled os h = subst (λ (ws : List Word). SpellsSlots (slots_of os) ws 
 
 pub words_join : (os ps : List Operand) → words_of (os ++ ps) ≡ words_of os ++ words_of ps
 words_join [] ps = refl
-words_join (o ∷ os) ps = ap (λ ws. shown o.slot o.says ∷ ws) (words_join os ps)
+words_join (o ∷ os) ps = ap (λ ws. shown o.slot o.value ∷ ws) (words_join os ps)
 
 -- ---- the same in a form
 
@@ -57,11 +57,11 @@ form_in form s d h = shown_form s d h
 pub forms_in : (form : Form) (os : List Operand) → FitOperands os → have_forms (slots_of os) (words_in form os) ≡ true
 unfolding have_forms
 forms_in form [] h = refl
-forms_in form (o ∷ os) h = rw (form_in form o.slot o.says h.0) (forms_in form os h.1)
+forms_in form (o ∷ os) h = rw (form_in form o.slot o.value h.0) (forms_in form os h.1)
 
 pub join_in : (form : Form) (os ps : List Operand) → words_in form (os ++ ps) ≡ words_in form os ++ words_in form ps
 join_in form [] ps = refl
-join_in form (o ∷ os) ps = ap (λ ws. shown_in form o.slot o.says ∷ ws) (join_in form os ps)
+join_in form (o ∷ os) ps = ap (λ ws. shown_in form o.slot o.value ∷ ws) (join_in form os ps)
 
 named_words : (form : Form) (which : Name) → words_in form (named_operands which) ≡ words_of (named_operands which)
 named_words form (OfText us) = refl

@@ -44,9 +44,9 @@ without_code : (m : Method) → m.code ≡ None → record { name = m.name; prot
 without_code m e = ap (λ c. record { name = m.name; proto = m.proto; flags = m.flags; code = c }) (sym e)
 
 -- its slots say the line
-pub keyed_says_line : (l : Line) → IsKeyedLine l → line_of (line_kind l) (data_of (line_operands l)) ≡ l
+pub keyed_reads_line : (l : Line) → IsKeyedLine l → line_of (line_kind l) (data_of (line_operands l)) ≡ l
 unfolding line_of byte_of half_of word_of tiny_of short_of int_of long_of elements_of name_of text_of type_of proto_of
-keyed_says_line (static_line m (Some v)) h = ap (λ x. static_line m (Some x)) (value_made v)
-keyed_says_line (direct_line m) h = ap direct_line (without_code m h)
-keyed_says_line (virtual_line m) h = ap virtual_line (without_code m h)
-keyed_says_line _ h = search rules
+keyed_reads_line (static_line m (Some v)) h = ap (λ x. static_line m (Some x)) (value_made v)
+keyed_reads_line (direct_line m) h = ap direct_line (without_code m h)
+keyed_reads_line (virtual_line m) h = ap virtual_line (without_code m h)
+keyed_reads_line _ h = search rules

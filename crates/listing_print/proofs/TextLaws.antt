@@ -13,7 +13,7 @@ use Rattle.program_types.specs.declared.class.Member.{Member as InMember}
 use Rattle.listing_words.specs.Words.{word_bytes}
 use Rattle.listing_slots.specs.declared.slot.Slot.TheVariants as slot
 use Rattle.listing_slots.specs.declared.key.Key.TheVariants as key
-use Rattle.listing_slots.specs.Data.{byte, int, said}
+use Rattle.listing_slots.specs.Data.{byte, int, key_word}
 use Rattle.listing_slots.specs.Shown.{shown}
 use Rattle.listing_slots.specs.Shapes.{register4}
 use Rattle.listing_lines.specs.Lines.{static_line}
@@ -28,10 +28,10 @@ followed (Ok v) f h = f h
 followed (Err e) f h = h
 
 pub text_append : (os ps : List Operand) → operand_text (os ++ ps) ≡ operand_text os ++ operand_text ps
-text_append os ps = flat_map-append (λ (o : Operand). 32 ∷ word_bytes (shown o.slot o.says)) os ps
+text_append os ps = flat_map-append (λ (o : Operand). 32 ∷ word_bytes (shown o.slot o.value)) os ps
 
 pub text_append_in : (form : Form) (os ps : List Operand) → operand_text_in form (os ++ ps) ≡ operand_text_in form os ++ operand_text_in form ps
-text_append_in form os ps = flat_map-append (λ (o : Operand). 32 ∷ word_bytes (shown_in form o.slot o.says)) os ps
+text_append_in form os ps = flat_map-append (λ (o : Operand). 32 ∷ word_bytes (shown_in form o.slot o.value)) os ps
 
 -- ---- operands without targets, which both forms show alike
 
@@ -47,7 +47,7 @@ pub call_text : (form : Form) (rs : List ℕ) (which : Name) → operand_text_in
 call_text form rs which =
     let a = map v4 rs in
     let b = keyword key.Close ∷ name_operand which ∷ [] in
-    ap (λ t. (32 ∷ word_bytes (shown (slot.Key key.Open) (said key.Open))) ++ t)
+    ap (λ t. (32 ∷ word_bytes (shown (slot.Key key.Open) (key_word key.Open))) ++ t)
     (text_append_in form a b ∙ ap (λ t. t ++ operand_text_in form b) (registers_text form rs) ∙ ap (λ t. operand_text a ++ t) (close_text form which) ∙ sym (text_append a b))
 
 -- ---- pairs

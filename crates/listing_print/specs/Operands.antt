@@ -11,7 +11,7 @@ use Rattle.listing_slots.specs.declared.key.Key.TheVariants as key
 use Rattle.listing_slots.specs.declared.slot.Mark.TheVariants.{Nothing, Target}
 use Rattle.listing_slots.specs.declared.slot.Slot.{Slot}
 use Rattle.listing_slots.specs.declared.slot.Slot.TheVariants as slot
-use Rattle.listing_slots.specs.Data.{Datum, byte, half, word, wide, tiny, short, int, long, elements, named, constant, said}
+use Rattle.listing_slots.specs.Data.{Datum, byte, half, word, wide, tiny, short, int, long, elements, named, constant, key_word}
 use Rattle.listing_slots.specs.Shown.{shown}
 use Rattle.listing_lines.specs.declared.form.Form.{Form}
 use Rattle.listing_lines.specs.declared.form.Form.TheVariants.{One, Two}
@@ -20,7 +20,7 @@ use Rattle.listing_slots.specs.Shapes.{register4, register8, register16, target,
 -- A slot, and the value of its word.
 pub record Operand : Type 0 where
   pub slot : Slot
-  pub says : Datum
+  pub value : Datum
 
 -- The name of instruction k's label.
 abbrev pub label_name : ℕ → List ℕ
@@ -38,19 +38,19 @@ shown_in form s d = shown s d
 
 -- The words of operands, each after one space.
 abbrev pub operand_text : List Operand → List ℕ
-operand_text os = flat_map (λ o. 32 ∷ word_bytes (shown o.slot o.says)) os
+operand_text os = flat_map (λ o. 32 ∷ word_bytes (shown o.slot o.value)) os
 
 -- The words of operands with targets, in a form, each after one space.
 abbrev pub operand_text_in : Form → List Operand → List ℕ
-operand_text_in form os = flat_map (λ o. 32 ∷ word_bytes (shown_in form o.slot o.says)) os
+operand_text_in form os = flat_map (λ o. 32 ∷ word_bytes (shown_in form o.slot o.value)) os
 
 -- The value of a slot.
 abbrev pub operand : Slot → Datum → Operand
-operand s d = record { slot = s; says = d }
+operand s d = record { slot = s; value = d }
 
 -- A keyword.
 abbrev pub keyword : Key → Operand
-keyword k = operand (slot.Key k) (said k)
+keyword k = operand (slot.Key k) (key_word k)
 
 -- A register of four bits.
 abbrev pub v4 : ℕ → Operand

@@ -4,7 +4,7 @@ ghost use Rattle.std.specs.Prelude.{◌≡◌, ◌<◌, ◌+◌, ℕ, List, leng
 ghost use Rattle.std.specs.List.{flat_map};
 ghost use Rattle.dex_base.specs.Fault.{memory};
 ghost use Rattle.program_types.specs.View.{desc, str, member, method, value, insn, catch, try, code, class, program};
-ghost use Rattle.listing_lines.specs.Lines as says;
+ghost use Rattle.listing_lines.specs.Lines as spec;
 ghost use Rattle.listing_print.specs.Printed.{keyed_text};
 ghost use Rattle.listing_print.specs.Canon.{super_text, source_text, insns_text, catches_text, try_text, code_text, direct_text, virtual_text, statics_text, heads_text, fields_text, methods_text, class_text, label_if_named, first_text, text_in, canon, canon_1};
 ghost use Rattle.listing_print.specs.inner.Marks.{IsMarked};
@@ -162,7 +162,7 @@ fn put_static(
     values: &[Value<'_>],
     i: usize,
 ) -> Result<(), AllocError>
-    ensures ok { OnOk result (out.new.items ≡ out.old.items ++ keyed_text (says.static_line (member field.now) (slice_get (map value values.now) i))) }
+    ensures ok { OnOk result (out.new.items ≡ out.old.items ++ keyed_text (spec.static_line (member field.now) (slice_get (map value values.now) i))) }
 {
     if i < values.len() {
         return put_given_line(out, field, &values[i]);
@@ -186,7 +186,7 @@ fn put_statics(
 
 /// Appends instance fields.
 fn put_instances(out: &mut Vec<u8>, fields: &[Member<'_>]) -> Result<(), AllocError>
-    ensures ok { OnOk result (out.new.items ≡ out.old.items ++ flat_map (λ m. keyed_text (says.instance_line m)) (map member fields.now)) }
+    ensures ok { OnOk result (out.new.items ≡ out.old.items ++ flat_map (λ m. keyed_text (spec.instance_line m)) (map member fields.now)) }
 {
     for one in fields {
         put_member_line(out, Key::Instance, one)?;
@@ -196,7 +196,7 @@ fn put_instances(out: &mut Vec<u8>, fields: &[Member<'_>]) -> Result<(), AllocEr
 
 /// Appends interfaces.
 fn put_interfaces(out: &mut Vec<u8>, interfaces: &[Desc<'_>]) -> Result<(), AllocError>
-    ensures ok { OnOk result (out.new.items ≡ out.old.items ++ flat_map (λ d. keyed_text (says.implements_line d)) (map desc interfaces.now)) }
+    ensures ok { OnOk result (out.new.items ≡ out.old.items ++ flat_map (λ d. keyed_text (spec.implements_line d)) (map desc interfaces.now)) }
 {
     for one in interfaces {
         put_type_line(out, Key::Implements, *one)?;

@@ -18,15 +18,15 @@ ghost use Rattle.listing_print.specs.Operands.{value_operands, insn_operands};
 
 /// The printed words of a value have the slots of the value, and mean the value again.
 pub fn printed_values_are_read_again()
-    ensures slots { (v : Value) → value_slots (due.Value 0) (map (λ o. shown o.slot o.says) (value_operands v)) ≡ Some (map (λ o. o.slot) (value_operands v)) }
-    ensures says { (v : Value) → value_of (map (λ o. o.says) (value_operands v)) ≡ v }
+    ensures slots { (v : Value) → value_slots (due.Value 0) (map (λ o. shown o.slot o.value) (value_operands v)) ≡ Some (map (λ o. o.slot) (value_operands v)) }
+    ensures value { (v : Value) → value_of (map (λ o. o.value) (value_operands v)) ≡ v }
 {}
 
 /// The printed words of a line that begins with a keyword have the line's shape in both forms, and mean the line again.
 pub fn printed_lines_are_read_again()
     ensures shape { (form : Form) (l : Line) → IsKeyedLine l → FitOperands (line_operands l)
         → IsKeyed (plain_word (key_text (line_key l)) ∷ words_in form (line_operands l)) (record { kind = line_kind l; label = []; slots = slots_of (line_operands l); words = words_in form (line_operands l) }) }
-    ensures says { (l : Line) → IsKeyedLine l → line_of (line_kind l) (data_of (line_operands l)) ≡ l }
+    ensures value { (l : Line) → IsKeyedLine l → line_of (line_kind l) (data_of (line_operands l)) ≡ l }
 {}
 
 /// The printed words of an instruction have its shape, and mean the instruction again.
@@ -36,5 +36,5 @@ pub fn printed_instructions_are_read_again()
     ensures bare { (i : Insn) → OpcodeFits i → FitOperands (insn_operands i)
         → HasBareShape (plain_word (insn_word i) ∷ words_in Two (insn_operands i)) (record { kind = insn_kind i; label = []; slots = slots_of (insn_operands i); words = words_in Two (insn_operands i) }) }
     ensures number { (k : ℕ) → k < 2 ^ 64 → is_number (decimal k) k ≡ true }
-    ensures says { (i : Insn) → OpcodeFits i → line_of (insn_kind i) (data_of (insn_operands i)) ≡ insn_line i }
+    ensures value { (i : Insn) → OpcodeFits i → line_of (insn_kind i) (data_of (insn_operands i)) ≡ insn_line i }
 {}

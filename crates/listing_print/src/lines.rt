@@ -4,7 +4,7 @@ ghost use Rattle.std.specs.Prelude.{◌≡◌, ℕ, List, ◌++◌, ◌∷◌, [
 ghost use Rattle.program_types.specs.View.{desc, str, member, method, value, insn};
 ghost use Rattle.listing_slots.specs.Keys.{key_text};
 ghost use Rattle.listing_slots.specs.declared.key.Key.TheVariants as Key;
-ghost use Rattle.listing_lines.specs.Lines as says;
+ghost use Rattle.listing_lines.specs.Lines as spec;
 ghost use Rattle.listing_print.specs.Operands.{operand_text, keyword, to};
 ghost use Rattle.listing_print.specs.Printed.{type_operand, member_operands, method_operands, keyed_text, keyed_text_in, insn_word, with_number, insn_text, label_text};
 
@@ -45,7 +45,7 @@ pub(crate) fn put_keys(out: &mut Vec<u8>, first: Key, second: Key) -> Result<(),
 
 /// Appends the first line of a class.
 pub(crate) fn put_class_line(out: &mut Vec<u8>, ty: Desc<'_>, flags: u32) -> Result<(), AllocError>
-    ensures ok { OnOk result (out.new.items ≡ out.old.items ++ keyed_text (says.open_class (desc ty.entry) flags)) }
+    ensures ok { OnOk result (out.new.items ≡ out.old.items ++ keyed_text (spec.open_class (desc ty.entry) flags)) }
 {
     put_first(out, Key::Class)?;
     put_name(out, ty.text.units)?;
@@ -64,7 +64,7 @@ pub(crate) fn put_type_line(out: &mut Vec<u8>, key: Key, ty: Desc<'_>) -> Result
 
 /// Appends the line of a source file.
 pub(crate) fn put_source_line(out: &mut Vec<u8>, text: Str<'_>) -> Result<(), AllocError>
-    ensures ok { OnOk result (out.new.items ≡ out.old.items ++ keyed_text (says.source_line (str text.entry))) }
+    ensures ok { OnOk result (out.new.items ≡ out.old.items ++ keyed_text (spec.source_line (str text.entry))) }
 {
     put_first(out, Key::Source)?;
     put_text(out, text.units)?;
@@ -99,7 +99,7 @@ pub(crate) fn put_given_line(
     field: &Member<'_>,
     initial: &Value<'_>,
 ) -> Result<(), AllocError>
-    ensures ok { OnOk result (out.new.items ≡ out.old.items ++ keyed_text (says.static_line (member field.now) (Some (value initial.now)))) }
+    ensures ok { OnOk result (out.new.items ≡ out.old.items ++ keyed_text (spec.static_line (member field.now) (Some (value initial.now)))) }
 {
     put_first(out, Key::Static)?;
     put_member(out, field)?;
@@ -130,7 +130,7 @@ pub(crate) fn put_code_line(
     ins: u16,
     outs: u16,
 ) -> Result<(), AllocError>
-    ensures ok { OnOk result (out.new.items ≡ out.old.items ++ keyed_text (says.open_code registers ins outs)) }
+    ensures ok { OnOk result (out.new.items ≡ out.old.items ++ keyed_text (spec.open_code registers ins outs)) }
 {
     put_first(out, Key::Code)?;
     put_number(out, registers as u64)?;
@@ -146,7 +146,7 @@ pub(crate) fn put_try_line(
     from: u32,
     to: u32,
 ) -> Result<(), AllocError>
-    ensures ok { OnOk result (out.new.items ≡ out.old.items ++ keyed_text_in form (says.try_line from to)) }
+    ensures ok { OnOk result (out.new.items ≡ out.old.items ++ keyed_text_in form (spec.try_line from to)) }
 {
     put_first(out, Key::Try)?;
     put_target(out, form, from)?;
@@ -161,7 +161,7 @@ pub(crate) fn put_catch_line(
     ty: Desc<'_>,
     at: u32,
 ) -> Result<(), AllocError>
-    ensures ok { OnOk result (out.new.items ≡ out.old.items ++ keyed_text_in form (says.catch_line (desc ty.entry) at)) }
+    ensures ok { OnOk result (out.new.items ≡ out.old.items ++ keyed_text_in form (spec.catch_line (desc ty.entry) at)) }
 {
     put_first(out, Key::Catch)?;
     put_name(out, ty.text.units)?;
@@ -171,7 +171,7 @@ pub(crate) fn put_catch_line(
 
 /// Appends the line of a catch-all.
 pub(crate) fn put_catch_all_line(out: &mut Vec<u8>, form: Form, at: u32) -> Result<(), AllocError>
-    ensures ok { OnOk result (out.new.items ≡ out.old.items ++ keyed_text_in form (says.catch_all_line at)) }
+    ensures ok { OnOk result (out.new.items ≡ out.old.items ++ keyed_text_in form (spec.catch_all_line at)) }
 {
     put_first(out, Key::CatchAll)?;
     put_target(out, form, at)?;

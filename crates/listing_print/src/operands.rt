@@ -191,7 +191,7 @@ fn put_data(out: &mut Vec<u8>, width: u16, bytes: &[u8]) -> Result<(), AllocErro
     put_bytes(out, bytes)
 }
 
-/// Appends the operands of an instruction, in the order of its format. Each arm is one call: an answer that is looked into
+/// Appends the operands of an instruction, in the order of its format. Each arm is one call: a result that is matched on
 /// would take room, and time, for all others too.
 #[rattlefmt::skip]
 pub(crate) fn put_operands(out: &mut Vec<u8>, form: Form, one: &Insn<'_>) -> Result<(), AllocError>

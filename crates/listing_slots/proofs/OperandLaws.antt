@@ -49,14 +49,14 @@ data_push (x ∷ ds) d more = ap (λ t. datum x ∷ t) (data_push ds d more)
 
 -- ---- names: a word's units are decoded, and then read
 
-pub named_says : (s : Slot) (text us : List ℕ) (d : Datum) → is_name_slot s ≡ true → SpellsUnits text us → SpellsUnitsIn s us d → SpellsSlot s (plain_word text) d
-named_says slot.Member text us d e u h = (us, (text, us, refl, u, (h.0, refl)), h.1)
-named_says slot.Desc text us d e u h = (us, (text, us, refl, u, (h.0, refl)), h.1)
-named_says slot.Field text us d e u h = (h.0, (text, us, refl, u, h.1), h.2)
-named_says slot.Method text us d e u h = (h.0, (text, us, refl, u, h.1), h.2)
-named_says slot.Enum text us d e u h = (h.0, (text, us, refl, u, h.1), h.2)
-named_says slot.Proto text us d e u h = (h.0, (text, us, refl, u, h.1), h.2)
-named_says _ text us d e u h = absurd h
+pub named_reads : (s : Slot) (text us : List ℕ) (d : Datum) → is_name_slot s ≡ true → SpellsUnits text us → SpellsUnitsIn s us d → SpellsSlot s (plain_word text) d
+named_reads slot.Member text us d e u h = (us, (text, us, refl, u, (h.0, refl)), h.1)
+named_reads slot.Desc text us d e u h = (us, (text, us, refl, u, (h.0, refl)), h.1)
+named_reads slot.Field text us d e u h = (h.0, (text, us, refl, u, h.1), h.2)
+named_reads slot.Method text us d e u h = (h.0, (text, us, refl, u, h.1), h.2)
+named_reads slot.Enum text us d e u h = (h.0, (text, us, refl, u, h.1), h.2)
+named_reads slot.Proto text us d e u h = (h.0, (text, us, refl, u, h.1), h.2)
+named_reads _ text us d e u h = absurd h
 
 -- the units that are read are those of the word
 same_units : {V : Type 0} (G : List ℕ → V → Type 0) (text us : List ℕ) (v : V) → SpellsUnits text us → SpellsNamed G (plain_word text) v → G us v
@@ -80,10 +80,10 @@ undecoded_in {V} G text v none n =
     none n.1 (subst (λ (t : List ℕ). SpellsUnits t n.1) e n.3)
 
 -- the same of what a reader answers
-pub encoded_says : (s : Slot) (text us : List ℕ) (r : Result (Option Put) Fault) → is_name_slot s ≡ true → SpellsUnits text us → IfOk r (λ o. IfSome o (λ d. SpellsUnitsIn s us (datum d))) → IfOk r (λ o. IfSome o (λ d. SpellsSlot s (plain_word text) (datum d)))
-encoded_says s text us (Ok (Some d)) e u h = named_says s text us (datum d) e u h
-encoded_says s text us (Ok None) e u h = tt
-encoded_says s text us (Err f) e u h = tt
+pub encoded_reads : (s : Slot) (text us : List ℕ) (r : Result (Option Put) Fault) → is_name_slot s ≡ true → SpellsUnits text us → IfOk r (λ o. IfSome o (λ d. SpellsUnitsIn s us (datum d))) → IfOk r (λ o. IfSome o (λ d. SpellsSlot s (plain_word text) (datum d)))
+encoded_reads s text us (Ok (Some d)) e u h = named_reads s text us (datum d) e u h
+encoded_reads s text us (Ok None) e u h = tt
+encoded_reads s text us (Err f) e u h = tt
 
 pub encoded_none : (s : Slot) (text us : List ℕ) (r : Result (Option Put) Fault) → is_name_slot s ≡ true → SpellsUnits text us → IfOk r (λ o. IfNone o ((d : Datum) → SpellsUnitsIn s us d → ⊥)) → IfOk r (λ o. IfNone o ((d : Datum) → SpellsSlot s (plain_word text) d → ⊥))
 encoded_none s text us (Ok (Some d)) e u h = tt

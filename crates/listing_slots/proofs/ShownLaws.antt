@@ -20,7 +20,7 @@ use Rattle.listing_slots.specs.declared.slot.Mark.TheVariants as mark
 use Rattle.listing_slots.specs.declared.slot.Slot.{Slot}
 use Rattle.listing_slots.specs.declared.slot.Slot.TheVariants as slot
 use Rattle.listing_slots.specs.Keys.{key_text, same}
-use Rattle.listing_slots.specs.Data.{Datum, byte, half, word, wide, tiny, short, int, long, elements, named, constant, prototype, said}
+use Rattle.listing_slots.specs.Data.{Datum, byte, half, word, wide, tiny, short, int, long, elements, named, constant, prototype, key_word}
 use Rattle.listing_slots.specs.Slots.{mark_text, SpellsNumber, SpellsInteger, IsSignedWithin, SpellsSlot, SpellsSlots, has_form}
 use Rattle.listing_slots.specs.Shown.{shown}
 use Rattle.listing_slots.specs.inner.Shown.{FitsSlot}
@@ -43,28 +43,28 @@ signed_printed most (negsuc n) h k = record { digits = 45 ∷ decimal (suc n); j
 
 -- ---- what is printed says what was printed
 
-pub shown_says : (s : Slot) (d : Datum) → FitsSlot s d → SpellsSlot s (shown s d) d
-shown_says (slot.Byte m most) (byte n) h = (n, number_printed m most n h.0 h.1, refl)
-shown_says (slot.Half m most) (half n) h = (n, number_printed m most n h.0 h.1, refl)
-shown_says (slot.Word m most) (word n) h = (n, number_printed m most n h.0 h.1, refl)
-shown_says slot.Nibble (tiny z) h = (z, signed_printed 7 z h (omega arith), refl)
-shown_says slot.Tiny (tiny z) h = (z, signed_printed 127 z h (omega arith), refl)
-shown_says slot.Short (short z) h = (z, signed_printed 32767 z h (omega arith), refl)
-shown_says slot.Int (int z) h = (z, signed_printed 2147483647 z h (omega arith), refl)
-shown_says slot.Long (long z) h = (z, signed_printed 9223372036854775807 z h (omega arith), refl)
-shown_says slot.Flags (word n) h = (n, flags_printed n h, refl)
-shown_says slot.Float (word n) h = (n, (hex_digits 8 n, refl, bits_again 8 n h), refl)
-shown_says slot.Double (wide n) h = (n, (hex_digits 16 n, refl, bits_again 16 n h), refl)
-shown_says slot.Elements (elements bs) h = (bs, (elements_text bs, refl, elements_again bs h.1), refl)
-shown_says slot.Text (named (OfText us)) h = (us, refl, refl)
-shown_says slot.Member (named (OfText us)) h = (us, (name_text us, us, refl, name_again us h.1, (h.0, refl)), refl)
-shown_says slot.Desc (named (OfDesc d)) h = (d, (name_text d, d, refl, name_again d h.1, (h.0, refl)), refl)
-shown_says slot.Field (named (OfField f)) h = (f, (name_text (field_units f), field_units f, refl, name_again (field_units f) h.units, record { class = h.class; name = h.name; ty = h.ty; joined = refl }), refl)
-shown_says slot.Method (named (OfMethod m)) h = (m, (name_text (method_units m), method_units m, refl, name_again (method_units m) h.units, record { class = h.class; name = h.name; tail = proto_units m.proto; proto = record { params = h.params; ret = h.ret; joined = refl }; joined = refl }), refl)
-shown_says slot.Enum (constant f) h = (f, (name_text (field_units f), field_units f, refl, name_again (field_units f) h.units, record { class = h.class; name = h.name; ty = h.ty; joined = refl }), refl)
-shown_says slot.Proto (prototype p) h = (p, (name_text (proto_units p), proto_units p, refl, name_again (proto_units p) h.units, record { params = h.params; ret = h.ret; joined = refl }), refl)
-shown_says (slot.Key k) (said l) h = ap said (sym h)
-shown_says _ _ h = absurd h
+pub shown_reads : (s : Slot) (d : Datum) → FitsSlot s d → SpellsSlot s (shown s d) d
+shown_reads (slot.Byte m most) (byte n) h = (n, number_printed m most n h.0 h.1, refl)
+shown_reads (slot.Half m most) (half n) h = (n, number_printed m most n h.0 h.1, refl)
+shown_reads (slot.Word m most) (word n) h = (n, number_printed m most n h.0 h.1, refl)
+shown_reads slot.Nibble (tiny z) h = (z, signed_printed 7 z h (omega arith), refl)
+shown_reads slot.Tiny (tiny z) h = (z, signed_printed 127 z h (omega arith), refl)
+shown_reads slot.Short (short z) h = (z, signed_printed 32767 z h (omega arith), refl)
+shown_reads slot.Int (int z) h = (z, signed_printed 2147483647 z h (omega arith), refl)
+shown_reads slot.Long (long z) h = (z, signed_printed 9223372036854775807 z h (omega arith), refl)
+shown_reads slot.Flags (word n) h = (n, flags_printed n h, refl)
+shown_reads slot.Float (word n) h = (n, (hex_digits 8 n, refl, bits_again 8 n h), refl)
+shown_reads slot.Double (wide n) h = (n, (hex_digits 16 n, refl, bits_again 16 n h), refl)
+shown_reads slot.Elements (elements bs) h = (bs, (elements_text bs, refl, elements_again bs h.1), refl)
+shown_reads slot.Text (named (OfText us)) h = (us, refl, refl)
+shown_reads slot.Member (named (OfText us)) h = (us, (name_text us, us, refl, name_again us h.1, (h.0, refl)), refl)
+shown_reads slot.Desc (named (OfDesc d)) h = (d, (name_text d, d, refl, name_again d h.1, (h.0, refl)), refl)
+shown_reads slot.Field (named (OfField f)) h = (f, (name_text (field_units f), field_units f, refl, name_again (field_units f) h.units, record { class = h.class; name = h.name; ty = h.ty; joined = refl }), refl)
+shown_reads slot.Method (named (OfMethod m)) h = (m, (name_text (method_units m), method_units m, refl, name_again (method_units m) h.units, record { class = h.class; name = h.name; tail = proto_units m.proto; proto = record { params = h.params; ret = h.ret; joined = refl }; joined = refl }), refl)
+shown_reads slot.Enum (constant f) h = (f, (name_text (field_units f), field_units f, refl, name_again (field_units f) h.units, record { class = h.class; name = h.name; ty = h.ty; joined = refl }), refl)
+shown_reads slot.Proto (prototype p) h = (p, (name_text (proto_units p), proto_units p, refl, name_again (proto_units p) h.units, record { params = h.params; ret = h.ret; joined = refl }), refl)
+shown_reads (slot.Key k) (key_word l) h = ap key_word (sym h)
+shown_reads _ _ h = absurd h
 
 -- ---- it has the slot's form
 
@@ -93,7 +93,7 @@ shown_form slot.Field (named (OfField f)) h = refl
 shown_form slot.Method (named (OfMethod m)) h = refl
 shown_form slot.Enum (constant f) h = refl
 shown_form slot.Proto (prototype p) h = refl
-shown_form (slot.Key k) (said l) h = same_refl (key_text k)
+shown_form (slot.Key k) (key_word l) h = same_refl (key_text k)
 shown_form _ _ h = absurd h
 
 -- Each datum in its slot.
@@ -111,7 +111,7 @@ pub shown_spelled : (ss : List Slot) (ds : List Datum) → FitSlots ss ds → Sp
 shown_spelled [] [] h = tt
 shown_spelled [] (d ∷ ds) h = absurd h
 shown_spelled (s ∷ ss) [] h = absurd h
-shown_spelled (s ∷ ss) (d ∷ ds) h = (shown_says s d h.0, shown_spelled ss ds h.1)
+shown_spelled (s ∷ ss) (d ∷ ds) h = (shown_reads s d h.0, shown_spelled ss ds h.1)
 
 -- ---- it can be written
 
@@ -218,5 +218,5 @@ shown_written slot.Field (named (OfField f)) h = name_writable (field_units f) (
 shown_written slot.Method (named (OfMethod m)) h = name_writable (method_units m) (joined_some m.class (45 ∷ 62 ∷ (m.name ++ proto_units m.proto)) (omega arith))
 shown_written slot.Enum (constant f) h = name_writable (field_units f) (joined_some f.class (45 ∷ 62 ∷ (f.name ++ (58 ∷ f.ty))) (omega arith))
 shown_written slot.Proto (prototype p) h = name_writable (proto_units p) (omega arith)
-shown_written (slot.Key k) (said l) h = word_written (key_text k) (key_is_word k)
+shown_written (slot.Key k) (key_word l) h = word_written (key_text k) (key_is_word k)
 shown_written _ _ h = absurd h

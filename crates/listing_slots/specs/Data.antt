@@ -18,13 +18,13 @@ pub data Datum : Type 0 where
   named : Name → Datum
   constant : FieldRef → Datum
   prototype : Proto → Datum
-  said : Key → Datum
+  key_word : Key → Datum
 
 -- ---- the value of the word at a place; 0 or empty if it is of another kind
 
 -- The word at a place.
 abbrev pub at : List Datum → ℕ → Datum
-at ds i = get_or ds i (said Equals)
+at ds i = get_or ds i (key_word Equals)
 
 -- A number of 8 bits.
 unfoldable pub byte_of : Datum → ℕ

@@ -11,7 +11,7 @@ use Rattle.listing_slots.specs.declared.slot.Mark.TheVariants as mark
 use Rattle.listing_slots.specs.declared.slot.Slot.{Slot}
 use Rattle.listing_slots.specs.declared.slot.Slot.TheVariants as slot
 use Rattle.listing_slots.specs.Keys.{key_text, same}
-use Rattle.listing_slots.specs.Data.{Datum, byte, half, word, wide, tiny, short, int, long, elements, named, constant, prototype, said}
+use Rattle.listing_slots.specs.Data.{Datum, byte, half, word, wide, tiny, short, int, long, elements, named, constant, prototype, key_word}
 
 -- The mark before a number.
 abbrev pub mark_text : Mark → List ℕ
@@ -75,7 +75,7 @@ SpellsSlot slot.Field w d = (f : FieldRef) × SpellsNamed IsFieldText w f × (d 
 SpellsSlot slot.Method w d = (m : MethodRef) × SpellsNamed IsMethodText w m × (d ≡ named (OfMethod m))
 SpellsSlot slot.Enum w d = (f : FieldRef) × SpellsNamed IsFieldText w f × (d ≡ constant f)
 SpellsSlot slot.Proto w d = (p : Proto) × SpellsNamed IsProtoText w p × (d ≡ prototype p)
-SpellsSlot (slot.Key k) w d = d ≡ said k
+SpellsSlot (slot.Key k) w d = d ≡ key_word k
 
 -- Each word has this value in its slot.
 abbrev pub SpellsSlots : List Slot → List Word → List Datum → Type 0

@@ -26,7 +26,7 @@ pub enum Datum<'a> {
     Key(Key),
 }
 
-/// What the word at a place says: a keyword where there is no word.
+/// The value of the word at a place: a keyword if there is no word.
 pub fn datum_at<'a>(all: &[Datum<'a>], place: usize) -> Datum<'a>
     ensures { datum result ≡ at (map datum all.now) place }
 {
@@ -37,110 +37,110 @@ pub fn datum_at<'a>(all: &[Datum<'a>], place: usize) -> Datum<'a>
 }
 
 #[tactic(auto, unfolding(crate::specs::Data::byte_of))]
-pub fn byte_of(said: Datum<'_>) -> u8
-    ensures { result ≡ byte_of (datum said.entry) }
+pub fn byte_of(word_value: Datum<'_>) -> u8
+    ensures { result ≡ byte_of (datum word_value.entry) }
 {
-    match said {
+    match word_value {
         Datum::Byte(n) => n,
         _ => 0,
     }
 }
 
 #[tactic(auto, unfolding(crate::specs::Data::half_of))]
-pub fn half_of(said: Datum<'_>) -> u16
-    ensures { result ≡ half_of (datum said.entry) }
+pub fn half_of(word_value: Datum<'_>) -> u16
+    ensures { result ≡ half_of (datum word_value.entry) }
 {
-    match said {
+    match word_value {
         Datum::Half(n) => n,
         _ => 0,
     }
 }
 
 #[tactic(auto, unfolding(crate::specs::Data::word_of))]
-pub fn word_of(said: Datum<'_>) -> u32
-    ensures { result ≡ word_of (datum said.entry) }
+pub fn word_of(word_value: Datum<'_>) -> u32
+    ensures { result ≡ word_of (datum word_value.entry) }
 {
-    match said {
+    match word_value {
         Datum::Word(n) => n,
         _ => 0,
     }
 }
 
 #[tactic(auto, unfolding(crate::specs::Data::tiny_of))]
-pub fn tiny_of(said: Datum<'_>) -> i8
-    ensures { result ≡ tiny_of (datum said.entry) }
+pub fn tiny_of(word_value: Datum<'_>) -> i8
+    ensures { result ≡ tiny_of (datum word_value.entry) }
 {
-    match said {
+    match word_value {
         Datum::Tiny(n) => n,
         _ => 0,
     }
 }
 
 #[tactic(auto, unfolding(crate::specs::Data::short_of))]
-pub fn short_of(said: Datum<'_>) -> i16
-    ensures { result ≡ short_of (datum said.entry) }
+pub fn short_of(word_value: Datum<'_>) -> i16
+    ensures { result ≡ short_of (datum word_value.entry) }
 {
-    match said {
+    match word_value {
         Datum::Short(n) => n,
         _ => 0,
     }
 }
 
 #[tactic(auto, unfolding(crate::specs::Data::int_of))]
-pub fn int_of(said: Datum<'_>) -> i32
-    ensures { result ≡ int_of (datum said.entry) }
+pub fn int_of(word_value: Datum<'_>) -> i32
+    ensures { result ≡ int_of (datum word_value.entry) }
 {
-    match said {
+    match word_value {
         Datum::Int(n) => n,
         _ => 0,
     }
 }
 
 #[tactic(auto, unfolding(crate::specs::Data::long_of))]
-pub fn long_of(said: Datum<'_>) -> i64
-    ensures { result ≡ long_of (datum said.entry) }
+pub fn long_of(word_value: Datum<'_>) -> i64
+    ensures { result ≡ long_of (datum word_value.entry) }
 {
-    match said {
+    match word_value {
         Datum::Long(n) => n,
         _ => 0,
     }
 }
 
 #[tactic(auto, unfolding(crate::specs::Data::elements_of))]
-pub fn elements_of<'a>(said: Datum<'a>) -> &'a [u8]
-    ensures { result.now ≡ elements_of (datum said.entry) }
+pub fn elements_of<'a>(word_value: Datum<'a>) -> &'a [u8]
+    ensures { result.now ≡ elements_of (datum word_value.entry) }
 {
-    match said {
+    match word_value {
         Datum::Elements(bytes) => bytes,
         _ => &[],
     }
 }
 
 #[tactic(auto, unfolding(crate::specs::Data::name_of))]
-pub fn name_of<'a>(said: Datum<'a>) -> Name<'a>
-    ensures { name result ≡ name_of (datum said.entry) }
+pub fn name_of<'a>(word_value: Datum<'a>) -> Name<'a>
+    ensures { name result ≡ name_of (datum word_value.entry) }
 {
-    match said {
+    match word_value {
         Datum::Name(found) => found,
         _ => Name::Text(Str { units: &[] }),
     }
 }
 
 #[tactic(auto, unfolding(crate::specs::Data::text_of))]
-pub fn text_of<'a>(said: Datum<'a>) -> Str<'a>
-    ensures { str result ≡ text_of (datum said.entry) }
+pub fn text_of<'a>(word_value: Datum<'a>) -> Str<'a>
+    ensures { str result ≡ text_of (datum word_value.entry) }
 {
-    match said {
+    match word_value {
         Datum::Name(Name::Text(text)) => text,
         _ => Str { units: &[] },
     }
 }
 
 #[tactic(auto, unfolding(crate::specs::Data::type_of))]
-pub fn type_of<'a>(said: Datum<'a>) -> Desc<'a>
-    ensures { desc result ≡ type_of (datum said.entry) }
+pub fn type_of<'a>(word_value: Datum<'a>) -> Desc<'a>
+    ensures { desc result ≡ type_of (datum word_value.entry) }
 {
-    match said {
+    match word_value {
         Datum::Name(Name::Desc(ty)) => ty,
         _ => Desc {
             text: Str { units: &[] },
@@ -156,10 +156,10 @@ static NO_PROTO: Proto<'static> = Proto {
 };
 
 #[tactic(auto, unfolding(crate::specs::Data::proto_of))]
-pub fn proto_of<'a>(said: Datum<'a>) -> &'a Proto<'a>
-    ensures { proto result.now ≡ proto_of (datum said.entry) }
+pub fn proto_of<'a>(word_value: Datum<'a>) -> &'a Proto<'a>
+    ensures { proto result.now ≡ proto_of (datum word_value.entry) }
 {
-    match said {
+    match word_value {
         Datum::Proto(found) => found,
         _ => &NO_PROTO,
     }

@@ -7,7 +7,7 @@ ghost use Rattle.listing_slots.specs.Keys.{key_text};
 ghost use Rattle.listing_slots.specs.declared.key.Key.TheVariants as Key;
 ghost use Rattle.listing_slots.specs.declared.slot.Slot.TheVariants as Slot;
 ghost use Rattle.listing_slots.specs.Slots.{has_form, have_forms};
-ghost use Rattle.listing_slots.specs.Shapes as said;
+ghost use Rattle.listing_slots.specs.Shapes as spec;
 ghost use Rattle.listing_slots.specs.Shapes.{is_key, name_slot, before_close, format_slots};
 
 use crate::key::{Key, is_same, key_text};
@@ -75,7 +75,7 @@ pub fn name_slot(index: Option<IndexKind>) -> Slot
     }
 }
 
-/// How many words stand before the first `}`, five at most.
+/// The number of words before the first `}`, five at most.
 fn before_close(words: &[Word<'_, '_>]) -> usize
     ensures { result ≡ before_close 5 (map word words.now) }
 {
@@ -127,7 +127,7 @@ pub(crate) fn push_format(
     Ok(())
 }
 
-/// How many words stand between braces, five at most.
+/// The number of words between braces, five at most.
 fn registers_inside(words: &[Word<'_, '_>]) -> usize
     ensures { result ≡ before_close 5 (drop 1 (map word words.now)) }
 {
@@ -139,7 +139,7 @@ fn registers_inside(words: &[Word<'_, '_>]) -> usize
 }
 
 fn push_registers(slots: &mut Vec<Slot>, n: usize) -> Result<(), Fault>
-    ensures ok { OnOk result (slots.new.items ≡ slots.old.items ++ replicate n said.register4) }
+    ensures ok { OnOk result (slots.new.items ≡ slots.old.items ++ replicate n spec.register4) }
     ensures memory { IsOkUnless result memory }
 {
     for _turn in 0..n {
@@ -150,7 +150,7 @@ fn push_registers(slots: &mut Vec<Slot>, n: usize) -> Result<(), Fault>
 
 /// Registers in braces, and a name.
 fn push_braces(slots: &mut Vec<Slot>, name: Slot, words: &[Word<'_, '_>]) -> Result<(), Fault>
-    ensures ok { OnOk result (slots.new.items ≡ slots.old.items ++ (Slot.Key Key.Open ∷ (replicate (before_close 5 (drop 1 (map word words.now))) said.register4 ++ (Slot.Key Key.Close ∷ name ∷ [])))) }
+    ensures ok { OnOk result (slots.new.items ≡ slots.old.items ++ (Slot.Key Key.Open ∷ (replicate (before_close 5 (drop 1 (map word words.now))) spec.register4 ++ (Slot.Key Key.Close ∷ name ∷ [])))) }
     ensures memory { IsOkUnless result memory }
 {
     slots.push(Slot::Key(Key::Open))?;

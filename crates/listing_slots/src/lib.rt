@@ -11,7 +11,7 @@
 //! docs/MAP.md has this crate's place among the others.
 #![tactic(auto)]
 
-// Slots: what a word says there, how it is printed, and what holds of both.
+// Slots: the value of a word in each, how a value is printed, and the laws of both.
 mod datum;
 mod key;
 mod name_parts;
@@ -49,4 +49,4 @@ pub use shape::{read_bare_shape, read_shape};
 pub use shape_laws::{words_have_one_bare_shape, words_have_one_shape};
 pub use slot::{Mark, Slot};
 pub use spelled::Spelled;
-pub use word_laws::{printed_words_are_read_again, words_say_one_thing};
+pub use word_laws::{printed_words_are_read_again, words_have_one_value};

@@ -11,7 +11,7 @@ use indexmap::IndexSet;
 use program_types::{Desc, FieldRef, MethodRef, Proto, Str};
 use std::alloc::Global;
 
-/// The texts of names that stand in the arena, each once.
+/// The texts of names in the arena, each once.
 #[derive(Drop)]
 struct Texts<'a> {
     held: IndexSet<Str<'a>, Seed>,
@@ -57,7 +57,7 @@ impl<'a> Texts<'a> {
     }
 }
 
-/// The texts and the prototypes of names that stand in the arena, each once. Most names of a listing have parts of others: a
+/// The texts and the prototypes of names in the arena, each once. Most names of a listing have parts of others: a
 /// field or a method the class, the types, often the name. So a name is read aside, and what is stored of it are parts that
 /// are held; only a part that isn't is copied.
 #[derive(Drop)]

@@ -1,4 +1,4 @@
-//! From words and their slots to what the words say.
+//! From words and their slots to the values of the words.
 
 ghost use Rattle.std.specs.Prelude.{◌≡◌, true, ◌∷◌, [], map, length, IfOk, IfSome, IfNone, IsOkUnless};
 ghost use Rattle.dex_base.specs.Fault.{memory};
@@ -6,7 +6,7 @@ ghost use Rattle.listing_words.specs.Words.{plain_word, text_in_quotes};
 ghost use Rattle.listing_words.specs.inner.View.{word};
 ghost use Rattle.listing_slots.specs.Slots.{SpellsSlot, SpellsSlots, MisspellsSlots, is_name_slot, fault_of};
 ghost use Rattle.listing_slots.specs.inner.Slots.{SpellsUnitsIn, is_number_slot, is_signed_slot};
-ghost use Rattle.listing_slots.specs.Data.{Datum as Said};
+ghost use Rattle.listing_slots.specs.Data.{Datum as SpecDatum};
 ghost use Rattle.listing_slots.specs.inner.ValidNames.{IsValidDatum, StayValid};
 ghost use Rattle.listing_slots.specs.inner.View.{datum};
 
@@ -22,11 +22,11 @@ use listing_words::{
 };
 use program_types::{Desc, Name, Str};
 
-/// What a word without quotes says in a number's slot.
+/// The value of a word without quotes in a number's slot.
 fn read_plain(slot: Slot, text: &[u8]) -> Option<Datum<'static>>
     requires { is_number_slot slot ≡ true }
     ensures found { IfSome result (λ d. SpellsSlot slot (plain_word text.now) (datum d)) }
-    ensures none { IfNone result ((d : Said) → SpellsSlot slot (plain_word text.now) d → ⊥) }
+    ensures none { IfNone result ((d : SpecDatum) → SpellsSlot slot (plain_word text.now) d → ⊥) }
     ensures valid { IfSome result (λ d. IsValidDatum (datum d)) }
 {
     match slot {
@@ -40,11 +40,11 @@ fn read_plain(slot: Slot, text: &[u8]) -> Option<Datum<'static>>
     }
 }
 
-/// What a word without quotes says in the slot of a signed number.
+/// The value of a word without quotes in the slot of a signed number.
 fn read_whole(slot: Slot, text: &[u8]) -> Option<Datum<'static>>
     requires { is_signed_slot slot ≡ true }
     ensures found { IfSome result (λ d. SpellsSlot slot (plain_word text.now) (datum d)) }
-    ensures none { IfNone result ((d : Said) → SpellsSlot slot (plain_word text.now) d → ⊥) }
+    ensures none { IfNone result ((d : SpecDatum) → SpellsSlot slot (plain_word text.now) d → ⊥) }
     ensures valid { IfSome result (λ d. IsValidDatum (datum d)) }
 {
     match slot {
@@ -57,7 +57,7 @@ fn read_whole(slot: Slot, text: &[u8]) -> Option<Datum<'static>>
     }
 }
 
-/// What a word's units say in a name's slot, of parts that are held. The units stand aside, and what is read of them.
+/// The value of a word's units in a name's slot, of parts that are held. The units stand aside, and what is read of them.
 fn read_named<'a, 's>(
     parts: &mut NameParts<'a>,
     arena: &'a Bump,
@@ -67,7 +67,7 @@ fn read_named<'a, 's>(
 ) -> Result<Option<Datum<'a>>, Fault>
     requires { is_name_slot slot ≡ true }
     ensures found { IfOk result (λ r. IfSome r (λ d. SpellsUnitsIn slot units.now (datum d))) }
-    ensures none { IfOk result (λ r. IfNone r ((d : Said) → SpellsUnitsIn slot units.now d → ⊥)) }
+    ensures none { IfOk result (λ r. IfNone r ((d : SpecDatum) → SpellsUnitsIn slot units.now d → ⊥)) }
     ensures memory { IsOkUnless result memory }
 {
     match slot {
@@ -109,7 +109,7 @@ fn read_named<'a, 's>(
     }
 }
 
-/// Whether names stand in the slot.
+/// Whether the slot is one of names.
 fn is_name_slot(slot: Slot) -> bool
     ensures { result ≡ is_name_slot slot }
 {
@@ -119,7 +119,7 @@ fn is_name_slot(slot: Slot) -> bool
     )
 }
 
-/// Whether a number stands in the slot.
+/// Whether the slot is one of numbers.
 fn is_number_slot(slot: Slot) -> bool
     ensures { result ≡ is_number_slot slot }
 {
@@ -139,7 +139,7 @@ fn is_number_slot(slot: Slot) -> bool
     )
 }
 
-/// What a word without quotes says in a name's slot: it is decoded first, aside, and then read.
+/// The value of a word without quotes in a name's slot: it is decoded first, aside, and then read.
 pub(crate) fn read_encoded<'a>(
     parts: &mut NameParts<'a>,
     arena: &'a Bump,
@@ -149,7 +149,7 @@ pub(crate) fn read_encoded<'a>(
 ) -> Result<Option<Datum<'a>>, Fault>
     requires { is_name_slot slot ≡ true }
     ensures found { IfOk result (λ r. IfSome r (λ d. SpellsSlot slot (plain_word text.now) (datum d))) }
-    ensures none { IfOk result (λ r. IfNone r ((d : Said) → SpellsSlot slot (plain_word text.now) d → ⊥)) }
+    ensures none { IfOk result (λ r. IfNone r ((d : SpecDatum) → SpellsSlot slot (plain_word text.now) d → ⊥)) }
     ensures memory { IsOkUnless result memory }
 {
     match read_name(aside, text)? {
@@ -158,7 +158,7 @@ pub(crate) fn read_encoded<'a>(
     }
 }
 
-/// What a word without quotes says in the slot.
+/// The value of a word without quotes in the slot.
 fn read_unquoted<'a, 'b>(
     spelled: &mut Spelled<'a, 'b>,
     arena: &'a Bump,
@@ -166,7 +166,7 @@ fn read_unquoted<'a, 'b>(
     text: &'b [u8],
 ) -> Result<Option<Datum<'a>>, Fault>
     ensures found { IfOk result (λ r. IfSome r (λ d. SpellsSlot slot (plain_word text.now) (datum d))) }
-    ensures none { IfOk result (λ r. IfNone r ((d : Said) → SpellsSlot slot (plain_word text.now) d → ⊥)) }
+    ensures none { IfOk result (λ r. IfNone r ((d : SpecDatum) → SpellsSlot slot (plain_word text.now) d → ⊥)) }
     ensures valid { IfOk result (λ r. IfSome r (λ d. StayValid spelled.old spelled.new (datum d ∷ []))) }
     ensures same { IfOk result (λ r. IfNone r (spelled.new ≡ spelled.old)) }
     ensures memory { IsOkUnless result memory }
@@ -187,10 +187,10 @@ fn read_unquoted<'a, 'b>(
     }
 }
 
-/// What a text in quotes says in the slot.
+/// The value of a text in quotes in the slot.
 fn read_quoted<'a>(slot: Slot, units: &'a [u16]) -> Option<Datum<'a>>
     ensures found { IfSome result (λ d. SpellsSlot slot (text_in_quotes units.now) (datum d)) }
-    ensures none { IfNone result ((d : Said) → SpellsSlot slot (text_in_quotes units.now) d → ⊥) }
+    ensures none { IfNone result ((d : SpecDatum) → SpellsSlot slot (text_in_quotes units.now) d → ⊥) }
     ensures valid { IfSome result (λ d. IsValidDatum (datum d)) }
 {
     match slot {
@@ -200,7 +200,7 @@ fn read_quoted<'a>(slot: Slot, units: &'a [u16]) -> Option<Datum<'a>>
     }
 }
 
-/// What the word says in the slot: a name is read now, or was before.
+/// The value of the word in the slot: a name is read now, or was before.
 pub fn read_datum<'a, 'b>(
     spelled: &mut Spelled<'a, 'b>,
     arena: &'a Bump,
@@ -208,7 +208,7 @@ pub fn read_datum<'a, 'b>(
     one: Word<'a, 'b>,
 ) -> Result<Option<Datum<'a>>, Fault>
     ensures found { IfOk result (λ r. IfSome r (λ d. SpellsSlot slot (word one.entry) (datum d))) }
-    ensures none { IfOk result (λ r. IfNone r ((d : Said) → SpellsSlot slot (word one.entry) d → ⊥)) }
+    ensures none { IfOk result (λ r. IfNone r ((d : SpecDatum) → SpellsSlot slot (word one.entry) d → ⊥)) }
     ensures valid { IfOk result (λ r. IfSome r (λ d. StayValid spelled.old spelled.new (datum d ∷ []))) }
     ensures same { IfOk result (λ r. IfNone r (spelled.new ≡ spelled.old)) }
     ensures memory { IsOkUnless result memory }
@@ -219,7 +219,7 @@ pub fn read_datum<'a, 'b>(
     }
 }
 
-/// The fault of a word that says nothing in the slot.
+/// The fault of a word without a value in the slot.
 pub fn fault_of(slot: Slot) -> u16
     ensures { result ≡ fault_of slot }
 {
@@ -229,26 +229,26 @@ pub fn fault_of(slot: Slot) -> u16
     fault::LINE_NUMBER
 }
 
-/// What these words say in these slots; else the fault of the first that says nothing there.
+/// The values of these words in these slots; otherwise the fault of the first word without a value.
 pub fn read_operands<'a, 'b>(
     spelled: &mut Spelled<'a, 'b>,
     arena: &'a Bump,
     slots: &[Slot],
     words: &[Word<'a, 'b>],
-    says: &mut Vec<Datum<'a>>,
+    word_values: &mut Vec<Datum<'a>>,
 ) -> Result<Option<u16>, Fault>
     requires { length slots.now ≡ length words.now }
-    ensures all { IfOk result (λ r. IfNone r (SpellsSlots slots.now (map word words.now) (map datum says.new.items))) }
+    ensures all { IfOk result (λ r. IfNone r (SpellsSlots slots.now (map word words.now) (map datum word_values.new.items))) }
     ensures bad { IfOk result (λ r. IfSome r (λ code. MisspellsSlots slots.now (map word words.now) code)) }
-    ensures valid { IfOk result (λ r. IfNone r (StayValid spelled.old spelled.new (map datum says.new.items))) }
+    ensures valid { IfOk result (λ r. IfNone r (StayValid spelled.old spelled.new (map datum word_values.new.items))) }
     ensures memory { IsOkUnless result memory }
 {
-    says.clear();
+    word_values.clear();
     for i in 0..slots.len() {
-        let Some(said) = read_datum(spelled, arena, slots[i], words[i])? else {
+        let Some(word_value) = read_datum(spelled, arena, slots[i], words[i])? else {
             return Ok(Some(fault_of(slots[i])));
         };
-        says.push(said)?;
+        word_values.push(word_value)?;
     }
     Ok(None)
 }

@@ -194,7 +194,7 @@ fn push_insn(
     }
 }
 
-/// What stands before the last `:`, if that is the last byte.
+/// The text before the last `:`, if that is the last byte.
 fn label_of(text: &[u8]) -> Option<&[u8]>
     ensures found { IfSome result (λ label. text.now ≡ label.now ++ (58 ∷ [])) }
     ensures none { IfNone result ((label : List ℕ) → text.now ≡ label ++ (58 ∷ []) → ⊥) }
@@ -245,7 +245,7 @@ fn read_labelled(after: &[Word<'_, '_>], slots: &mut Vec<Slot>) -> Result<Option
     Ok(None)
 }
 
-/// A line of this kind, if it is one, with what stands before its slots.
+/// A line of this kind, if it is one, with what is before its slots.
 fn found(kind: Option<Kind>, label: &[u8], lead: usize) -> Option<Found<'_>>
     ensures { result ≡ option_map (λ k. record { kind = k; label = label.entry; lead = lead }) kind }
 {

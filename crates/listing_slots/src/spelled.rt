@@ -4,7 +4,7 @@ ghost use Rattle.std.specs.Prelude.{◌≡◌, ◌↔◌, ◌∷◌, [], true, I
 ghost use Rattle.dex_base.specs.Fault.{memory};
 ghost use Rattle.listing_words.specs.Words.{plain_word};
 ghost use Rattle.listing_slots.specs.Slots.{SpellsSlot, is_name_slot};
-ghost use Rattle.listing_slots.specs.Data.{Datum as Said};
+ghost use Rattle.listing_slots.specs.Data.{Datum as SpecDatum};
 ghost use Rattle.listing_slots.specs.inner.ValidNames.{IsValidDatum, StayValid};
 ghost use Rattle.listing_slots.specs.inner.View.{datum};
 
@@ -29,7 +29,7 @@ struct Spelling<'a, 'b> {
     name: Datum<'a>,
 }
 
-/// Words that spelled names, with their names: a word that stands in its bucket isn't read again, nor its name stored again.
+/// Words that spelled names, with their names: a word that is in its bucket is not read again, nor its name stored again.
 ///
 /// Each word has one bucket, by its bytes, and takes it from the word that was there. So a word is compared with one other,
 /// whatever the listing, and the buckets take the memory that they took at first. Whether a file can have a name is asked
@@ -56,7 +56,7 @@ impl<'a, 'b> Model for Spelled<'a, 'b> {
     ghost invariant = { λ s. AreSpelled s.valid s.buckets.items };
 }
 
-/// Whether both are the same slot, one in which names stand.
+/// Whether both are the same slot, one of names.
 fn is_same_slot(a: Slot, b: Slot) -> bool
     ensures { IsTrue result → a ≡ b }
 {
@@ -82,10 +82,10 @@ fn bucket_of(text: &[u8], buckets: usize) -> usize {
 }
 
 /// Whether a file can have what a word names.
-fn is_valid_datum(said: Datum<'_>) -> bool
-    ensures { IsTrue result ↔ IsValidDatum (datum said.entry) }
+fn is_valid_datum(word_value: Datum<'_>) -> bool
+    ensures { IsTrue result ↔ IsValidDatum (datum word_value.entry) }
 {
-    match said {
+    match word_value {
         Datum::Name(name) => is_valid_name(name),
         Datum::Enum(field) => is_valid_name(Name::Field(field)),
         _ => true,
@@ -108,16 +108,16 @@ impl<'a, 'b> Spelled<'a, 'b> {
         })
     }
 
-    /// Whether a file can have all names that words said.
+    /// Whether a file can have all names that were read.
     pub fn is_valid(&self) -> bool
         ensures { result ≡ self.now.valid }
     {
         self.valid
     }
 
-    /// What a word said in a slot, if the two are those in this bucket.
+    /// The value of a word in a slot, if the two are those in this bucket.
     fn find(&self, at: usize, slot: Slot, text: &[u8]) -> Option<Datum<'a>>
-        ensures said { IfSome result (λ d. SpellsSlot slot (plain_word text.now) (datum d)) }
+        ensures word_value { IfSome result (λ d. SpellsSlot slot (plain_word text.now) (datum d)) }
         ensures valid { IfSome result (λ d. IsTrue self.now.valid → IsValidDatum (datum d)) }
     {
         if at >= self.buckets.len() {
@@ -130,9 +130,9 @@ impl<'a, 'b> Spelled<'a, 'b> {
         None
     }
 
-    /// Puts a word into a bucket, where it says this in the slot.
+    /// Puts a word into a bucket with its value in the slot.
     fn keep(&mut self, at: usize, slot: Slot, text: &'b [u8], name: Datum<'a>)
-        requires said { SpellsSlot slot (plain_word text.now) (datum name) }
+        requires word_value { SpellsSlot slot (plain_word text.now) (datum name) }
         requires valid { IsTrue self.old.valid → IsValidDatum (datum name) }
         ensures { self.new ≡ self.old }
     {
@@ -150,7 +150,7 @@ impl<'a, 'b> Spelled<'a, 'b> {
         }
     }
 
-    /// What a word without quotes says in a name's slot, read anew.
+    /// The value of a word without quotes in a name's slot, read again.
     fn read_anew(
         &mut self,
         arena: &'a Bump,
@@ -159,17 +159,17 @@ impl<'a, 'b> Spelled<'a, 'b> {
     ) -> Result<Option<Datum<'a>>, Fault>
         requires { is_name_slot slot ≡ true }
         ensures found { IfOk result (λ r. IfSome r (λ d. SpellsSlot slot (plain_word text.now) (datum d))) }
-        ensures none { IfOk result (λ r. IfNone r ((d : Said) → SpellsSlot slot (plain_word text.now) d → ⊥)) }
+        ensures none { IfOk result (λ r. IfNone r ((d : SpecDatum) → SpellsSlot slot (plain_word text.now) d → ⊥)) }
         ensures same { self.new ≡ self.old }
         ensures memory { IsOkUnless result memory }
     {
-        let said = read_encoded(&mut self.parts, arena, &self.aside, slot, text);
+        let word_value = read_encoded(&mut self.parts, arena, &self.aside, slot, text);
         // (it fails only while a block of the room is lent, and none is)
         let _ = self.aside.reset();
-        said
+        word_value
     }
 
-    /// What a word without quotes says in a name's slot.
+    /// The value of a word without quotes in a name's slot.
     pub(crate) fn read(
         &mut self,
         arena: &'a Bump,
@@ -178,7 +178,7 @@ impl<'a, 'b> Spelled<'a, 'b> {
     ) -> Result<Option<Datum<'a>>, Fault>
         requires { is_name_slot slot ≡ true }
         ensures found { IfOk result (λ r. IfSome r (λ d. SpellsSlot slot (plain_word text.now) (datum d))) }
-        ensures none { IfOk result (λ r. IfNone r ((d : Said) → SpellsSlot slot (plain_word text.now) d → ⊥)) }
+        ensures none { IfOk result (λ r. IfNone r ((d : SpecDatum) → SpellsSlot slot (plain_word text.now) d → ⊥)) }
         ensures valid { IfOk result (λ r. IfSome r (λ d. StayValid self.old self.new (datum d ∷ []))) }
         ensures same { IfOk result (λ r. IfNone r (self.new ≡ self.old)) }
         ensures memory { IsOkUnless result memory }

@@ -3,7 +3,7 @@
 ghost use Rattle.std.specs.Prelude.{◌≡◌, ◌≤◌, ◌+◌, ◌^◌, ◌<◌, Some, None, map, option_map, IfOk, IsOkUnless, ◌++◌, MatchBool};
 ghost use Rattle.dex_base.specs.Fault.{memory};
 ghost use Rattle.listing_words.specs.inner.View.{word};
-ghost use Rattle.listing_slots.specs.Shapes as said;
+ghost use Rattle.listing_slots.specs.Shapes as spec;
 ghost use Rattle.listing_slots.specs.Shapes.{value_slots};
 ghost use Rattle.listing_slots.specs.inner.Shapes.{depth_of};
 
@@ -15,7 +15,7 @@ use listing_words::Word;
 
 /// After a whole value in so many arrays.
 fn due_after(inside: usize) -> Due
-    ensures due { result ≡ said.due_after inside }
+    ensures due { result ≡ spec.due_after inside }
     ensures depth { depth_of result ≤ inside }
 {
     if inside == 0 {
@@ -28,7 +28,7 @@ fn due_after(inside: usize) -> Due
 #[rattlefmt::skip]
 fn due_of_key(inside: usize, key: Key) -> Due
     requires { inside + 1 < 2 ^ 64 }
-    ensures due { result ≡ said.due_of_key inside key }
+    ensures due { result ≡ spec.due_of_key inside key }
     ensures depth { depth_of result ≤ inside + 1 }
 {
     match key {
@@ -51,7 +51,7 @@ fn due_of_key(inside: usize, key: Key) -> Due
 
 /// After `}`.
 fn due_after_close(inside: usize) -> Due
-    ensures due { result ≡ said.due_after_close inside }
+    ensures due { result ≡ spec.due_after_close inside }
     ensures depth { depth_of result ≤ inside }
 {
     if inside == 0 {
@@ -64,8 +64,8 @@ fn due_after_close(inside: usize) -> Due
 #[tactic(auto, unfolding(crate::specs::Shapes::slot_at, crate::specs::Shapes::due_after_word))]
 fn next_due(due: Due, one: Word<'_, '_>) -> (Slot, Due)
     requires { depth_of due + 1 < 2 ^ 64 }
-    ensures slot { result.0 ≡ said.slot_at due (word one.entry) }
-    ensures due { result.1 ≡ said.due_after_word due (word one.entry) }
+    ensures slot { result.0 ≡ spec.slot_at due (word one.entry) }
+    ensures due { result.1 ≡ spec.due_after_word due (word one.entry) }
     ensures depth { depth_of result.1 ≤ depth_of due + 1 }
 {
     match (due, one) {
@@ -84,7 +84,7 @@ fn next_due(due: Due, one: Word<'_, '_>) -> (Slot, Due)
 }
 
 fn is_whole(due: Due) -> bool
-    ensures { result ≡ said.is_whole due }
+    ensures { result ≡ spec.is_whole due }
 {
     matches!(due, Due::Nothing)
 }

@@ -7,15 +7,15 @@ use Rattle.program_types.specs.Depth.{depth, greatest_depth}
 use Rattle.program_types.specs.View.{value}
 use Rattle.program_types.specs.declared.value.Value.{Value as Held}
 use Rattle.program_types.proofs.Nesting.{from, from_next, value_less}
-use Rattle.program_rules.specs.inner.Nested.{IsGood, AreGood, IsWalked, IsLook, IsSoFar}
+use Rattle.program_rules.specs.inner.Nested.{IsGood, AreGood, IsWalked, IsProgress, IsSoFar}
 use Rattle.program_rules.specs.declared.nested.Walked.{Walked}
 use Rattle.program_rules.specs.declared.nested.Walked.TheVariants as walked
-use Rattle.program_rules.specs.declared.nested.Look.{Look}
-use Rattle.program_rules.specs.declared.nested.Look.TheVariants as look
+use Rattle.program_rules.specs.declared.nested.Progress.{Progress}
+use Rattle.program_rules.specs.declared.nested.Progress.TheVariants as progress
 
 -- how deep what is left is
-abbrev pub rest_of : Look → ℕ
-rest_of (look.One left) = depth (value left.now) + 1
+abbrev pub rest_of : Progress → ℕ
+rest_of (progress.One left) = depth (value left.now) + 1
 rest_of _ = 0
 
 pub good-at : (xs : List Held) (i : ℕ) (d : Held) → i < length xs → AreGood (from xs 0) → IsGood (value (get_or xs i d))
@@ -32,10 +32,10 @@ one-left xs i d left l h k m =
     ((λ a. let p = g.0 a in (k.0 p.0, p.1), λ p. g.1 (k.1 p.0, p.1)), omega arith)
 
 -- one after the other: what is left of what is left
-pub look-deeper : (v w : content.Value) (k : Look) → IsGood v ↔ IsGood w → depth w < depth v → IsLook w k → IsLook v k
-look-deeper v w look.Valid g l h = g.1 h
-look-deeper v w look.Invalid g l h = λ a. h (g.0 a)
-look-deeper v w _ g l h = ((λ a. h.0.0 (g.0 a), λ b. g.1 (h.0.1 b)), omega arith)
+pub progress-deeper : (v w : content.Value) (k : Progress) → IsGood v ↔ IsGood w → depth w < depth v → IsProgress w k → IsProgress v k
+progress-deeper v w progress.Valid g l h = g.1 h
+progress-deeper v w progress.Invalid g l h = λ a. h (g.0 a)
+progress-deeper v w _ g l h = ((λ a. h.0.0 (g.0 a), λ b. g.1 (h.0.1 b)), omega arith)
 
 pub walked-deeper : (v w : content.Value) (k : Walked) → IsGood v ↔ IsGood w → depth w ≤ depth v → IsWalked w k → IsWalked v k
 walked-deeper v w walked.Valid g l h = g.1 h
@@ -43,8 +43,8 @@ walked-deeper v w walked.Invalid g l h = λ a. h (g.0 a)
 walked-deeper v w (walked.Left left) g l h = ((λ a. h.0.0 (g.0 a), λ b. g.1 (h.0.1 b)), omega arith)
 
 -- all values of an array are looked at
-pub look-whole : (v : content.Value) (xs : List Held) (i : ℕ) (k : Look) → v ≡ Array (values (map value xs)) → length xs ≤ i → IsSoFar v xs i k → IsLook v k
-look-whole v xs i k e l s = subst (λ (w : content.Value). IsLook w k) (sym e) (whole k (subst (λ (w : content.Value). IsSoFar w xs i k) e s))
+pub progress-whole : (v : content.Value) (xs : List Held) (i : ℕ) (k : Progress) → v ≡ Array (values (map value xs)) → length xs ≤ i → IsSoFar v xs i k → IsProgress v k
+progress-whole v xs i k e l s = subst (λ (w : content.Value). IsProgress w k) (sym e) (whole k (subst (λ (w : content.Value). IsSoFar w xs i k) e s))
   where
     none : AreGood (from xs i)
     none = rw (past xs i l) tt
@@ -55,8 +55,8 @@ look-whole v xs i k e l s = subst (λ (w : content.Value). IsLook w k) (sym e) (
         past (y ∷ ys) zero m = absurd (omega arith)
         past (y ∷ ys) (suc j) m = past ys j (omega arith)
 
-    whole : (k : Look) → IsSoFar (Array (values (map value xs))) xs i k → IsLook (Array (values (map value xs))) k
-    whole look.Valid s = s.1 none
-    whole look.Invalid s = s
-    whole (look.One left) s = ((λ a. (s.0.0 a).0, λ g. s.0.1 (g, none)), omega arith)
-    whole (look.Many left) s = rw s ((λ a. a, λ a. a), omega arith)
+    whole : (k : Progress) → IsSoFar (Array (values (map value xs))) xs i k → IsProgress (Array (values (map value xs))) k
+    whole progress.Valid s = s.1 none
+    whole progress.Invalid s = s
+    whole (progress.One left) s = ((λ a. (s.0.0 a).0, λ g. s.0.1 (g, none)), omega arith)
+    whole (progress.Many left) s = rw s ((λ a. a, λ a. a), omega arith)

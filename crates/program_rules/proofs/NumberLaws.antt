@@ -82,8 +82,8 @@ last-before p i k t h none = elim (cases_lt k i) [
 ]
 
 -- what was looked up says whether none is from number i on
-pub looked-up : (p : Program) (i : ℕ) (t : Descriptor) (k : ℕ) (held : Option ℕ) → MatchOption held (NoneWithin (types p) (length p) t) (IsLastWithin (types p) (length p) t) → Some k ≡ held → (k < i) ↔ NoneFrom p i t
-looked-up p i t k held h e = let last = subst (λ (o : Option ℕ). MatchOption o (NoneWithin (types p) (length p) t) (IsLastWithin (types p) (length p) t)) (sym e) h in (none-after p i k t last, last-before p i k t last)
+pub examined-up : (p : Program) (i : ℕ) (t : Descriptor) (k : ℕ) (held : Option ℕ) → MatchOption held (NoneWithin (types p) (length p) t) (IsLastWithin (types p) (length p) t) → Some k ≡ held → (k < i) ↔ NoneFrom p i t
+examined-up p i t k held h e = let last = subst (λ (o : Option ℕ). MatchOption o (NoneWithin (types p) (length p) t) (IsLastWithin (types p) (length p) t)) (sym e) h in (none-after p i k t last, last-before p i k t last)
 
 pub not-found : (p : Program) (i : ℕ) (t : Descriptor) (held : Option ℕ) → MatchOption held (NoneWithin (types p) (length p) t) (IsLastWithin (types p) (length p) t) → None ≡ held → NoneFrom p i t
 not-found p i t held h e = none-from p i t (subst (λ (o : Option ℕ). MatchOption o (NoneWithin (types p) (length p) t) (IsLastWithin (types p) (length p) t)) (sym e) h)

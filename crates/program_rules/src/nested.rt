@@ -10,7 +10,7 @@ ghost use Rattle.program_types.specs.Content.{Array, values};
 ghost use Rattle.program_types.specs.View.{value};
 ghost use Rattle.program_types.specs.Mentions.{NamesHold};
 ghost use Rattle.program_rules.specs.Valid.{IsValidName};
-ghost use Rattle.program_rules.specs.inner.Nested.{IsWalked, IsLook, IsSoFar};
+ghost use Rattle.program_rules.specs.inner.Nested.{IsWalked, IsProgress, IsSoFar};
 
 use crate::values::value_is_valid;
 use program_types::Value;
@@ -28,7 +28,7 @@ enum Walked<'v, 'a> {
 
 /// What is known of the names in an array, value by value.
 #[derive(Clone, Copy)]
-enum Look<'v, 'a> {
+enum Progress<'v, 'a> {
     /// A file can have all of them.
     Valid,
     /// There is one that it can't have.
@@ -40,15 +40,19 @@ enum Look<'v, 'a> {
 }
 
 /// What is known of an array after one value more in it.
-fn joined<'v, 'a>(array: &'v Value<'a>, so_far: Look<'v, 'a>, next: Walked<'v, 'a>) -> Look<'v, 'a>
+fn joined<'v, 'a>(
+    array: &'v Value<'a>,
+    so_far: Progress<'v, 'a>,
+    next: Walked<'v, 'a>,
+) -> Progress<'v, 'a>
     ensures { (xs : List Held) (i : ℕ) (one : Held) → i < length xs → value array.now ≡ Array (values (map value xs)) → IsSoFar (value array.now) xs i so_far.entry → IsWalked (value (slice_index_or xs i one)) next.entry → IsSoFar (value array.now) xs (i + 1) result }
 {
     match next {
         Walked::Valid => so_far,
-        Walked::Invalid => Look::Invalid,
+        Walked::Invalid => Progress::Invalid,
         Walked::Left(inner) => match so_far {
-            Look::Valid => Look::One(inner),
-            Look::One(_) => Look::Many(array),
+            Progress::Valid => Progress::One(inner),
+            Progress::One(_) => Progress::Many(array),
             known => known,
         },
     }
@@ -75,11 +79,15 @@ fn step<'v, 'a>(one: &'v Value<'a>, levels: u32) -> Walked<'v, 'a>
 
 /// The values in an array.
 #[cycle(walk)]
-fn look_into<'v, 'a>(array: &'v Value<'a>, all: &'v [Value<'a>], levels: u32) -> Look<'v, 'a>
+fn examine_array<'v, 'a>(
+    array: &'v Value<'a>,
+    all: &'v [Value<'a>],
+    levels: u32,
+) -> Progress<'v, 'a>
     requires array { value array.now ≡ Array (values (map value all.now)) }
-    ensures { IsLook (value array.now) result }
+    ensures { IsProgress (value array.now) result }
 {
-    let mut so_far = Look::Valid;
+    let mut so_far = Progress::Valid;
     for each in all {
         so_far = joined(array, so_far, step(each, levels));
     }
@@ -88,16 +96,16 @@ fn look_into<'v, 'a>(array: &'v Value<'a>, all: &'v [Value<'a>], levels: u32) ->
 
 /// A value, and if it is an array the values in it.
 #[cycle(walk)]
-fn look_at<'v, 'a>(one: &'v Value<'a>, levels: u32) -> Look<'v, 'a>
-    ensures { IsLook (value one.now) result }
+fn examine<'v, 'a>(one: &'v Value<'a>, levels: u32) -> Progress<'v, 'a>
+    ensures { IsProgress (value one.now) result }
 {
     match one {
-        Value::Array(all) => look_into(one, *all, levels),
+        Value::Array(all) => examine_array(one, *all, levels),
         _ => {
             if value_is_valid(one) {
-                return Look::Valid;
+                return Progress::Valid;
             }
-            Look::Invalid
+            Progress::Invalid
         }
     }
 }
@@ -107,14 +115,14 @@ fn look_at<'v, 'a>(one: &'v Value<'a>, levels: u32) -> Look<'v, 'a>
 fn walk<'v, 'a>(root: &'v Value<'a>, levels: u32) -> Walked<'v, 'a>
     ensures { IsWalked (value root.now) result }
 {
-    let mut seen = look_at(root, levels);
-    while let Look::One(inner) = seen {
-        seen = look_at(inner, levels);
+    let mut seen = examine(root, levels);
+    while let Progress::One(inner) = seen {
+        seen = examine(inner, levels);
     }
     match seen {
-        Look::Valid => Walked::Valid,
-        Look::Invalid => Walked::Invalid,
-        Look::One(left) | Look::Many(left) => Walked::Left(left),
+        Progress::Valid => Walked::Valid,
+        Progress::Invalid => Walked::Invalid,
+        Progress::One(left) | Progress::Many(left) => Walked::Left(left),
     }
 }
 

@@ -30,7 +30,7 @@ enum Text {
 
 /// What is told of a text.
 #[derive(Clone, Copy)]
-enum Asked {
+enum Query {
     // whether it is a descriptor, whether it is one of a class, whether it is one of an array
     Kinds(bool, bool, bool),
     // the length of the descriptor at its front
@@ -38,16 +38,16 @@ enum Asked {
 }
 
 /// A name for the case, the text, and what is told of it.
-struct Told(&'static str, Text, Asked);
+struct NamedCase(&'static str, Text, Query);
 
-impl Case for Told {
+impl Case for NamedCase {
     fn name(&self) -> &'static str {
         self.0
     }
 
     fn holds(&self, alloc: Global) -> Result<bool, Fault> {
         let units = units_of(alloc, self.1)?;
-        Ok(is_told_so(&units, self.2))
+        Ok(is_so_for(&units, self.2))
     }
 }
 
@@ -58,59 +58,59 @@ fn units_of(alloc: Global, text: Text) -> Result<Vec<u16>, Fault> {
     }
 }
 
-fn is_told_so(units: &[u16], asked: Asked) -> bool {
-    match asked {
-        Asked::Kinds(any, class, array) => {
+fn is_so_for(units: &[u16], query: Query) -> bool {
+    match query {
+        Query::Kinds(any, class, array) => {
             is_descriptor(units) == any && is_class(units) == class && is_array(units) == array
         }
-        Asked::Length(length) => descriptor_length(units) == length,
+        Query::Length(length) => descriptor_length(units) == length,
     }
 }
 
 #[rattlefmt::skip]
 #[test]
-fn descriptors_of_classes_and_arrays_are_told_and_measured(rt: HostRuntime) -> Result<(), Fail> {
-    static CASES: [Told; 39] = [
-        Told("[V", Text::Ascii("[V"), Asked::Kinds(false, false, false)),
-        Told("LA", Text::Ascii("LA"), Asked::Kinds(false, false, false)),
-        Told("L", Text::Ascii("L"), Asked::Kinds(false, false, false)),
-        Told("L;", Text::Ascii("L;"), Asked::Kinds(false, false, false)),
-        Told("LA//B;", Text::Ascii("LA//B;"), Asked::Kinds(false, false, false)),
-        Told("V", Text::Ascii("V"), Asked::Kinds(true, false, false)),
-        Told("I", Text::Ascii("I"), Asked::Kinds(true, false, false)),
-        Told("[[J", Text::Ascii("[[J"), Asked::Kinds(true, false, true)),
-        Told("[I", Text::Ascii("[I"), Asked::Kinds(true, false, true)),
-        Told("LA;", Text::Ascii("LA;"), Asked::Kinds(true, true, false)),
-        Told("LA-B/C;", Text::Ascii("LA-B/C;"), Asked::Kinds(true, true, false)),
-        Told("Ljava/lang/Object;", Text::Ascii("Ljava/lang/Object;"), Asked::Kinds(true, true, false)),
-        Told("", Text::Ascii(""), Asked::Kinds(false, false, false)),
-        Told("[", Text::Ascii("["), Asked::Kinds(false, false, false)),
-        Told("VV", Text::Ascii("VV"), Asked::Kinds(false, false, false)),
-        Told("II", Text::Ascii("II"), Asked::Kinds(false, false, false)),
-        Told("X", Text::Ascii("X"), Asked::Kinds(false, false, false)),
-        Told("L/A;", Text::Ascii("L/A;"), Asked::Kinds(false, false, false)),
-        Told("LA/;", Text::Ascii("LA/;"), Asked::Kinds(false, false, false)),
-        Told("LA;;", Text::Ascii("LA;;"), Asked::Kinds(false, false, false)),
-        Told("LA;I", Text::Ascii("LA;I"), Asked::Kinds(false, false, false)),
-        Told("L<init>;", Text::Ascii("L<init>;"), Asked::Kinds(false, false, false)),
-        Told("[[LA;", Text::Ascii("[[LA;"), Asked::Kinds(true, false, true)),
-        Told("Z", Text::Ascii("Z"), Asked::Kinds(true, false, false)),
-        Told("D", Text::Ascii("D"), Asked::Kinds(true, false, false)),
-        Told("[LA;", Text::Ascii("[LA;"), Asked::Kinds(true, false, true)),
-        Told("255 dimensions", Text::Ints(255), Asked::Kinds(true, false, true)),
-        Told("256 dimensions", Text::Ints(256), Asked::Kinds(false, false, false)),
+fn descriptors_of_classes_and_arrays_are_recognized_and_measured(rt: HostRuntime) -> Result<(), Fail> {
+    static CASES: [NamedCase; 39] = [
+        NamedCase("[V", Text::Ascii("[V"), Query::Kinds(false, false, false)),
+        NamedCase("LA", Text::Ascii("LA"), Query::Kinds(false, false, false)),
+        NamedCase("L", Text::Ascii("L"), Query::Kinds(false, false, false)),
+        NamedCase("L;", Text::Ascii("L;"), Query::Kinds(false, false, false)),
+        NamedCase("LA//B;", Text::Ascii("LA//B;"), Query::Kinds(false, false, false)),
+        NamedCase("V", Text::Ascii("V"), Query::Kinds(true, false, false)),
+        NamedCase("I", Text::Ascii("I"), Query::Kinds(true, false, false)),
+        NamedCase("[[J", Text::Ascii("[[J"), Query::Kinds(true, false, true)),
+        NamedCase("[I", Text::Ascii("[I"), Query::Kinds(true, false, true)),
+        NamedCase("LA;", Text::Ascii("LA;"), Query::Kinds(true, true, false)),
+        NamedCase("LA-B/C;", Text::Ascii("LA-B/C;"), Query::Kinds(true, true, false)),
+        NamedCase("Ljava/lang/Object;", Text::Ascii("Ljava/lang/Object;"), Query::Kinds(true, true, false)),
+        NamedCase("", Text::Ascii(""), Query::Kinds(false, false, false)),
+        NamedCase("[", Text::Ascii("["), Query::Kinds(false, false, false)),
+        NamedCase("VV", Text::Ascii("VV"), Query::Kinds(false, false, false)),
+        NamedCase("II", Text::Ascii("II"), Query::Kinds(false, false, false)),
+        NamedCase("X", Text::Ascii("X"), Query::Kinds(false, false, false)),
+        NamedCase("L/A;", Text::Ascii("L/A;"), Query::Kinds(false, false, false)),
+        NamedCase("LA/;", Text::Ascii("LA/;"), Query::Kinds(false, false, false)),
+        NamedCase("LA;;", Text::Ascii("LA;;"), Query::Kinds(false, false, false)),
+        NamedCase("LA;I", Text::Ascii("LA;I"), Query::Kinds(false, false, false)),
+        NamedCase("L<init>;", Text::Ascii("L<init>;"), Query::Kinds(false, false, false)),
+        NamedCase("[[LA;", Text::Ascii("[[LA;"), Query::Kinds(true, false, true)),
+        NamedCase("Z", Text::Ascii("Z"), Query::Kinds(true, false, false)),
+        NamedCase("D", Text::Ascii("D"), Query::Kinds(true, false, false)),
+        NamedCase("[LA;", Text::Ascii("[LA;"), Query::Kinds(true, false, true)),
+        NamedCase("255 dimensions", Text::Ints(255), Query::Kinds(true, false, true)),
+        NamedCase("256 dimensions", Text::Ints(256), Query::Kinds(false, false, false)),
         // The length of the descriptor at the front.
-        Told("the front of V", Text::Ascii("V"), Asked::Length(Some(1))),
-        Told("the front of VI", Text::Ascii("VI"), Asked::Length(Some(1))),
-        Told("the front of I[J", Text::Ascii("I[J"), Asked::Length(Some(1))),
-        Told("the front of [J)V", Text::Ascii("[J)V"), Asked::Length(Some(2))),
-        Told("the front of LA;LB;", Text::Ascii("LA;LB;"), Asked::Length(Some(3))),
-        Told("the front of [[La/b/C;I", Text::Ascii("[[La/b/C;I"), Asked::Length(Some(9))),
-        Told("the front of )V", Text::Ascii(")V"), Asked::Length(None)),
-        Told("the front of [V", Text::Ascii("[V"), Asked::Length(None)),
-        Told("the front of LA", Text::Ascii("LA"), Asked::Length(None)),
-        Told("the front of LA:", Text::Ascii("LA:"), Asked::Length(None)),
-        Told("the front of ", Text::Ascii(""), Asked::Length(None)),
+        NamedCase("the front of V", Text::Ascii("V"), Query::Length(Some(1))),
+        NamedCase("the front of VI", Text::Ascii("VI"), Query::Length(Some(1))),
+        NamedCase("the front of I[J", Text::Ascii("I[J"), Query::Length(Some(1))),
+        NamedCase("the front of [J)V", Text::Ascii("[J)V"), Query::Length(Some(2))),
+        NamedCase("the front of LA;LB;", Text::Ascii("LA;LB;"), Query::Length(Some(3))),
+        NamedCase("the front of [[La/b/C;I", Text::Ascii("[[La/b/C;I"), Query::Length(Some(9))),
+        NamedCase("the front of )V", Text::Ascii(")V"), Query::Length(None)),
+        NamedCase("the front of [V", Text::Ascii("[V"), Query::Length(None)),
+        NamedCase("the front of LA", Text::Ascii("LA"), Query::Length(None)),
+        NamedCase("the front of LA:", Text::Ascii("LA:"), Query::Length(None)),
+        NamedCase("the front of ", Text::Ascii(""), Query::Length(None)),
     ];
     all_hold(rt.alloc(), &CASES)
 }

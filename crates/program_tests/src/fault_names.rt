@@ -55,7 +55,7 @@ fn is_shown_so(alloc: Global, code: u16, place: u64, want: &str) -> Result<bool,
 }
 
 /// What is asked of faults.
-enum Asked {
+enum Query {
     NamesBelow(u16),
     Greatest,
     Failed,
@@ -63,22 +63,22 @@ enum Asked {
     Shown(u16, u64, &'static str),
 }
 
-impl Case for Asked {
+impl Case for Query {
     fn name(&self) -> &'static str {
         match self {
-            Asked::NamesBelow(_) => "each number below 301 has its name or none",
-            Asked::Greatest => "the greatest number has no name",
-            Asked::Failed => "a failed allocation is out of memory",
-            Asked::Shown(_, _, shown) => shown,
+            Query::NamesBelow(_) => "each number below 301 has its name or none",
+            Query::Greatest => "the greatest number has no name",
+            Query::Failed => "a failed allocation is out of memory",
+            Query::Shown(_, _, shown) => shown,
         }
     }
 
     fn holds(&self, alloc: Global) -> Result<bool, Fault> {
         match self {
-            Asked::NamesBelow(end) => Ok(are_named_below(*end)),
-            Asked::Greatest => Ok(fault_name(65535) == "Unknown"),
-            Asked::Failed => Ok(is_out_of_memory(Fault::from(AllocError))),
-            Asked::Shown(code, place, want) => is_shown_so(alloc, *code, *place, want),
+            Query::NamesBelow(end) => Ok(are_named_below(*end)),
+            Query::Greatest => Ok(fault_name(65535) == "Unknown"),
+            Query::Failed => Ok(is_out_of_memory(Fault::from(AllocError))),
+            Query::Shown(code, place, want) => is_shown_so(alloc, *code, *place, want),
         }
     }
 }
@@ -86,12 +86,12 @@ impl Case for Asked {
 #[rattlefmt::skip]
 #[test]
 fn faults_have_their_names_and_are_shown_with_their_sentences(rt: HostRuntime) -> Result<(), Fail> {
-    static CASES: [Asked; 5] = [
-        Asked::NamesBelow(301),
-        Asked::Greatest,
-        Asked::Failed,
-        Asked::Shown(8, 8, "8 Checksum at 8: the Adler-32 differs"),
-        Asked::Shown(15, 0, "15 Unknown at 0: no fault has this number"),
+    static CASES: [Query; 5] = [
+        Query::NamesBelow(301),
+        Query::Greatest,
+        Query::Failed,
+        Query::Shown(8, 8, "8 Checksum at 8: the Adler-32 differs"),
+        Query::Shown(15, 0, "15 Unknown at 0: no fault has this number"),
     ];
     all_hold(rt.alloc(), &CASES)
 }

@@ -131,7 +131,7 @@ fn put_times(out: &mut Vec<u8>, text: &[u8], times: u32) -> Result<(), Fault> {
 
 #[rattlefmt::skip]
 #[test]
-fn texts_are_refused_at_their_lowest_line_and_rules_are_asked_after_all_lines(rt: HostRuntime) -> Result<(), Fail> {
+fn texts_are_refused_at_their_lowest_line_and_rules_are_checked_after_all_lines(rt: HostRuntime) -> Result<(), Fail> {
     static CASES: [Refused; 74] = [
         // Texts are refused at their lowest line.
         Refused(Text, "", fault::LINE_NOT_ENDED, 0),

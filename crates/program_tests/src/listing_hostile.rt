@@ -24,7 +24,7 @@ fn is_read_again(alloc: Global, whole: &Program<'_>) -> Result<bool, Fault> {
 }
 
 /// Whether the text is read, or has a fault of a listing at one of its nine lines, or of the program at its class.
-fn is_well_told(alloc: Global, text: &[u8]) -> Result<bool, Fault> {
+fn is_consistent(alloc: Global, text: &[u8]) -> Result<bool, Fault> {
     let arena = Bump::new(alloc);
     match parse(alloc, &arena, text) {
         Ok(whole) => is_read_again(alloc, &whole),
@@ -59,7 +59,7 @@ impl Case for Each {
 
     fn holds(&self, alloc: Global) -> Result<bool, Fault> {
         for at in 0..self.1.len() {
-            if !is_told_at(alloc, self.1, at, self.2)? {
+            if !is_refused_at(alloc, self.1, at, self.2)? {
                 return Ok(false);
             }
         }
@@ -67,16 +67,16 @@ impl Case for Each {
     }
 }
 
-fn is_told_at(alloc: Global, text: &[u8], at: usize, done: Done) -> Result<bool, Fault> {
+fn is_refused_at(alloc: Global, text: &[u8], at: usize, done: Done) -> Result<bool, Fault> {
     match done {
-        Done::Byte(byte) => is_byte_told(alloc, text, at, byte),
-        Done::Cut => is_cut_told(alloc, text, at),
+        Done::Byte(byte) => is_byte_consistent(alloc, text, at, byte),
+        Done::Cut => is_cut_refused(alloc, text, at),
     }
 }
 
-fn is_byte_told(alloc: Global, text: &[u8], at: usize, byte: u8) -> Result<bool, Fault> {
+fn is_byte_consistent(alloc: Global, text: &[u8], at: usize, byte: u8) -> Result<bool, Fault> {
     let changed = with_bytes(alloc, text, at, &[byte])?;
-    is_well_told(alloc, &changed)
+    is_consistent(alloc, &changed)
 }
 
 /// The front of the listing of the second form is read: `dex 035`, `dex 035 listing 2`, or all but the last line feed,
@@ -90,17 +90,17 @@ fn is_read(alloc: Global, text: &[u8]) -> bool {
     parse(alloc, &arena, text).is_ok()
 }
 
-fn is_cut_told(alloc: Global, text: &[u8], length: usize) -> Result<bool, Fault> {
+fn is_cut_refused(alloc: Global, text: &[u8], length: usize) -> Result<bool, Fault> {
     let (front, _) = text.split_at(length.min(text.len()));
     if is_read(alloc, front) != is_whole(text, length) {
         return Ok(false);
     }
-    is_well_told(alloc, front)
+    is_consistent(alloc, front)
 }
 
 #[rattlefmt::skip]
 #[test]
-fn each_byte_changed_and_each_cut_is_read_or_told(rt: HostRuntime) -> Result<(), Fail> {
+fn each_changed_byte_and_each_cut_is_read_or_refused(rt: HostRuntime) -> Result<(), Fail> {
     static CASES: [Each; 13] = [
         Each("the first form, a byte made 00", FIRST, Done::Byte(0)),
         Each("a byte made a line feed", FIRST, Done::Byte(b'\n')),

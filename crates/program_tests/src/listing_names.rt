@@ -18,13 +18,13 @@ enum Kind {
 }
 
 /// Whether the text spells one.
-fn is_spelled(arena: &Bump, kind: Kind, said: &str) -> Result<bool, Fault> {
+fn is_spelled(arena: &Bump, kind: Kind, name_text: &str) -> Result<bool, Fault> {
     match kind {
-        Kind::Text => Ok(text(arena, said)?.is_some()),
-        Kind::Type => Ok(ty(arena, said)?.is_some()),
-        Kind::Proto => Ok(proto(arena, said)?.is_some()),
-        Kind::Field => Ok(field(arena, said)?.is_some()),
-        Kind::Method => Ok(method(arena, said)?.is_some()),
+        Kind::Text => Ok(text(arena, name_text)?.is_some()),
+        Kind::Type => Ok(ty(arena, name_text)?.is_some()),
+        Kind::Proto => Ok(proto(arena, name_text)?.is_some()),
+        Kind::Field => Ok(field(arena, name_text)?.is_some()),
+        Kind::Method => Ok(method(arena, name_text)?.is_some()),
     }
 }
 

@@ -19,7 +19,7 @@ use tables_names::{Needed, Noted, Ranks};
 
 /// A name by its parts.
 #[derive(Clone, Copy)]
-enum Said {
+enum NameText {
     Text(&'static str),
     Type(&'static str),
     // return type, parameters
@@ -31,25 +31,25 @@ enum Said {
 }
 
 // `LA;->f:I` and `LA;->m()V`.
-const F: Said = Said::Field("LA;", "f", "I");
+const F: NameText = NameText::Field("LA;", "f", "I");
 
-const M: Said = Said::Method("LA;", "m", "V", &[]);
+const M: NameText = NameText::Method("LA;", "m", "V", &[]);
 
 /// A name of each kind.
-static EACH: [Said; 5] = [
-    Said::Text("x"),
-    Said::Type("[I"),
-    Said::Proto("V", &["J"]),
+static EACH: [NameText; 5] = [
+    NameText::Text("x"),
+    NameText::Type("[I"),
+    NameText::Proto("V", &["J"]),
     F,
     M,
 ];
 
 /// What a name can be.
-static NAMED: [Said; 4] = [
-    Said::Text("x"),
-    Said::Type("[I"),
+static NAMED: [NameText; 4] = [
+    NameText::Text("x"),
+    NameText::Type("[I"),
     F,
-    Said::Method("LA;", "m", "V", &["J"]),
+    NameText::Method("LA;", "m", "V", &["J"]),
 ];
 
 /// What a prototype is called, its return type, its parameters, its rank among these.
@@ -66,7 +66,7 @@ static PROTOS: [Prototype; 5] = [
 /// Which names are added.
 #[derive(Clone, Copy)]
 enum Added {
-    One(Said),
+    One(NameText),
     // prototypes, each given by its place in the list above, in this order
     Prototypes(&'static [usize]),
     // a name of each kind from either arena, where both say the same
@@ -79,13 +79,13 @@ enum Added {
 
 /// What is asked of the ranks.
 #[derive(Clone, Copy)]
-enum Asked {
+enum Query {
     // they are shown so
     Shown(&'static str),
     // the rank of this one, which is found by its kind
-    Rank(Said, Option<u32>),
+    Rank(NameText, Option<u32>),
     // .. by its name
-    RankOfName(Said, Option<u32>),
+    RankOfName(NameText, Option<u32>),
     // the prototypes of the list above have theirs
     Prototypes,
     // beside the members of a class are the ranks of their parts
@@ -94,7 +94,7 @@ enum Asked {
     Counts([usize; 5]),
 }
 
-struct Ranked(&'static str, Added, Asked);
+struct Ranked(&'static str, Added, Query);
 
 impl Case for Ranked {
     fn name(&self) -> &'static str {
@@ -138,7 +138,7 @@ fn add<'a>(
     added: Added,
 ) -> Result<(), Fault> {
     match added {
-        Added::One(said) => add_said(needed, here, said),
+        Added::One(name_text) => add_name_text(needed, here, name_text),
         Added::Prototypes(order) => add_protos(needed, here, order),
         Added::Names => add_names(needed, here, &NAMED),
         Added::Members => add_members(needed, here),
@@ -149,45 +149,53 @@ fn add<'a>(
     }
 }
 
-fn add_all<'a>(needed: &mut Needed<'a>, arena: &'a Bump, all: &[Said]) -> Result<(), Fault> {
-    for said in all {
-        add_said(needed, arena, *said)?;
+fn add_all<'a>(needed: &mut Needed<'a>, arena: &'a Bump, all: &[NameText]) -> Result<(), Fault> {
+    for name_text in all {
+        add_name_text(needed, arena, *name_text)?;
     }
     Ok(())
 }
 
-fn add_said<'a>(needed: &mut Needed<'a>, arena: &'a Bump, said: Said) -> Result<(), Fault> {
-    match said {
-        Said::Text(string) => needed.add_string(text(arena, string)?),
-        Said::Type(descriptor) => needed.add_type(ty(arena, descriptor)?),
-        Said::Proto(ret, params) => needed.add_proto(arena, proto(arena, ret, params)?),
-        Said::Field(class, name, kind) => needed.add_field(field(arena, class, name, kind)?),
-        Said::Method(class, name, ret, params) => {
+fn add_name_text<'a>(
+    needed: &mut Needed<'a>,
+    arena: &'a Bump,
+    name_text: NameText,
+) -> Result<(), Fault> {
+    match name_text {
+        NameText::Text(string) => needed.add_string(text(arena, string)?),
+        NameText::Type(descriptor) => needed.add_type(ty(arena, descriptor)?),
+        NameText::Proto(ret, params) => needed.add_proto(arena, proto(arena, ret, params)?),
+        NameText::Field(class, name, kind) => needed.add_field(field(arena, class, name, kind)?),
+        NameText::Method(class, name, ret, params) => {
             needed.add_method(arena, method(arena, class, name, ret, params)?)
         }
     }
 }
 
-fn add_names<'a>(needed: &mut Needed<'a>, arena: &'a Bump, all: &[Said]) -> Result<(), Fault> {
-    for said in all {
-        add_name(needed, arena, *said)?;
+fn add_names<'a>(needed: &mut Needed<'a>, arena: &'a Bump, all: &[NameText]) -> Result<(), Fault> {
+    for name_text in all {
+        add_name(needed, arena, *name_text)?;
     }
     Ok(())
 }
 
 /// A prototype is no name.
-fn add_name<'a>(needed: &mut Needed<'a>, arena: &'a Bump, said: Said) -> Result<(), Fault> {
-    match said {
-        Said::Text(string) => needed.add_name(arena, Name::Text(text(arena, string)?)),
-        Said::Type(descriptor) => needed.add_name(arena, Name::Desc(ty(arena, descriptor)?)),
-        Said::Field(class, name, kind) => {
+fn add_name<'a>(
+    needed: &mut Needed<'a>,
+    arena: &'a Bump,
+    name_text: NameText,
+) -> Result<(), Fault> {
+    match name_text {
+        NameText::Text(string) => needed.add_name(arena, Name::Text(text(arena, string)?)),
+        NameText::Type(descriptor) => needed.add_name(arena, Name::Desc(ty(arena, descriptor)?)),
+        NameText::Field(class, name, kind) => {
             needed.add_name(arena, Name::Field(field(arena, class, name, kind)?))
         }
-        Said::Method(class, name, ret, params) => {
+        NameText::Method(class, name, ret, params) => {
             let m = method(arena, class, name, ret, params)?;
             needed.add_name(arena, Name::Method(m))
         }
-        Said::Proto(_, _) => Ok(()),
+        NameText::Proto(_, _) => Ok(()),
     }
 }
 
@@ -220,40 +228,50 @@ fn is_answered<'a>(
     alloc: Global,
     arena: &'a Bump,
     ranks: &Ranks<'a>,
-    asked: Asked,
+    query: Query,
 ) -> Result<bool, Fault> {
-    match asked {
-        Asked::Shown(want) => are_shown_so(alloc, ranks, want),
-        Asked::Rank(said, want) => Ok(rank_of(arena, ranks, said)? == want),
-        Asked::RankOfName(said, want) => Ok(rank_of_name(arena, ranks, said)? == want),
-        Asked::Prototypes => are_protos_ranked(arena, ranks),
-        Asked::Parts => Ok(are_parts_beside(ranks)),
-        Asked::Counts(counts) => Ok(are_so_many(ranks, counts)),
+    match query {
+        Query::Shown(want) => are_shown_so(alloc, ranks, want),
+        Query::Rank(name_text, want) => Ok(rank_of(arena, ranks, name_text)? == want),
+        Query::RankOfName(name_text, want) => Ok(rank_of_name(arena, ranks, name_text)? == want),
+        Query::Prototypes => are_protos_ranked(arena, ranks),
+        Query::Parts => Ok(are_parts_beside(ranks)),
+        Query::Counts(counts) => Ok(are_so_many(ranks, counts)),
     }
 }
 
-fn rank_of<'a>(arena: &'a Bump, ranks: &Ranks<'a>, said: Said) -> Result<Option<u32>, Fault> {
-    Ok(match said {
-        Said::Text(string) => ranks.index_of_string(text(arena, string)?),
-        Said::Type(descriptor) => ranks.index_of_type(ty(arena, descriptor)?),
-        Said::Proto(ret, params) => ranks.index_of_proto(proto(arena, ret, params)?),
-        Said::Field(class, name, kind) => ranks.index_of_field(field(arena, class, name, kind)?),
-        Said::Method(class, name, ret, params) => {
+fn rank_of<'a>(
+    arena: &'a Bump,
+    ranks: &Ranks<'a>,
+    name_text: NameText,
+) -> Result<Option<u32>, Fault> {
+    Ok(match name_text {
+        NameText::Text(string) => ranks.index_of_string(text(arena, string)?),
+        NameText::Type(descriptor) => ranks.index_of_type(ty(arena, descriptor)?),
+        NameText::Proto(ret, params) => ranks.index_of_proto(proto(arena, ret, params)?),
+        NameText::Field(class, name, kind) => ranks.index_of_field(field(
+            arena, class, name, kind,
+        )?),
+        NameText::Method(class, name, ret, params) => {
             ranks.index_of_method(method(arena, class, name, ret, params)?)
         }
     })
 }
 
 /// A prototype is no name.
-fn rank_of_name<'a>(arena: &'a Bump, ranks: &Ranks<'a>, said: Said) -> Result<Option<u32>, Fault> {
-    let name = match said {
-        Said::Text(string) => Name::Text(text(arena, string)?),
-        Said::Type(descriptor) => Name::Desc(ty(arena, descriptor)?),
-        Said::Field(class, name, kind) => Name::Field(field(arena, class, name, kind)?),
-        Said::Method(class, name, ret, params) => {
+fn rank_of_name<'a>(
+    arena: &'a Bump,
+    ranks: &Ranks<'a>,
+    name_text: NameText,
+) -> Result<Option<u32>, Fault> {
+    let name = match name_text {
+        NameText::Text(string) => Name::Text(text(arena, string)?),
+        NameText::Type(descriptor) => Name::Desc(ty(arena, descriptor)?),
+        NameText::Field(class, name, kind) => Name::Field(field(arena, class, name, kind)?),
+        NameText::Method(class, name, ret, params) => {
             Name::Method(method(arena, class, name, ret, params)?)
         }
-        Said::Proto(_, _) => return Ok(None),
+        NameText::Proto(_, _) => return Ok(None),
     };
     Ok(ranks.index_of(name))
 }
@@ -313,27 +331,27 @@ fn names_added_in_any_order_rank_with_what_they_need(rt: HostRuntime) -> Result<
         // A method alone needs its class, its name and its prototype.
         Ranked(
             "a method", Added::One(M),
-            Asked::Shown("strings: LA; V m \ntypes: LA; V \nprotos: ()V \nfields: \nmethods: LA;->m()V "),
+            Query::Shown("strings: LA; V m \ntypes: LA; V \nprotos: ()V \nfields: \nmethods: LA;->m()V "),
         ),
-        Ranked("a method: the string LA;", Added::One(M), Asked::Rank(Said::Text("LA;"), Some(0))),
-        Ranked("a method: the string V", Added::One(M), Asked::Rank(Said::Text("V"), Some(1))),
-        Ranked("a method: the string m", Added::One(M), Asked::Rank(Said::Text("m"), Some(2))),
-        Ranked("a method: the type LA;", Added::One(M), Asked::Rank(Said::Type("LA;"), Some(0))),
-        Ranked("a method: the type V", Added::One(M), Asked::Rank(Said::Type("V"), Some(1))),
-        Ranked("a method: the type m", Added::One(M), Asked::Rank(Said::Type("m"), None)),
+        Ranked("a method: the string LA;", Added::One(M), Query::Rank(NameText::Text("LA;"), Some(0))),
+        Ranked("a method: the string V", Added::One(M), Query::Rank(NameText::Text("V"), Some(1))),
+        Ranked("a method: the string m", Added::One(M), Query::Rank(NameText::Text("m"), Some(2))),
+        Ranked("a method: the type LA;", Added::One(M), Query::Rank(NameText::Type("LA;"), Some(0))),
+        Ranked("a method: the type V", Added::One(M), Query::Rank(NameText::Type("V"), Some(1))),
+        Ranked("a method: the type m", Added::One(M), Query::Rank(NameText::Type("m"), None)),
         // Prototypes rank by return type and then by parameters, however often and in whatever order they are
         // added.
-        Ranked("each once", Added::Prototypes(&[0, 1, 2, 3, 4]), Asked::Prototypes),
-        Ranked("each once, shown", Added::Prototypes(&[0, 1, 2, 3, 4]), Asked::Shown(PROTOS_SHOWN)),
-        Ranked("each twice", Added::Prototypes(&[0, 0, 1, 1, 2, 2, 3, 3, 4, 4]), Asked::Prototypes),
-        Ranked("each twice, shown", Added::Prototypes(&[0, 0, 1, 1, 2, 2, 3, 3, 4, 4]), Asked::Shown(PROTOS_SHOWN)),
-        Ranked("forwards and backwards", Added::Prototypes(&[0, 1, 2, 3, 4, 4, 3, 2, 1, 0]), Asked::Prototypes),
+        Ranked("each once", Added::Prototypes(&[0, 1, 2, 3, 4]), Query::Prototypes),
+        Ranked("each once, shown", Added::Prototypes(&[0, 1, 2, 3, 4]), Query::Shown(PROTOS_SHOWN)),
+        Ranked("each twice", Added::Prototypes(&[0, 0, 1, 1, 2, 2, 3, 3, 4, 4]), Query::Prototypes),
+        Ranked("each twice, shown", Added::Prototypes(&[0, 0, 1, 1, 2, 2, 3, 3, 4, 4]), Query::Shown(PROTOS_SHOWN)),
+        Ranked("forwards and backwards", Added::Prototypes(&[0, 1, 2, 3, 4, 4, 3, 2, 1, 0]), Query::Prototypes),
         Ranked(
             "forwards and backwards, shown", Added::Prototypes(&[0, 1, 2, 3, 4, 4, 3, 2, 1, 0]),
-            Asked::Shown(PROTOS_SHOWN),
+            Query::Shown(PROTOS_SHOWN),
         ),
-        Ranked("mixed", Added::Prototypes(&[3, 1, 4, 0, 2, 1, 2, 0, 3, 4]), Asked::Prototypes),
-        Ranked("mixed, shown", Added::Prototypes(&[3, 1, 4, 0, 2, 1, 2, 0, 3, 4]), Asked::Shown(PROTOS_SHOWN)),
+        Ranked("mixed", Added::Prototypes(&[3, 1, 4, 0, 2, 1, 2, 0, 3, 4]), Query::Prototypes),
+        Ranked("mixed, shown", Added::Prototypes(&[3, 1, 4, 0, 2, 1, 2, 0, 3, 4]), Query::Shown(PROTOS_SHOWN)),
     ];
     all_hold(rt.alloc(), &CASES)
 }
@@ -345,38 +363,38 @@ fn names_of_each_kind_and_members_of_a_class_are_found_by_their_ranks(rt: HostRu
         // Equal names of two arenas are one name of each kind.
         Ranked(
             "each twice", Added::Each,
-            Asked::Shown("strings: I J LA; V VJ [I f m x \ntypes: I J LA; V [I \nprotos: ()V (J)V \nfields: LA;->f:I \nmethods: LA;->m()V "),
+            Query::Shown("strings: I J LA; V VJ [I f m x \ntypes: I J LA; V [I \nprotos: ()V (J)V \nfields: LA;->f:I \nmethods: LA;->m()V "),
         ),
-        Ranked("how many", Added::Each, Asked::Counts([9, 5, 2, 1, 1])),
-        Ranked("the string I", Added::Each, Asked::Rank(Said::Text("I"), Some(0))),
-        Ranked("the string VJ", Added::Each, Asked::Rank(Said::Text("VJ"), Some(4))),
-        Ranked("the string [I", Added::Each, Asked::Rank(Said::Text("[I"), Some(5))),
-        Ranked("the string f", Added::Each, Asked::Rank(Said::Text("f"), Some(6))),
-        Ranked("the string x", Added::Each, Asked::Rank(Said::Text("x"), Some(8))),
-        Ranked("the string y", Added::Each, Asked::Rank(Said::Text("y"), None)),
-        Ranked("the type I", Added::Each, Asked::Rank(Said::Type("I"), Some(0))),
-        Ranked("the type J", Added::Each, Asked::Rank(Said::Type("J"), Some(1))),
-        Ranked("the type LA;", Added::Each, Asked::Rank(Said::Type("LA;"), Some(2))),
-        Ranked("the type V", Added::Each, Asked::Rank(Said::Type("V"), Some(3))),
-        Ranked("the type [I", Added::Each, Asked::Rank(Said::Type("[I"), Some(4))),
-        Ranked("the type VJ", Added::Each, Asked::Rank(Said::Type("VJ"), None)),
-        Ranked("the field", Added::Each, Asked::Rank(F, Some(0))),
-        Ranked("the method", Added::Each, Asked::Rank(M, Some(0))),
-        Ranked("the field as a name", Added::Each, Asked::RankOfName(F, Some(0))),
-        Ranked("the method as a name", Added::Each, Asked::RankOfName(M, Some(0))),
-        Ranked("a text as a name", Added::Each, Asked::RankOfName(Said::Text("x"), Some(8))),
-        Ranked("a type as a name", Added::Each, Asked::RankOfName(Said::Type("[I"), Some(4))),
+        Ranked("how many", Added::Each, Query::Counts([9, 5, 2, 1, 1])),
+        Ranked("the string I", Added::Each, Query::Rank(NameText::Text("I"), Some(0))),
+        Ranked("the string VJ", Added::Each, Query::Rank(NameText::Text("VJ"), Some(4))),
+        Ranked("the string [I", Added::Each, Query::Rank(NameText::Text("[I"), Some(5))),
+        Ranked("the string f", Added::Each, Query::Rank(NameText::Text("f"), Some(6))),
+        Ranked("the string x", Added::Each, Query::Rank(NameText::Text("x"), Some(8))),
+        Ranked("the string y", Added::Each, Query::Rank(NameText::Text("y"), None)),
+        Ranked("the type I", Added::Each, Query::Rank(NameText::Type("I"), Some(0))),
+        Ranked("the type J", Added::Each, Query::Rank(NameText::Type("J"), Some(1))),
+        Ranked("the type LA;", Added::Each, Query::Rank(NameText::Type("LA;"), Some(2))),
+        Ranked("the type V", Added::Each, Query::Rank(NameText::Type("V"), Some(3))),
+        Ranked("the type [I", Added::Each, Query::Rank(NameText::Type("[I"), Some(4))),
+        Ranked("the type VJ", Added::Each, Query::Rank(NameText::Type("VJ"), None)),
+        Ranked("the field", Added::Each, Query::Rank(F, Some(0))),
+        Ranked("the method", Added::Each, Query::Rank(M, Some(0))),
+        Ranked("the field as a name", Added::Each, Query::RankOfName(F, Some(0))),
+        Ranked("the method as a name", Added::Each, Query::RankOfName(M, Some(0))),
+        Ranked("a text as a name", Added::Each, Query::RankOfName(NameText::Text("x"), Some(8))),
+        Ranked("a type as a name", Added::Each, Query::RankOfName(NameText::Type("[I"), Some(4))),
         // What is named is added by its kind.
         Ranked(
             "names", Added::Names,
-            Asked::Shown("strings: I J LA; V VJ [I f m x \ntypes: I J LA; V [I \nprotos: (J)V \nfields: LA;->f:I \nmethods: LA;->m(J)V "),
+            Query::Shown("strings: I J LA; V VJ [I f m x \ntypes: I J LA; V [I \nprotos: (J)V \nfields: LA;->f:I \nmethods: LA;->m(J)V "),
         ),
         // Beside the members of a class stand the ranks of their parts.
         Ranked(
             "members", Added::Members,
-            Asked::Shown("strings: I J LA; V VJ f g m \ntypes: I J LA; V \nprotos: ()V (J)V \nfields: LA;->f:I LA;->g:J \nmethods: LA;->m()V LA;->m(J)V "),
+            Query::Shown("strings: I J LA; V VJ f g m \ntypes: I J LA; V \nprotos: ()V (J)V \nfields: LA;->f:I LA;->g:J \nmethods: LA;->m()V LA;->m(J)V "),
         ),
-        Ranked("their parts", Added::Members, Asked::Parts),
+        Ranked("their parts", Added::Members, Query::Parts),
     ];
     all_hold(rt.alloc(), &CASES)
 }

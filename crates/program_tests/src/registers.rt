@@ -24,7 +24,7 @@ impl Case for Top {
 
 #[rattlefmt::skip]
 #[test]
-fn the_greatest_register_is_told(rt: HostRuntime) -> Result<(), Fail> {
+fn the_greatest_register_is_returned(rt: HostRuntime) -> Result<(), Fail> {
     static CASES: [Top; 18] = [
         Top("return-void", &[0x0e, 0], None),
         Top("goto", &[0x28, 0x7f], None),

@@ -287,7 +287,7 @@ fn the_order_of_classes_is_ruled(rt: HostRuntime) -> Result<(), Fail> {
 
 #[rattlefmt::skip]
 #[test]
-fn interfaces_are_ruled_and_the_first_class_with_a_fault_is_told(rt: HostRuntime) -> Result<(), Fail> {
+fn interfaces_are_ruled_and_the_first_class_with_a_fault_is_reported(rt: HostRuntime) -> Result<(), Fail> {
     static CASES: [Ruled; 5] = [
         Ruled("nine interfaces", Given::Classes(&[Class { interfaces: &NINE, ..EMPTY }]), 0, 0),
         Ruled(

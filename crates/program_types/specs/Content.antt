@@ -74,7 +74,7 @@ values (v ∷ vs) = more_values v (values vs)
 -- ---- Instructions
 
 -- An instruction, a constructor a format, or a payload. `op` is the opcode; `a`, `b` and `c` are the format's A, B and C, which
--- are registers, or a literal in ℤ; `to` is the instruction that is led to; `which` is what the format's index names.
+-- are registers, or a literal in ℤ; `to` is the target instruction; `which` is what the format's index names.
 pub data Insn : Type 0 where
   I10x : (op : ℕ) → Insn
   I12x : (op a b : ℕ) → Insn

@@ -1,4 +1,4 @@
--- What a value in memory says: one function a type, named as the type is, from the type in memory to its content. Two values
+-- The content of a value in memory: one function a type, named as the type is, from the type in memory to its content. Two values
 -- are equal by content where their views are equal, in whichever arenas they lie.
 use Rattle.std.specs.Prelude.{map, option_map}
 use Rattle.program_types.specs.Content as content

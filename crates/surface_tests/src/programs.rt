@@ -130,22 +130,22 @@ pub fn parts_of_insn<'a>(insn: Insn<'a>) {
         Insn::I12x { op, a, b } => bytes([op, a, b, 0]),
         Insn::I11n { op, a, b } => byte(op, a, b),
         Insn::I11x { op, a } => bytes([op, a, 0, 0]),
-        Insn::I10t { op, to } => leads(op, 0, to),
-        Insn::I20t { op, to } => leads(op, 0, to),
+        Insn::I10t { op, to } => branch(op, 0, to),
+        Insn::I20t { op, to } => branch(op, 0, to),
         Insn::I22x { op, a, b } => unit(op, a, b),
-        Insn::I21t { op, a, to } => leads(op, a, to),
+        Insn::I21t { op, a, to } => branch(op, a, to),
         Insn::I21s { op, a, b } => short(op, a, b),
         Insn::I21h { op, a, b } => short(op, a, b),
         Insn::I21c { op, a, name } => named(op, a, name),
         Insn::I23x { op, a, b, c } => bytes([op, a, b, c]),
         Insn::I22b { op, a, b, c } => byte_of_two(op, a, b, c),
-        Insn::I22t { op, a, b, to } => leads_of_two(op, a, b, to),
+        Insn::I22t { op, a, b, to } => branch_of_two(op, a, b, to),
         Insn::I22s { op, a, b, c } => short_of_two(op, a, b, c),
         Insn::I22c { op, a, b, name } => named_of_two(op, a, b, name),
-        Insn::I30t { op, to } => leads(op, 0, to),
+        Insn::I30t { op, to } => branch(op, 0, to),
         Insn::I32x { op, a, b } => units(op, a, b),
         Insn::I31i { op, a, b } => wide(op, a, b),
-        Insn::I31t { op, a, to } => leads(op, a, to),
+        Insn::I31t { op, a, to } => branch(op, a, to),
         Insn::I31c { op, a, name } => named(op, a, name),
         Insn::I35c { op, n, regs, name } => listed(op, n, regs, name),
         Insn::I3rc { op, n, first, name } => ranged(op, n, first, name),
@@ -174,9 +174,9 @@ fn unit(_op: u8, _a: u8, _b: u16) {}
 
 fn units(_op: u8, _a: u16, _b: u16) {}
 
-fn leads(_op: u8, _a: u8, _to: u32) {}
+fn branch(_op: u8, _a: u8, _to: u32) {}
 
-fn leads_of_two(_op: u8, _a: u8, _b: u8, _to: u32) {}
+fn branch_of_two(_op: u8, _a: u8, _b: u8, _to: u32) {}
 
 fn named(_op: u8, _a: u8, _name: Name<'_>) {}
 

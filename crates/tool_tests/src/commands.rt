@@ -20,7 +20,7 @@ struct Served {
     terminals: Terminals,
     manner: Manner,
     status: u8,
-    told: &'static [u8],
+    message: &'static [u8],
     out: Option<Given>,
 }
 
@@ -56,7 +56,7 @@ fn status_of(alloc: Global, disk: &mut Disk, case: &Served) -> Option<u8> {
         &mut output,
         &mut errors,
     );
-    if output.into_inner().is_empty() && errors.into_inner().as_slice() == case.told {
+    if output.into_inner().is_empty() && errors.into_inner().as_slice() == case.message {
         Some(status)
     } else {
         None
@@ -106,7 +106,7 @@ fn a_command_leaves_its_status_and_out(rt: HostRuntime) -> Result<(), Fail> {
             terminals: NO_TERMINAL,
             manner: Manner::SOUND,
             status: 0,
-            told: b"",
+            message: b"",
             out: Some(Given::File),
         },
         Served {
@@ -115,7 +115,7 @@ fn a_command_leaves_its_status_and_out(rt: HostRuntime) -> Result<(), Fail> {
             terminals: NO_TERMINAL,
             manner: Manner::SOUND,
             status: 0,
-            told: b"",
+            message: b"",
             out: Some(Given::Okay),
         },
         Served {
@@ -124,7 +124,7 @@ fn a_command_leaves_its_status_and_out(rt: HostRuntime) -> Result<(), Fail> {
             terminals: NO_TERMINAL,
             manner: Manner::SOUND,
             status: 1,
-            told: b"dexasm: refused 2 Magic at 0\n",
+            message: b"dexasm: refused 2 Magic at 0\n",
             out: None,
         },
         Served {
@@ -133,7 +133,7 @@ fn a_command_leaves_its_status_and_out(rt: HostRuntime) -> Result<(), Fail> {
             terminals: NO_TERMINAL,
             manner: Manner::SOUND,
             status: 3,
-            told: b"dexasm: cannot read\n",
+            message: b"dexasm: cannot read\n",
             out: None,
         },
         Served {
@@ -142,7 +142,7 @@ fn a_command_leaves_its_status_and_out(rt: HostRuntime) -> Result<(), Fail> {
             terminals: NO_TERMINAL,
             manner: FAILING,
             status: 3,
-            told: b"dexasm: cannot write\n",
+            message: b"dexasm: cannot write\n",
             out: None,
         },
         Served {
@@ -151,7 +151,7 @@ fn a_command_leaves_its_status_and_out(rt: HostRuntime) -> Result<(), Fail> {
             terminals: TERMINALS,
             manner: Manner::SOUND,
             status: 2,
-            told: b"dexasm: a .dex file isn't for a terminal: use --output FILE or a pipe\n",
+            message: b"dexasm: a .dex file isn't for a terminal: use --output FILE or a pipe\n",
             out: None,
         },
         Served {
@@ -160,16 +160,16 @@ fn a_command_leaves_its_status_and_out(rt: HostRuntime) -> Result<(), Fail> {
             terminals: TERMINALS,
             manner: Manner::SOUND,
             status: 0,
-            told: b"",
+            message: b"",
             out: Some(Given::File),
         },
         Served {
-            what: "a terminal is told what is wrong",
+            what: "a terminal is message what is wrong",
             words: &["dexasm", "list", "--output", "out", "in.txt"],
             terminals: TERMINALS,
             manner: Manner::SOUND,
             status: 1,
-            told: b"dexasm: refused 2 Magic at 0\n  this is no .dex file\n",
+            message: b"dexasm: refused 2 Magic at 0\n  this is no .dex file\n",
             out: None,
         },
     ];

@@ -1,7 +1,7 @@
 //! What each job answers: files and listings, with values from the rules of both.
 
 use crate::given::{Given, bytes_of};
-use crate::ran::{Input, Ran, Run, SOUND, Told, is_so};
+use crate::ran::{Input, Outcome, Ran, Run, SOUND, is_so};
 use dex_base::{Fault, fault};
 use dex_samples::{Case, all_hold};
 use dexasm_command::{Job, answer};
@@ -27,7 +27,7 @@ impl Case for Answered {
             Input::Given(self.2),
             SOUND,
             SOUND,
-            Told::Answered(self.3),
+            Outcome::Answered(self.3),
         );
         Ok(is_so(alloc, &run)? && is_answered(alloc, self.1, given, want)?)
     }
@@ -63,56 +63,56 @@ fn each_job_gives_its_answer(rt: HostRuntime) -> Result<(), Fail> {
 
 #[rattlefmt::skip]
 #[test]
-fn each_job_tells_the_fault_of_its_call(rt: HostRuntime) -> Result<(), Fail> {
+fn each_job_reports_the_fault_of_its_call(rt: HostRuntime) -> Result<(), Fail> {
     static CASES: [Ran; 12] = [
         Ran(
             "no bytes are no file",
-            Run(Job::List, Input::Given(Given::Nothing), SOUND, SOUND, Told::Refused(fault::TOO_SHORT, 0)),
+            Run(Job::List, Input::Given(Given::Nothing), SOUND, SOUND, Outcome::Refused(fault::TOO_SHORT, 0)),
         ),
         Ran(
             "a listing isn't a file",
-            Run(Job::Strip, Input::Given(Given::Listing), SOUND, SOUND, Told::Refused(fault::MAGIC, 0)),
+            Run(Job::Strip, Input::Given(Given::Listing), SOUND, SOUND, Outcome::Refused(fault::MAGIC, 0)),
         ),
         Ran(
             "a file isn't a listing",
-            Run(ASSEMBLE, Input::Given(Given::File), SOUND, SOUND, Told::Refused(fault::LINE_WORD, 1)),
+            Run(ASSEMBLE, Input::Given(Given::File), SOUND, SOUND, Outcome::Refused(fault::LINE_WORD, 1)),
         ),
         Ran(
             "no bytes are no listing",
-            Run(ASSEMBLE, Input::Given(Given::Nothing), SOUND, SOUND, Told::Refused(fault::LINE_NOT_ENDED, 0)),
+            Run(ASSEMBLE, Input::Given(Given::Nothing), SOUND, SOUND, Outcome::Refused(fault::LINE_NOT_ENDED, 0)),
         ),
         Ran(
             "a later superclass in a file",
-            Run(Job::Check, Input::Given(Given::LaterSuperclass), SOUND, SOUND, Told::Refused(fault::CLASS_ORDER, 128)),
+            Run(Job::Check, Input::Given(Given::LaterSuperclass), SOUND, SOUND, Outcome::Refused(fault::CLASS_ORDER, 128)),
         ),
         Ran(
             "a later superclass",
-            Run(ASSEMBLE, Input::Given(Given::LaterSuperclassListing), SOUND, SOUND, Told::Refused(fault::PROGRAM_CLASS_ORDER, 0)),
+            Run(ASSEMBLE, Input::Given(Given::LaterSuperclassListing), SOUND, SOUND, Outcome::Refused(fault::PROGRAM_CLASS_ORDER, 0)),
         ),
         Ran(
             "arguments past the registers of the second class",
-            Run(Job::List, Input::Given(Given::ThreeClasses), SOUND, SOUND, Told::Refused(fault::REGISTER, 300)),
+            Run(Job::List, Input::Given(Given::ThreeClasses), SOUND, SOUND, Outcome::Refused(fault::REGISTER, 300)),
         ),
         Ran(
             "and an unused opcode in the third, which goes before them",
-            Run(Job::List, Input::Closed(Given::ThreeClasses, 336, 0x3e), SOUND, SOUND, Told::Refused(fault::OPCODE, 336)),
+            Run(Job::List, Input::Closed(Given::ThreeClasses, 336, 0x3e), SOUND, SOUND, Outcome::Refused(fault::OPCODE, 336)),
         ),
         Ran(
             "a try without handlers",
-            Run(ASSEMBLE, Input::Given(Given::BareTry), SOUND, SOUND, Told::Refused(fault::PROGRAM_TRY, 0)),
+            Run(ASSEMBLE, Input::Given(Given::BareTry), SOUND, SOUND, Outcome::Refused(fault::PROGRAM_TRY, 0)),
         ),
         Ran(
             "a try without handlers, aligned",
-            Run(ALIGN, Input::Given(Given::BareTry), SOUND, SOUND, Told::Refused(fault::PROGRAM_TRY, 0)),
+            Run(ALIGN, Input::Given(Given::BareTry), SOUND, SOUND, Outcome::Refused(fault::PROGRAM_TRY, 0)),
         ),
         Ran(
             "a payload at an odd address",
-            Run(ASSEMBLE, Input::Given(Given::OddPayload), SOUND, SOUND, Told::Refused(fault::MISALIGNED, 0)),
+            Run(ASSEMBLE, Input::Given(Given::OddPayload), SOUND, SOUND, Outcome::Refused(fault::MISALIGNED, 0)),
         ),
         // The fifth string's count is wrong.
         Ran(
             "a string that nothing uses is read too",
-            Run(Job::Strip, Input::Closed(Given::SpareNames, 0xf5, 7), SOUND, SOUND, Told::Refused(21, 128)),
+            Run(Job::Strip, Input::Closed(Given::SpareNames, 0xf5, 7), SOUND, SOUND, Outcome::Refused(21, 128)),
         ),
     ];
     all_hold(rt.alloc(), &CASES)

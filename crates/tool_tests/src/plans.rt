@@ -14,9 +14,9 @@ enum Meaning {
     Status(u8),
 }
 
-struct Said(&'static [&'static str], Meaning);
+struct PlanCase(&'static [&'static str], Meaning);
 
-impl Case for Said {
+impl Case for PlanCase {
     fn name(&self) -> &'static str {
         last_of(self.0)
     }
@@ -48,45 +48,45 @@ fn last_of(words: &'static [&'static str]) -> &'static str {
 
 #[rattlefmt::skip]
 #[test]
-fn words_ask_for_a_job_or_have_their_status(rt: HostRuntime) -> Result<(), Fail> {
-    static CASES: [Said; 27] = [
-        Said(&["dexasm", "check"], Meaning::Plan(Job::Check, None, None)),
-        Said(&["dexasm", "list"], Meaning::Plan(Job::List, None, None)),
-        Said(&["dexasm", "assemble"], Meaning::Plan(Job::Assemble { align: false }, None, None)),
-        Said(&["dexasm", "assemble", "--align"], Meaning::Plan(Job::Assemble { align: true }, None, None)),
-        Said(&["dexasm", "strip"], Meaning::Plan(Job::Strip, None, None)),
-        Said(&["dexasm", "check", "a.dex"], Meaning::Plan(Job::Check, Some("a.dex"), None)),
-        Said(&["dexasm", "list", "--output", "a.txt"], Meaning::Plan(Job::List, None, Some("a.txt"))),
-        Said(
+fn words_request_a_job_or_have_their_status(rt: HostRuntime) -> Result<(), Fail> {
+    static CASES: [PlanCase; 27] = [
+        PlanCase(&["dexasm", "check"], Meaning::Plan(Job::Check, None, None)),
+        PlanCase(&["dexasm", "list"], Meaning::Plan(Job::List, None, None)),
+        PlanCase(&["dexasm", "assemble"], Meaning::Plan(Job::Assemble { align: false }, None, None)),
+        PlanCase(&["dexasm", "assemble", "--align"], Meaning::Plan(Job::Assemble { align: true }, None, None)),
+        PlanCase(&["dexasm", "strip"], Meaning::Plan(Job::Strip, None, None)),
+        PlanCase(&["dexasm", "check", "a.dex"], Meaning::Plan(Job::Check, Some("a.dex"), None)),
+        PlanCase(&["dexasm", "list", "--output", "a.txt"], Meaning::Plan(Job::List, None, Some("a.txt"))),
+        PlanCase(
             &["dexasm", "assemble", "a.txt", "--align", "--output=a.dex"],
             Meaning::Plan(Job::Assemble { align: true }, Some("a.txt"), Some("a.dex")),
         ),
-        Said(
+        PlanCase(
             &["dexasm", "assemble", "--output", "a.dex", "--", "--align"],
             Meaning::Plan(Job::Assemble { align: false }, Some("--align"), Some("a.dex")),
         ),
-        Said(
+        PlanCase(
             &["dexasm", "strip", "--output", "b.dex", "a.dex"],
             Meaning::Plan(Job::Strip, Some("a.dex"), Some("b.dex")),
         ),
-        Said(&["dexasm", "strip", "list", "--output="], Meaning::Plan(Job::Strip, Some("list"), Some(""))),
-        Said(&["dexasm", "list", "-o", "-", "-"], Meaning::Plan(Job::List, Some("-"), Some("-"))),
+        PlanCase(&["dexasm", "strip", "list", "--output="], Meaning::Plan(Job::Strip, Some("list"), Some(""))),
+        PlanCase(&["dexasm", "list", "-o", "-", "-"], Meaning::Plan(Job::List, Some("-"), Some("-"))),
         // Help, and wrong words.
-        Said(&["dexasm", "--help"], Meaning::Status(0)),
-        Said(&["dexasm", "-h"], Meaning::Status(0)),
-        Said(&["dexasm", "check", "--help"], Meaning::Status(0)),
-        Said(&["dexasm", "assemble", "a.txt", "-h"], Meaning::Status(0)),
-        Said(&["dexasm"], Meaning::Status(2)),
-        Said(&[], Meaning::Status(2)),
-        Said(&["dexasm", "help"], Meaning::Status(2)),
-        Said(&["dexasm", "dump"], Meaning::Status(2)),
-        Said(&["dexasm", "--align", "assemble"], Meaning::Status(2)),
-        Said(&["dexasm", "check", "--align"], Meaning::Status(2)),
-        Said(&["dexasm", "list", "--align"], Meaning::Status(2)),
-        Said(&["dexasm", "strip", "--align"], Meaning::Status(2)),
-        Said(&["dexasm", "assemble", "--align=true"], Meaning::Status(2)),
-        Said(&["dexasm", "check", "a.dex", "b.dex"], Meaning::Status(2)),
-        Said(&["dexasm", "list", "--output"], Meaning::Status(2)),
+        PlanCase(&["dexasm", "--help"], Meaning::Status(0)),
+        PlanCase(&["dexasm", "-h"], Meaning::Status(0)),
+        PlanCase(&["dexasm", "check", "--help"], Meaning::Status(0)),
+        PlanCase(&["dexasm", "assemble", "a.txt", "-h"], Meaning::Status(0)),
+        PlanCase(&["dexasm"], Meaning::Status(2)),
+        PlanCase(&[], Meaning::Status(2)),
+        PlanCase(&["dexasm", "help"], Meaning::Status(2)),
+        PlanCase(&["dexasm", "dump"], Meaning::Status(2)),
+        PlanCase(&["dexasm", "--align", "assemble"], Meaning::Status(2)),
+        PlanCase(&["dexasm", "check", "--align"], Meaning::Status(2)),
+        PlanCase(&["dexasm", "list", "--align"], Meaning::Status(2)),
+        PlanCase(&["dexasm", "strip", "--align"], Meaning::Status(2)),
+        PlanCase(&["dexasm", "assemble", "--align=true"], Meaning::Status(2)),
+        PlanCase(&["dexasm", "check", "a.dex", "b.dex"], Meaning::Status(2)),
+        PlanCase(&["dexasm", "list", "--output"], Meaning::Status(2)),
     ];
     all_hold(rt.alloc(), &CASES)
 }

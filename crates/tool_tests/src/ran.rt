@@ -35,7 +35,7 @@ pub const SOUND: End = End(usize::MAX, usize::MAX, false);
 
 /// What is told of a run.
 #[derive(Clone, Copy)]
-pub enum Told {
+pub enum Outcome {
     /// It has read to the end, and has written this.
     Answered(Given),
     /// The fault and its place; nothing is written.
@@ -48,7 +48,7 @@ pub enum Told {
 
 /// A run: the job, what it is given and by which reader, by which writer it writes, what is told.
 #[derive(Clone, Copy)]
-pub struct Run(pub Job, pub Input, pub End, pub End, pub Told);
+pub struct Run(pub Job, pub Input, pub End, pub End, pub Outcome);
 
 /// A name for the case, and the run.
 pub struct Ran(pub &'static str, pub Run);
@@ -128,7 +128,7 @@ fn is_run_so(alloc: Global, given: &[u8], case: &Run) -> bool {
         writer_failed: Sink::failed(&output),
         left: input.into_inner().rest.len(),
     };
-    is_told_so(done, &seen, output.into_inner().held.as_slice(), case.4)
+    has_outcome(done, &seen, output.into_inner().held.as_slice(), case.4)
 }
 
 /// What is seen of the ends after a run.
@@ -140,18 +140,18 @@ struct Seen {
     left: usize,
 }
 
-fn is_told_so(done: Result<(), RunFault>, seen: &Seen, held: &[u8], told: Told) -> bool {
-    match (done, told) {
-        (Ok(()), Told::Answered(want)) => {
+fn has_outcome(done: Result<(), RunFault>, seen: &Seen, held: &[u8], message: Outcome) -> bool {
+    match (done, message) {
+        (Ok(()), Outcome::Answered(want)) => {
             seen.has_ended && !seen.reader_failed && held == bytes_of(want)
         }
-        (Err(RunFault::Refused(fault)), Told::Refused(code, place)) => {
+        (Err(RunFault::Refused(fault)), Outcome::Refused(code, place)) => {
             fault.code == code && fault.place == place && held.is_empty() && !seen.writer_failed
         }
-        (Err(RunFault::Input), Told::Reader(left)) => {
+        (Err(RunFault::Input), Outcome::Reader(left)) => {
             seen.reader_failed && seen.left == left && held.is_empty()
         }
-        (Err(RunFault::Output), Told::Writer(want, count)) => {
+        (Err(RunFault::Output), Outcome::Writer(want, count)) => {
             seen.writer_failed && held.len() == count && held == front(bytes_of(want), count)
         }
         _ => false,

@@ -1,7 +1,7 @@
 //! Runs of a job to their end: answers, refusals, and what is told of them.
 
 use crate::given::Given;
-use crate::ran::{End, Input, Ran, Run, SOUND, Told};
+use crate::ran::{End, Input, Outcome, Ran, Run, SOUND};
 use dex_base::{Fault, fault};
 use dex_samples::{Case, WITHOUT_CLASSES, all_hold};
 use dexasm_command::{Job, Line, RunFault, Sink, Source, Watched, line_text, run, status};
@@ -19,28 +19,28 @@ fn check_reads_the_whole_file_and_answers(rt: HostRuntime) -> Result<(), Fail> {
     static CASES: [Ran; 8] = [
         Ran(
             "check answers ok",
-            Run(Job::Check, Input::Given(Given::EmptyFile), EACH_THOUSAND, EACH_THOUSAND, Told::Answered(Given::Okay)),
+            Run(Job::Check, Input::Given(Given::EmptyFile), EACH_THOUSAND, EACH_THOUSAND, Outcome::Answered(Given::Okay)),
         ),
         Ran(
             "bytes come and go one at a time",
-            Run(Job::Check, Input::Given(Given::EmptyFile), EACH_BYTE, EACH_BYTE, Told::Answered(Given::Okay)),
+            Run(Job::Check, Input::Given(Given::EmptyFile), EACH_BYTE, EACH_BYTE, Outcome::Answered(Given::Okay)),
         ),
         Ran(
             "a changed byte",
-            Run(Job::Check, Input::Changed(Given::EmptyFile, 139, 1), SOUND, SOUND, Told::Refused(8, 8)),
+            Run(Job::Check, Input::Changed(Given::EmptyFile, 139, 1), SOUND, SOUND, Outcome::Refused(8, 8)),
         ),
         // The row of the one method is given to the class `Ljava/lang/Object;`.
         Ran(
             "a file that breaks a rule",
-            Run(Job::Check, Input::Closed(Given::File, 152, 1), SOUND, SOUND, Told::Refused(46, 160)),
+            Run(Job::Check, Input::Closed(Given::File, 152, 1), SOUND, SOUND, Outcome::Refused(46, 160)),
         ),
-        Ran("no file at all", Run(Job::Check, Input::Given(Given::Nothing), SOUND, SOUND, Told::Refused(1, 0))),
-        Ran("a file of many pieces", Run(Job::Check, Input::Long, SOUND, SOUND, Told::Answered(Given::Okay))),
+        Ran("no file at all", Run(Job::Check, Input::Given(Given::Nothing), SOUND, SOUND, Outcome::Refused(1, 0))),
+        Ran("a file of many pieces", Run(Job::Check, Input::Long, SOUND, SOUND, Outcome::Answered(Given::Okay))),
         Ran(
             "pieces that are not full",
-            Run(Job::Check, Input::Long, End(50_000, usize::MAX, false), End(50_000, usize::MAX, false), Told::Answered(Given::Okay)),
+            Run(Job::Check, Input::Long, End(50_000, usize::MAX, false), End(50_000, usize::MAX, false), Outcome::Answered(Given::Okay)),
         ),
-        Ran("the last byte of many pieces", Run(Job::Check, Input::LongChanged, SOUND, SOUND, Told::Refused(8, 8))),
+        Ran("the last byte of many pieces", Run(Job::Check, Input::LongChanged, SOUND, SOUND, Outcome::Refused(8, 8))),
     ];
     all_hold(rt.alloc(), &CASES)
 }
@@ -74,7 +74,7 @@ fn is_full() -> bool {
 enum Ends {
     SliceAndVector,
     EmptyPiece,
-    NoRoom,
+    NoSpace,
 }
 
 impl Case for Ends {
@@ -82,7 +82,7 @@ impl Case for Ends {
         match self {
             Ends::SliceAndVector => "a slice and a vector are ends",
             Ends::EmptyPiece => "an empty piece does not end a source",
-            Ends::NoRoom => "a sink that takes no byte has failed",
+            Ends::NoSpace => "a sink that takes no byte has failed",
         }
     }
 
@@ -90,14 +90,14 @@ impl Case for Ends {
         Ok(match self {
             Ends::SliceAndVector => is_answered_at_once(alloc, &WITHOUT_CLASSES),
             Ends::EmptyPiece => is_no_end(),
-            Ends::NoRoom => is_full(),
+            Ends::NoSpace => is_full(),
         })
     }
 }
 
 #[test]
-fn ends_end_and_fail_as_they_tell(rt: HostRuntime) -> Result<(), Fail> {
-    static CASES: [Ends; 3] = [Ends::SliceAndVector, Ends::EmptyPiece, Ends::NoRoom];
+fn ends_end_and_fail_as_they_report(rt: HostRuntime) -> Result<(), Fail> {
+    static CASES: [Ends; 3] = [Ends::SliceAndVector, Ends::EmptyPiece, Ends::NoSpace];
     all_hold(rt.alloc(), &CASES)
 }
 

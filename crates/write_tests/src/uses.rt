@@ -9,7 +9,7 @@ use std::test::Fail;
 
 #[rattlefmt::skip]
 #[test]
-fn items_of_several_uses_are_looked_at_as_each_use_asks(rt: HostRuntime) -> Result<(), Fail> {
+fn items_of_several_uses_are_checked_as_each_use_requires(rt: HostRuntime) -> Result<(), Fail> {
     static CASES: [Left; 7] = [
         Left("two equal bodies", TwoItems(&[]), OneItem(412)),
         Left("a broken body that nothing uses", TwoItems(&[(0xe2, &[2]), (0x11e, &[0xcc])]), OneItem(412)),

@@ -1,4 +1,4 @@
--- What a handler in memory says.
+-- A handler in memory, as its content.
 use Rattle.std.specs.Prelude.{map}
 use Rattle.program_types.specs.View.{catch}
 use Rattle.code_read.specs.Handlers.{Handler}

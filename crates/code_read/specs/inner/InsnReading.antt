@@ -1,4 +1,4 @@
--- What the private functions that read instructions say.
+-- Instructions that are read: what the contracts of private functions cite.
 use Rattle.std.specs.Prelude.{ℕ, ◌≡◌, ◌<◌, List, length, None, IfNone, IfSome}
 use Rattle.dex_insn.specs.Raw.{Raw}
 use Rattle.program_types.specs.Content.{Name, Insn}
@@ -7,14 +7,14 @@ use Rattle.code_rules.specs.First.{AllHold}
 use Rattle.code_read.specs.Registers.{AmongAt, IsPast}
 use Rattle.code_read.specs.Walk.{starts, raw_at, address}
 use Rattle.code_read.specs.inner.Walk.{IsTable}
-use Rattle.code_read.specs.Symbols.{Says}
-use Rattle.code_read.specs.Linked.{lead, payload_of, SpellsInsns}
+use Rattle.code_read.specs.Symbols.{Resolves}
+use Rattle.code_read.specs.Linked.{target_number, payload_of, SpellsInsns}
 use Rattle.code_read.specs.declared.insns.Insns.{Insns}
 
 -- The raw instruction at this address, linked: of a payload its kind alone is right.
 pub record IsHalfLinked (N : ℕ → Name → Type 0) (ss : List ℕ) (at : ℕ) (r : Raw) (i : Insn) : Type 0 where
   pub kind : insn_payload i ≡ payload_of r
-  pub says : payload_of r ≡ None → Says N (lead ss at) r i
+  pub resolves : payload_of r ≡ None → Resolves N (target_number ss at) r i
 
 -- All of them are.
 pub record AreHalfLinked (N : ℕ → Name → Type 0) (rs : List Raw) (is : List Insn) : Type 0 where

@@ -1,4 +1,4 @@
--- What checking says of a code item.
+-- The result of checking a code item.
 use Rattle.std.specs.Prelude.{ℕ, ◌≡◌, List, Option, IfNone, IfSome}
 use Rattle.dex_base.specs.Grammar.{Takes}
 use Rattle.dex_base.specs.declared.fault.Fault.{Fault}

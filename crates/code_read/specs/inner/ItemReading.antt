@@ -1,4 +1,4 @@
--- What the private functions that read the fixed parts, tries and handlers say.
+-- The fixed parts, tries and handlers: what the contracts of private functions cite.
 use Rattle.std.specs.Prelude.{ℕ, ◌≡◌, ◌<◌, ◌++◌, ◌+◌, List, length, drop, map, Some, None, slice_get}
 use Rattle.program_types.specs.Content.{Name, Try}
 use Rattle.code_read.specs.Places.{position, count_below}

@@ -4,7 +4,7 @@ use Rattle.program_types.specs.Content.{Insn}
 use Rattle.program_types.specs.Formed.{insn_branch, insn_short_branch}
 use Rattle.code_rules.specs.Branches.{IsOrigin}
 
--- A branch leads to one of `count` instructions, and one that may not lead to itself, number k, leads elsewhere.
+-- A branch targets one of `count` instructions, and one that must not target itself, number k, targets another.
 pub record BranchStays (count k : ℕ) (i : Insn) : Type 0 where
   pub inside : IfSome (insn_branch i) (λ to. to < count)
   pub moves : IfSome (insn_short_branch i) (λ to. to ≢ k)

@@ -5,7 +5,7 @@ use Rattle.code_rules.specs.declared.rule.CodeRule.{CodeRule}
 use Rattle.code_rules.specs.declared.rule.CodeRule.TheVariants as rule
 use Rattle.code_rules.specs.CodeRules.{OperandsHold, PayloadsHold, TargetsHold, TriesHold}
 
--- What a rule asks of a code.
+-- What a rule requires of a code.
 abbrev pub KeepsRule : CodeRule → Code → Type 0
 KeepsRule rule.Operand c = OperandsHold c
 KeepsRule rule.Target c = TargetsHold c

@@ -1,4 +1,4 @@
--- What the private functions say of one key, one payload or one try.
+-- One key, one payload or one try: what the contracts of private functions cite.
 use Rattle.std.specs.Prelude.{◌≡◌, ◌≢◌, ◌<◌, ◌≤◌, ◌+◌, ◌<ℤ◌, ℕ, ℤ, pos, List, [], slice_index_or, None, IfSome, IfNone}
 use Rattle.std.specs.List.{AllByRecursion}
 use Rattle.program_types.specs.Content.{Insn, Try}

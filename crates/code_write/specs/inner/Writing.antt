@@ -1,4 +1,4 @@
--- What the private functions of writing say.
+-- Writing: what the contracts of private functions cite.
 use Rattle.std.specs.Prelude.{ℕ, ◌≡◌, ◌+◌, ◌≤◌, ◌<◌, ◌++◌, List, [], ◌∷◌, length, take, ◌*◌, slice_index, slice_get, Some, ◌⊎◌}
 use Rattle.std.specs.List.{AllZip, AllByRecursion, flat_map}
 use Rattle.dex_base.specs.Leb128.{Spells, Shortest}

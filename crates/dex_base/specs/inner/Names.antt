@@ -1,4 +1,4 @@
--- What the private functions of names, descriptors and MUTF-8 say, unit by unit.
+-- Names, descriptors and MUTF-8, unit by unit: what the contracts of private functions cite.
 use Rattle.std.specs.Prelude.{◌≡◌, ◌≢◌, ℕ, ◌+◌, ◌-◌, ◌/◌, ◌%◌, ◌<◌, ◌≤◌, ◌⊎◌, List, ◌++◌, length, take, drop, replicate, slice_index, codes}
 use Rattle.dex_base.specs.Grammar.{Begins, NoneBegins, Each}
 use Rattle.dex_base.specs.Descriptor.{IsNamePoint, point_units, IsClassName}

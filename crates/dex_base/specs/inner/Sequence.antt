@@ -1,4 +1,4 @@
--- What the private functions of LEB128 say.
+-- LEB128: what the contracts of private functions cite.
 use Rattle.std.specs.Prelude.{◌≡◌, ◌⊎◌, ℤ, pos, ◌+ℤ◌, ◌≤ℤ◌, ◌<ℤ◌, ℕ, ◌+◌, ◌-◌, ◌*◌, ◌/◌, ◌%◌, ◌^◌, ◌<◌, ◌≤◌, zero, suc, List, [], ◌∷◌, ◌++◌, length, take}
 use Rattle.dex_base.specs.Leb128.{IsSequence, low_first}
 

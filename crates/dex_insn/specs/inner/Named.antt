@@ -1,4 +1,4 @@
--- Where the opcode of a mnemonic is looked up.
+-- The table in which the opcode of a mnemonic is found.
 use Rattle.std.specs.Prelude.{ℕ, ◌+◌, ◌-◌, ◌*◌, ◌/◌, ◌%◌, ◌^◌, List, length, slice_index, nat_lt, if◌then◌else◌}
 use Rattle.dex_base.specs.Fields.{u32_at}
 use Rattle.dex_insn.specs.declared.named.TheConstants.{SHIFTS, SLOTS}

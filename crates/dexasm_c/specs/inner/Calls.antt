@@ -5,10 +5,10 @@ use Rattle.dex_base.specs.declared.fault.Fault.{Fault}
 use Rattle.dexasm_c.specs.declared.ending.CFault.{CFault}
 use Rattle.dexasm_c.specs.declared.ending.Ending.{Ending}
 use Rattle.dexasm_c.specs.declared.ending.Ending.TheVariants.{Refused, Memory}
-use Rattle.dexasm_c.specs.Calls.{told}
+use Rattle.dexasm_c.specs.Calls.{as_fault}
 
--- A fault is told: out of memory, or another one.
-abbrev pub Tells : Ending → Fault → CFault → Type 0
-Tells Refused fault tells = (fault.code ≢ 255) × (told tells ≡ fault)
-Tells Memory fault tells = (fault.code ≡ 255) × (told tells ≡ memory)
-Tells _ fault tells = ⊥
+-- A fault is reported: out of memory, or another one.
+abbrev pub Reports : Ending → Fault → CFault → Type 0
+Reports Refused fault c_fault = (fault.code ≢ 255) × (as_fault c_fault ≡ fault)
+Reports Memory fault c_fault = (fault.code ≡ 255) × (as_fault c_fault ≡ memory)
+Reports _ fault c_fault = ⊥

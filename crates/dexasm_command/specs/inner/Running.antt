@@ -10,7 +10,7 @@ use Rattle.dexasm_run.specs.declared.error.RunFault.{RunFault}
 use Rattle.dexasm_run.specs.declared.error.RunFault.TheVariants.{Refused, Input, Output, Memory}
 use Rattle.dexasm_world.specs.State.{Path, Files}
 use Rattle.dexasm_command.specs.inner.Carried.{HandsOver}
-use Rattle.dexasm_world.specs.Looks.{IsHeld, CantBeRead}
+use Rattle.dexasm_world.specs.FileKinds.{IsHeld, CantBeRead}
 use Rattle.dexasm_world.specs.declared.world.Refusal.{Refusal}
 use Rattle.dexasm_world.specs.declared.world.Refusal.TheVariants.{Memory as NoMemory}
 

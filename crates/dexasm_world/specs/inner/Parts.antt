@@ -1,4 +1,4 @@
--- The steps of an answer on its way to OUT.
+-- The steps of a result on its way to OUT.
 use Rattle.std.specs.Prelude.{◌≡◌, ◌≢◌, ◌⊎◌, ◌<◌, ℕ, Bool, true, List, ◌++◌, Option, Some, None, IsSome, IfSome, Result, Ok, Err}
 use Rattle.std.specs.Option.{IsSomeAnd}
 use Rattle.dexasm_world.specs.State.{Path, FileState, Files, IsThere, place_of}

@@ -20,7 +20,7 @@ pub record MembersHold (b : List ℕ) (class : Units) (e : Entries) : Type 0 whe
   pub directs : MethodEntriesHold b class e.directs
   pub virtuals : MethodEntriesHold b class e.virtuals
 
--- Each of these rules is kept, asked alone.
+-- Each of these rules is kept, checked alone.
 pub record ClassRowKeeps (b : List ℕ) (i : ℕ) : Type 0 where
   pub names : NamesAreIn b i
   pub class : (t : Units) → TypeStands b (class_idx b i) t → IsClass t

@@ -1,4 +1,4 @@
--- What the private functions of reading say.
+-- Reading: what the contracts of private functions cite.
 use Rattle.std.specs.Prelude.{◌≡◌, ◌≢◌, ℕ, ◌<◌, List, [], length, map, option_map, Option, Some, None, IfSome, IfNone}
 use Rattle.std.specs.List.{slice_get}
 use Rattle.dex_base.specs.FirstFault.{or_else, FirstEntry}
@@ -22,7 +22,7 @@ use Rattle.file_classes.specs.ClassRows.{static_values_off}
 use Rattle.file_classes.specs.Classes.{IsField, IsMethod, HeadIs, StaticsAt}
 use Rattle.file_classes.specs.ClassFaults.{EntriesBreak, MembersBreak, ValuesStand, BodyAt, BodyHolds, CodeHolds, RegistersFail}
 
--- what entries in memory say
+-- entries in memory, as their content
 abbrev pub field_entry : FieldEntry → numbers.FieldEntry
 field_entry e = (e.step, e.flags)
 
@@ -47,7 +47,7 @@ entries e = record {
 abbrev pub with_code : Bare → Option content.Code → content.Method
 with_code m o = record { name = str m.method.now.name; proto = proto m.method.now.proto.now; flags = m.flags; code = o }
 
--- a method before its code is looked at
+-- a method before its code is read
 abbrev pub bare : Bare → content.Method
 bare m = with_code m None
 
@@ -56,7 +56,7 @@ pub record IsBare (b : List ℕ) (class : content.Units) (index : ℕ) (e : numb
   pub method : IsMethod b class index e (bare m)
   pub code : m.code ≡ e.1.1
 
--- a class before its static values and its code are looked at
+-- a class before its static values and its code are read
 abbrev pub head : Head → content.Class
 head h = record {
   ty = desc h.ty;

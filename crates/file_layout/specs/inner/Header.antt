@@ -8,7 +8,7 @@ use Rattle.dex_container.specs.inner.Section as inner_section
 use Rattle.file_layout.specs.declared.plan.Rows.{Rows}
 use Rattle.file_layout.specs.inner.Plan.{type_ids_begin, proto_ids_begin, field_ids_begin, method_ids_begin, class_defs_begin, tables_end, table_offset}
 
--- The header says this, of so many rows and a map at this place. A table without rows has the offset 0.
+-- The header of a file with so many rows and the map at this place. A table without rows has the offset 0.
 pub record HasHeader (b : List ℕ) (r : Rows) (map : ℕ) : Type 0 where
   pub file_size : u32_at b 32 ≡ length b
   pub header_size : u32_at b 36 ≡ 112

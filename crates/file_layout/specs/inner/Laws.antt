@@ -1,4 +1,4 @@
--- What holds of items that are laid one after the other, said of 4-aligned items that are the bytes of their values.
+-- What holds of items that are laid one after the other, for 4-aligned items that are the bytes of their values.
 -- Page: "Dalvik Executable format", "alignment" of each item.
 use Rattle.std.specs.Prelude.{ℕ, ◌<◌, ◌++◌, List, [], ◌∷◌, length}
 use Rattle.std.specs.List.{AllZip}

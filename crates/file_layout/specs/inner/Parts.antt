@@ -10,7 +10,7 @@ pub record SectionReaches (b : List ℕ) (kind begin end : ℕ) : Type 0 where
   pub section : IsSection b kind begin last
   pub reaches : end ≤ last
 
--- The map says of the kind how many items the part has; with items the part stands in the section of the kind, at its
+-- The map has for the kind the number of items of the part; with items the part is in the section of the kind, at its
 -- front.
 pub record HasPart (b : List ℕ) (kind : ℕ) (p : Part) : Type 0 where
   pub counted : (i : ℕ) → i < entry_count b → kind_at b i ≡ kind → items_at b i ≡ p.items

@@ -1,4 +1,4 @@
--- What the private functions say that look for the lowest limit.
+-- The search for the lowest limit: what the contracts of private functions cite.
 use Rattle.std.specs.Prelude.{◌≡◌, ℕ, ◌≤◌, List, ◌==◌, min, nat_le, if◌then◌else◌, Option, Some, None, IfNone, IfSome}
 use Rattle.std.specs.List.{AllByRecursion, slice_get}
 use Rattle.dex_base.specs.declared.fault.Fault.{Fault}

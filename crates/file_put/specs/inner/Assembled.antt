@@ -1,4 +1,4 @@
--- The parts of a written file, before one looks at it as a whole.
+-- The parts of a written file, one by one.
 -- Page: "Dalvik Executable format", "File layout".
 use Rattle.std.specs.Prelude.{◌≡◌, ℕ, ◌+◌, ◌≤◌, List, ◌++◌, length, take, drop}
 use Rattle.dex_base.specs.Mutf8.{PacksText}

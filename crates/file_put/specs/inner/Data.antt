@@ -30,7 +30,7 @@ has_no_members v = is_empty_list v.class.statics && is_empty_list v.class.instan
 abbrev pub wide_with_codes : ClassWithCodes → ℕ
 wide_with_codes v = wide_data v.class
 
--- The entry with this index is this field of the class, where N says which index stands for which name.
+-- The entry with this index is this field of the class, where N relates an index to its name.
 pub record FieldRanks (N : ℕ → Name → Type 0) (class : Descriptor) (index : ℕ) (e : FieldEntry) (m : Member) : Type 0 where
   pub field : N index (OfField (record { class = class; name = m.name; ty = m.ty }))
   pub flags : m.flags ≡ field_flags e

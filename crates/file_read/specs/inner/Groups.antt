@@ -29,5 +29,5 @@ turn Codes = 8
 turn Registers = 9
 
 -- The one group is checked before the other.
-abbrev pub IsAskedBefore : Group → Group → Type 0
-IsAskedBefore h g = turn h < turn g
+abbrev pub IsCheckedBefore : Group → Group → Type 0
+IsCheckedBefore h g = turn h < turn g

@@ -1,4 +1,4 @@
--- What the private functions say of the parts of a code item.
+-- The parts of a code item: what the contracts of private functions cite.
 use Rattle.std.specs.Prelude.{ℕ, ◌≡◌, List, length, map, Some}
 use Rattle.dex_insn.specs.Raw.{Raw}
 use Rattle.program_types.specs.Content.{Name, OfDesc, Catch, Code}

@@ -27,7 +27,7 @@ renumbered numbers r = r
 -- Row i of the table that an instruction with this opcode names has a number.
 pub record HasNumber (numbers : Columns) (op i : ℕ) : Type 0 where
   pub table : IndexKind
-  pub asked : index_kind_of op ≡ Some table
+  pub index_kind : index_kind_of op ≡ Some table
   pub within : i < length (column_of numbers table)
 
 -- Row i of the table that an instruction with this opcode names has a number of 16 bits.

@@ -1,4 +1,4 @@
--- What the private functions of handlers and tries say.
+-- Handlers and tries: what the contracts of private functions cite.
 use Rattle.std.specs.Prelude.{ℕ, ◌≡◌, ◌+◌, ◌-◌, ◌<◌, ◌⊎◌, List, drop, set, length, slice_index, slice_get, Some}
 use Rattle.std.specs.List.{AllByRecursion}
 use Rattle.dex_base.specs.Grammar.{Takes}

@@ -1,4 +1,4 @@
--- What the private functions that walk over values say.
+-- Walks over values: what the contracts of private functions cite.
 use Rattle.std.specs.Prelude.{◌≡◌, ℕ, ◌<◌, ◌≤◌, List, length}
 use Rattle.std.specs.List.{flat_map}
 use Rattle.dex_base.specs.Grammar.{Takes, Many}

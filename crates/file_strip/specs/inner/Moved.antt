@@ -1,4 +1,4 @@
--- Items of a file that are written anew in another: what stood at one offset is written once.
+-- Items of a file that are written again in another: an item at one offset is written once.
 -- Page: "Dalvik Executable format": items that several rows refer to.
 use Rattle.std.specs.Prelude.{◌≡◌, ℕ, ◌<◌, Bool, List, [], length, MatchBool}
 use Rattle.std.specs.HashMap.{HashMap}

@@ -1,4 +1,4 @@
--- What is asked of a file whose program is written by the numbers of its kept rows.
+-- The conditions on a file whose program is written by the numbers of its kept rows.
 -- Page: "Dalvik Executable format", "header_item": type_ids_size and proto_ids_size are at most 65535, file_size has four bytes.
 use Rattle.std.specs.Prelude.{ℕ, ◌≤◌, List, length}
 use Rattle.program_types.specs.Content.{Program}

@@ -3,7 +3,7 @@ use Rattle.std.specs.Prelude.{ℕ, ◌+◌, if◌then◌else◌, List, [], ◌�
 use Rattle.listing_lines.specs.Splitting.{is_skipped}
 use Rattle.listing_lines.specs.Labels.{first_word, is_mark, is_stop}
 
--- How many instructions stand in these lines, up to the instructions' end.
+-- The number of instructions in these lines, up to the instructions' end.
 unfoldable pub insns_ahead : List (List ℕ) → ℕ
 insns_ahead [] = 0
 insns_ahead (l ∷ ls) =

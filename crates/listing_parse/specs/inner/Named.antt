@@ -28,7 +28,7 @@ pub record StateIsNamed (s : State) : Type 0 where
   pub done : AllByRecursion (CodesHold InsnsAreNamed) s.done
   pub block : BlockIsNamed s.block
 
--- It can, if it can have all names that the words said.
+-- It can, if it can have all names that were read.
 abbrev pub ReadingIsNamed : Spellings → Reading → Type 0
 ReadingIsNamed known r = IsTrue known.valid → StateIsNamed r.base
 

@@ -5,7 +5,7 @@ use Rattle.listing_parse.specs.States.{State}
 use Rattle.listing_parse.specs.Text.{Reading, Reads}
 use Rattle.listing_parse.specs.Codes.{Numbered}
 use Rattle.listing_parse.specs.inner.Runs.{at_line, Runs}
-use Rattle.listing_parse.specs.Texts.{outside, SayLines}
+use Rattle.listing_parse.specs.Texts.{outside, LinesText}
 
 -- A text of this form was read to this state.
 abbrev pub outside_codes : Form → State → Reading
@@ -16,8 +16,8 @@ abbrev pub AreRead : Form → State → List (List ℕ) → State → Type 0
 AreRead form s ls t =
     (n : ℕ) × Reads (outside_codes form s) ls [] (outside_codes form (at_line t n))
 
--- In a text of this form these say lines of a program, which lead from s to t.
-pub record SayRun (form : Form) (s : State) (ls : List (List ℕ)) (t : State) : Type 0 where
-  pub lines_said : List Numbered
-  pub say : SayLines form outside s.lines ls lines_said
-  pub run : Runs s lines_said t
+-- In a text of this form these are the text of lines of a program, which make t of s.
+pub record RunText (form : Form) (s : State) (ls : List (List ℕ)) (t : State) : Type 0 where
+  pub program_lines : List Numbered
+  pub lines_text : LinesText form outside s.lines ls program_lines
+  pub run : Runs s program_lines t

@@ -8,10 +8,10 @@ use Rattle.listing_lines.specs.declared.stage.Stage.{Stage}
 use Rattle.listing_lines.specs.Needs.{earliest}
 use Rattle.listing_parse.specs.States.{Open, Owner, at_members, after_method, Block, at_top, in_class, in_code, State, stage_of, with_code_at, with_block, add}
 use Rattle.listing_parse.specs.Classes.{ClassText, ClassesText}
-use Rattle.listing_parse.specs.Codes.{Numbered, said, code_lines}
+use Rattle.listing_parse.specs.Codes.{Numbered, unnumbered, code_lines}
 use Rattle.listing_parse.specs.inner.Codes.{late_line}
 
--- The line may stand there, as lines of its kind may.
+-- The line is allowed there, as lines of its kind are.
 abbrev pub line_stands : Stage → Line → Bool
 line_stands s first_line = is_start s
 line_stands s (open_class d f) = is_top s
@@ -34,12 +34,12 @@ line_stands s (catch_all_line k) = is_caught s
 abbrev pub at_line : State → ℕ → State
 at_line s n = record s { lines = n }
 
--- The line of this number may stand there, and makes t of s.
+-- The line of this number is allowed there, and makes t of s.
 pub record Steps (s : State) (number : ℕ) (l : Line) (t : State) : Type 0 where
   pub stands : line_stands (stage_of s.block) l ≡ true
   pub added : add (at_line s number) l ≡ Some t
 
--- The lines, one after the other, make t of s; lines that say nothing may stand between them, and count.
+-- The lines, one after the other, make t of s; ignored lines may be between them, and count.
 abbrev pub Runs : State → List Numbered → State → Type 0
 Runs s [] t = t ≡ at_line s t.lines
 Runs s ((number, l) ∷ ls) t = (u : State) × Steps s number l u × Runs u ls t
@@ -55,13 +55,13 @@ is_outside _ = true
 abbrev pub with_class : State → Class → State
 with_class s c = record s { done = s.done ++ c ∷ []; block = at_top }
 
--- The lines are the text of a class, and lines after it, which lead on to t from where the class is whole.
+-- The lines are the text of a class, and lines after it, which reach t from the state in which the class is whole.
 pub record RunsBehindClass (s : State) (ls : List Numbered) (t : State) : Type 0 where
   pub class : Class
   pub text : List Numbered
   pub after : List Numbered
   pub split : ls ≡ text ++ after
-  pub is_text : ClassText (said text) class
+  pub is_text : ClassText (unnumbered text) class
   pub runs : Runs (with_class s class) after t
 
 -- These classes more are whole, none is open, and so many lines were read.
@@ -71,7 +71,7 @@ with_classes s p n = record s { done = s.done ++ p; block = at_top; lines = n }
 -- The lines are the texts of classes, which are whole in t.
 pub record RunsToClasses (s : State) (ls : List Numbered) (t : State) : Type 0 where
   pub classes : Program
-  pub are_texts : ClassesText (said ls) classes
+  pub are_texts : ClassesText (unnumbered ls) classes
   pub whole : t ≡ with_classes s classes t.lines
 
 -- ---- a code after its method
@@ -84,11 +84,11 @@ after_its_method s o m = with_block s (in_class o (after_method m))
 abbrev pub with_its_code : State → Open → Owner → Code → Option ℕ → State
 with_its_code s o m c late = record s { block = in_class (with_code_at o m c) at_members; late = earliest s.late late }
 
--- The lines are the text of a code, and lines after it, which lead on to t from where the method has the code.
+-- The lines are the text of a code, and lines after it, which reach t from the state in which the method has the code.
 pub record RunsBehindCode (s : State) (o : Open) (m : Owner) (ls : List Numbered) (t : State) : Type 0 where
   pub code : Code
   pub text : List Numbered
   pub after : List Numbered
   pub split : ls ≡ text ++ after
-  pub is_text : said text ≡ code_lines code
+  pub is_text : unnumbered text ≡ code_lines code
   pub runs : Runs (with_its_code s o m code (late_line (length code.insns) text)) after t

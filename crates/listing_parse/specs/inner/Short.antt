@@ -1,4 +1,4 @@
--- An instruction's line, read from its front to its end: what private functions say of it.
+-- An instruction's line, read from its front to its end: what the contracts of private functions cite.
 -- Page: docs/LISTING.md, "Lines and words", "What a word can be", "Labels"; "Dalvik Executable instruction formats",
 -- "The formats".
 use Rattle.std.specs.Prelude.{◌≡◌, ℕ, ℤ, ◌≤◌, ◌-◌, true, List, [], ◌∷◌, ◌++◌, length, map, replicate, Some}
@@ -43,17 +43,17 @@ pub record EndsInInteger (most : ℕ) (text : List ℕ) (z : ℤ) : Type 0 where
   pub taken : TakesPlain (after_spaces text) spelled_by []
   pub number : SpellsInteger most (plain_word spelled_by) z
 
--- A word of the slot's form, which says this there.
-pub record TakesSaid (es : List Label) (s : Slot) (text : List ℕ) (d : Datum) (rest : List ℕ) : Type 0 where
+-- A word of the slot's form, with its value there.
+pub record TakesOperand (es : List Label) (s : Slot) (text : List ℕ) (d : Datum) (rest : List ℕ) : Type 0 where
   pub spelled_by : Word
   pub taken : TakesWord text spelled_by rest
   pub form : has_form s spelled_by ≡ true
-  pub says : SpellsHere es s spelled_by d
+  pub word_values : SpellsHere es s spelled_by d
 
--- A word for each slot, which says this there.
+-- A word for each slot, with its value there.
 abbrev pub TakesEach : List Label → List Slot → List ℕ → List Datum → List ℕ → Type 0
 TakesEach es [] text [] rest = text ≡ rest
-TakesEach es (s ∷ ss) text (d ∷ ds) rest = (more : List ℕ) × TakesSaid es s text d more × TakesEach es ss more ds rest
+TakesEach es (s ∷ ss) text (d ∷ ds) rest = (more : List ℕ) × TakesOperand es s text d more × TakesEach es ss more ds rest
 TakesEach es _ text _ rest = ⊥
 
 -- Registers of four bits, five at most; what isn't given of the five is 0.
@@ -66,16 +66,16 @@ pub record TakesRegisters (text : List ℕ) (regs : List ℕ) (n : ℕ) (rest : 
 
 -- ---- instructions
 
--- The words of the text are the operands of an opcode of this format, and say this instruction.
-pub record SayInsn (es : List Label) (f : Format) (op : ℕ) (text : List ℕ) (i : Insn) : Type 0 where
+-- The words of the text are the operands of an opcode of this format, and the instruction has their values.
+pub record InsnText (es : List Label) (f : Format) (op : ℕ) (text : List ℕ) (i : Insn) : Type 0 where
   pub words : List Word
   pub has_words : HasWords text words
   pub forms : have_forms (plain_slots (Some f) (index_kind_of op) words) words ≡ true
-  pub says : List Datum
-  pub spelled : SpellsAll es (plain_slots (Some f) (index_kind_of op) words) words says
-  pub is : i ≡ insn_of (Some f) op says
+  pub word_values : List Datum
+  pub spelled : SpellsAll es (plain_slots (Some f) (index_kind_of op) words) words word_values
+  pub is : i ≡ insn_of (Some f) op word_values
 
--- In a listing of the second form, where an instruction may stand, the line is a mnemonic and what says this instruction.
+-- In a listing of the second form, where an instruction is allowed, the line is the mnemonic and the operands of this one.
 pub record IsShortLine (r : Reading) (line : List ℕ) (i : Insn) : Type 0 where
   pub second : r.form ≡ Two
   pub stands : is_insns (stage_of r.base.block) ≡ true
@@ -86,4 +86,4 @@ pub record IsShortLine (r : Reading) (line : List ℕ) (i : Insn) : Type 0 where
   pub taken : TakesPlain (after_spaces line) mnemonic rest
   pub named : IsNamed op mnemonic
   pub has_format : format_of op ≡ Some format
-  pub operands : SayInsn r.labels format op rest i
+  pub operands : InsnText r.labels format op rest i

@@ -16,21 +16,21 @@ use Rattle.listing_lines.specs.Lines.{Line, first_line, open_class, end_class, s
 use Rattle.listing_lines.specs.declared.form.Form.{Form}
 use Rattle.listing_print.specs.Operands.{Operand, name_operand, shown_in}
 
--- The slots of operands, what they say, and their words.
+-- The slots of operands, their values, and their words.
 abbrev pub slots_of : List Operand → List Slot
 slots_of os = map (λ (o : Operand). o.slot) os
 
--- What operands say.
+-- The values of operands.
 abbrev pub data_of : List Operand → List Datum
-data_of os = map (λ (o : Operand). o.says) os
+data_of os = map (λ (o : Operand). o.value) os
 
 -- The words of operands in a form, by which targets are written.
 abbrev pub words_in : Form → List Operand → List Word
-words_in form os = map (λ (o : Operand). shown_in form o.slot o.says) os
+words_in form os = map (λ (o : Operand). shown_in form o.slot o.value) os
 
 -- Each can be printed in its slot.
 abbrev pub FitOperands : List Operand → Type 0
-FitOperands os = AllByRecursion (λ (o : Operand). FitsSlot o.slot o.says) os
+FitOperands os = AllByRecursion (λ (o : Operand). FitsSlot o.slot o.value) os
 
 -- What a line is that begins with a keyword.
 abbrev pub line_kind : Line → Kind

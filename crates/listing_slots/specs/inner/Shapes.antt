@@ -12,7 +12,7 @@ depth_of (due.Value n) = n
 depth_of (due.Word s n) = n
 depth_of _ = 0
 
--- What a private helper says: after slots that are there already.
+-- The contract of a private helper: after slots that are there already.
 abbrev pub onto_row : List Slot → Option Row → Option Row
 onto_row done None = None
 onto_row done (Some r) = Some (r.0, done ++ r.1)

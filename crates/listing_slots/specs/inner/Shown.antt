@@ -8,7 +8,7 @@ use Rattle.listing_words.specs.Written.{proto_units, field_units, method_units}
 use Rattle.listing_slots.specs.declared.slot.Slot.{Slot}
 use Rattle.listing_slots.specs.declared.slot.Slot.TheVariants as slot
 use Rattle.listing_slots.specs.Slots.{IsSignedWithin}
-use Rattle.listing_slots.specs.Data.{Datum, byte, half, word, wide, tiny, short, int, long, elements, named, constant, prototype, said}
+use Rattle.listing_slots.specs.Data.{Datum, byte, half, word, wide, tiny, short, int, long, elements, named, constant, prototype, key_word}
 
 -- The parts of a prototype meet their grammars.
 pub record IsProto (p : Proto) : Type 0 where
@@ -52,5 +52,5 @@ FitsSlot slot.Field (named (OfField f)) = IsFieldRef f
 FitsSlot slot.Method (named (OfMethod m)) = IsMethodRef m
 FitsSlot slot.Enum (constant f) = IsFieldRef f
 FitsSlot slot.Proto (prototype p) = IsProto p
-FitsSlot (slot.Key k) (said l) = k ≡ l
+FitsSlot (slot.Key k) (key_word l) = k ≡ l
 FitsSlot _ _ = ⊥

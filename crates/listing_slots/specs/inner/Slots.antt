@@ -8,7 +8,7 @@ use Rattle.listing_slots.specs.declared.slot.Slot.{Slot}
 use Rattle.listing_slots.specs.declared.slot.Slot.TheVariants as slot
 use Rattle.listing_slots.specs.Data.{Datum, named, constant, prototype}
 
--- A signed number stands in the slot.
+-- The slot is one of signed numbers.
 abbrev pub is_signed_slot : Slot → Bool
 is_signed_slot slot.Nibble = true
 is_signed_slot slot.Tiny = true
@@ -17,7 +17,7 @@ is_signed_slot slot.Int = true
 is_signed_slot slot.Long = true
 is_signed_slot _ = false
 
--- A number stands in the slot.
+-- The slot is one of numbers.
 abbrev pub is_number_slot : Slot → Bool
 is_number_slot (slot.Byte m most) = true
 is_number_slot (slot.Half m most) = true
@@ -27,7 +27,7 @@ is_number_slot slot.Float = true
 is_number_slot slot.Double = true
 is_number_slot s = is_signed_slot s
 
--- What units say in a name's slot.
+-- The value of units in a name's slot.
 abbrev pub SpellsUnitsIn : Slot → List ℕ → Datum → Type 0
 SpellsUnitsIn slot.Member us d = IsMemberName us × (d ≡ named (OfText us))
 SpellsUnitsIn slot.Desc us d = IsDescriptor us × (d ≡ named (OfDesc us))

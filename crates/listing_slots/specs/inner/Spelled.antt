@@ -8,7 +8,7 @@ use Rattle.listing_slots.specs.inner.ValidNames.{IsValidDatum}
 use Rattle.listing_slots.specs.inner.View.{datum}
 use Rattle.listing_slots.specs.declared.spelled.Spelling.{Spelling}
 
--- The word in a bucket says its name in its slot.
+-- The word in a bucket has its name as its value in its slot.
 abbrev pub IsSpelled : Option Spelling → Type 0
 IsSpelled bucket = IfSome bucket (λ s. SpellsSlot s.slot (plain_word s.text.now) (datum s.name))
 
@@ -16,7 +16,7 @@ IsSpelled bucket = IfSome bucket (λ s. SpellsSlot s.slot (plain_word s.text.now
 abbrev pub IsValid : Option Spelling → Type 0
 IsValid bucket = IfSome bucket (λ s. IsValidDatum (datum s.name))
 
--- Each word in a bucket says its name in its slot, and where all names are valid a file can have it.
+-- Each word in a bucket has its name as its value in its slot, and if all names are valid a file can have it.
 pub record AreSpelled (valid : Bool) (buckets : List (Option Spelling)) : Type 0 where
   pub spelled : All IsSpelled buckets
   pub valid_names : IsTrue valid → All IsValid buckets

@@ -1,4 +1,4 @@
--- Whether a file can have the names that words say.
+-- Whether a file can have the names that are read.
 -- Page: docs/LISTING.md, "What a word can be"; "Dalvik Executable format", "String syntax".
 use Rattle.std.specs.Prelude.{ℕ, Bool, ⊤, List, IsTrue}
 use Rattle.std.specs.List.{AllByRecursion}
@@ -11,7 +11,7 @@ IsValidDatum (named n) = IsValidName n
 IsValidDatum (constant f) = IsValidField f
 IsValidDatum _ = ⊤
 
--- What is known of words that spelled names: how many can be held, and whether a file can have all names that they said.
+-- What is known of words that spelled names: how many can be held, and whether a file can have all names that were read.
 pub record Spellings : Type 0 where
   pub buckets : ℕ
   pub valid : Bool

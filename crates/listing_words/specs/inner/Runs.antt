@@ -1,4 +1,4 @@
--- What private functions say of the bytes at the front of a text that are of one kind.
+-- The bytes at the front of a text that are of one kind: what the contracts of private functions cite.
 use Rattle.std.specs.Prelude.{ℕ, ◌+◌, ◌-◌, ◌%◌, ◌<◌, ◌≤◌, ◌==◌, if◌then◌else◌, List, slice_index}
 use Rattle.std.specs.Int.{w64, trailing_zeros}
 

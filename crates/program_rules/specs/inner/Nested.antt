@@ -1,4 +1,4 @@
--- What the private functions say of the names in a value, part by part.
+-- The names in a value, part by part: what the contracts of private functions cite.
 use Rattle.std.specs.Prelude.{◌≡◌, ℕ, ◌<◌, ◌≤◌, ◌↔◌, List}
 use Rattle.program_types.specs.Content.{Value, Values}
 use Rattle.program_types.specs.Depth.{depth, greatest_depth}
@@ -9,8 +9,8 @@ use Rattle.program_types.proofs.Nesting.{from}
 use Rattle.program_rules.specs.Valid.{IsValidName}
 use Rattle.program_rules.specs.declared.nested.Walked.{Walked}
 use Rattle.program_rules.specs.declared.nested.Walked.TheVariants as walked
-use Rattle.program_rules.specs.declared.nested.Look.{Look}
-use Rattle.program_rules.specs.declared.nested.Look.TheVariants as look
+use Rattle.program_rules.specs.declared.nested.Progress.{Progress}
+use Rattle.program_rules.specs.declared.nested.Progress.TheVariants as progress
 
 -- A file can have all names in the value.
 abbrev pub IsGood : Value → Type 0
@@ -20,22 +20,22 @@ IsGood v = NamesHold IsValidName v
 abbrev pub AreGood : Values → Type 0
 AreGood vs = AllNamesHold IsValidName vs
 
--- What is known of a value: what is left of it stands for it, and is no deeper.
+-- What is known of a value: what is left of it decides it, and is no deeper.
 abbrev pub IsWalked : Value → Walked → Type 0
 IsWalked v walked.Valid = IsGood v
 IsWalked v walked.Invalid = ¬ IsGood v
 IsWalked v (walked.Left left) = (IsGood v ↔ IsGood (value left.now)) × (depth (value left.now) ≤ depth v)
 
--- What is known of a value that was looked at: the one that is left stands for it and is deeper within, or more are left of it.
-abbrev pub IsLook : Value → Look → Type 0
-IsLook v look.Valid = IsGood v
-IsLook v look.Invalid = ¬ IsGood v
-IsLook v (look.One left) = (IsGood v ↔ IsGood (value left.now)) × (depth (value left.now) < depth v)
-IsLook v (look.Many left) = (IsGood v ↔ IsGood (value left.now)) × (depth (value left.now) ≤ depth v)
+-- What is known of a value that was examined: the one that is left decides it and is deeper within, or more are left of it.
+abbrev pub IsProgress : Value → Progress → Type 0
+IsProgress v progress.Valid = IsGood v
+IsProgress v progress.Invalid = ¬ IsGood v
+IsProgress v (progress.One left) = (IsGood v ↔ IsGood (value left.now)) × (depth (value left.now) < depth v)
+IsProgress v (progress.Many left) = (IsGood v ↔ IsGood (value left.now)) × (depth (value left.now) ≤ depth v)
 
 -- What is known of an array of these values after the first i of them.
-abbrev pub IsSoFar : Value → List Held → ℕ → Look → Type 0
-IsSoFar v xs i look.Valid = AreGood (from xs 0) ↔ AreGood (from xs i)
-IsSoFar v xs i look.Invalid = ¬ AreGood (from xs 0)
-IsSoFar v xs i (look.One left) = (AreGood (from xs 0) ↔ (IsGood (value left.now) × AreGood (from xs i))) × (depth (value left.now) ≤ greatest_depth (from xs 0))
-IsSoFar v xs i (look.Many left) = value left.now ≡ v
+abbrev pub IsSoFar : Value → List Held → ℕ → Progress → Type 0
+IsSoFar v xs i progress.Valid = AreGood (from xs 0) ↔ AreGood (from xs i)
+IsSoFar v xs i progress.Invalid = ¬ AreGood (from xs 0)
+IsSoFar v xs i (progress.One left) = (AreGood (from xs 0) ↔ (IsGood (value left.now) × AreGood (from xs i))) × (depth (value left.now) ≤ greatest_depth (from xs 0))
+IsSoFar v xs i (progress.Many left) = value left.now ≡ v

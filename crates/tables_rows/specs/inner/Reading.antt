@@ -1,4 +1,4 @@
--- What the private functions of reading say.
+-- Reading: what the contracts of private functions cite.
 use Rattle.std.specs.Prelude.{◌≡◌, ◌↔◌, ℕ, ◌+◌, List, length, Some, Bool, false, IsTrue, get_or}
 use Rattle.std.specs.List.{slice_get}
 use Rattle.dex_base.specs.Descriptor.{IsMemberName}

@@ -4,7 +4,7 @@ use Rattle.dex_insn.specs.Raw.{Raw}
 use Rattle.program_types.specs.Content.{Name}
 use Rattle.program_types.specs.View.{insn}
 use Rattle.tables_rows.specs.Names.{NameIsAt}
-use Rattle.code_read.specs.Linked.{lead}
+use Rattle.code_read.specs.Linked.{target_number}
 use Rattle.code_read.specs.Symbols.{InsnNames, name_in}
 use Rattle.code_read.specs.inner.Symbols.{has_index}
 use Rattle.code_read.proofs.symbols.link.Goals as goal
@@ -22,7 +22,7 @@ pub returns-in_default : goal.returns-in_default
 unfolding has_index raw.raw
 returns-in_default c = record {
   some = record {
-    symbol = c.plain.ensures (lead c.args.starts.now c.args.base) (name_in (insn c.plain.result));
+    symbol = c.plain.ensures (target_number c.args.starts.now c.args.base) (name_in (insn c.plain.result));
     named = nameless (NameIsAt c.args.tables.now) (raw.raw c.args.one.now) (name_in (insn c.plain.result)) (search rules);
   };
   none = tt;

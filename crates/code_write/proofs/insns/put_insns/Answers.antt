@@ -1,7 +1,7 @@
 use Rattle.std.proofs.Common.{map, get_or, length, take, drop, suc, ap, add-one, arith, refl, sym, subst}
 use Rattle.std.proofs.lemmas.List.{length-map}
 use Rattle.std.specs.List.{flat_map}
-use Rattle.program_types.specs.Content.{Insn as Said}
+use Rattle.program_types.specs.Content.{Insn as SpecInsn}
 use Rattle.program_types.specs.Mentions.{names_of_insn}
 use Rattle.program_types.specs.declared.insn.Insn.{Insn}
 use Rattle.program_types.specs.View.{insn}
@@ -25,14 +25,14 @@ put_one-requires-clause-branch c =
     let m = length-map c.args.insns.now insn in
     let i = insn-at c.args.insns.now c.loop-k.k c.index-insns-k.result c.loop-k-test.true c.index-insns-k.is in
     let b = origin-branch (map insn c.args.insns.now) c.args.starts.now c.loop-k.k (get_or c.args.origins.now c.loop-k.k 0) (c.requires.origins.each c.loop-k.k (omega arith)) (c.requires.offsets c.loop-k.k c.loop-k-test.true) in
-    rw c.at.ensures.value (subst (λ (x : Said). BranchFits c.args.starts.now (get_or c.args.starts.now (get_or c.args.origins.now c.loop-k.k 0) 0) x) (sym i) b)
+    rw c.at.ensures.value (subst (λ (x : SpecInsn). BranchFits c.args.starts.now (get_or c.args.starts.now (get_or c.args.origins.now c.loop-k.k 0) 0) x) (sym i) b)
 
 pub put_one-requires-clause-targets : goal.put_one-requires-clause-targets
 put_one-requires-clause-targets c =
     let m = length-map c.args.insns.now insn in
     let i = insn-at c.args.insns.now c.loop-k.k c.index-insns-k.result c.loop-k-test.true c.index-insns-k.is in
     let b = origin-targets (map insn c.args.insns.now) c.args.starts.now c.loop-k.k (get_or c.args.origins.now c.loop-k.k 0) (c.requires.payloads c.loop-k.k c.loop-k-test.true) (c.requires.origins.each c.loop-k.k (omega arith)) (c.requires.offsets c.loop-k.k c.loop-k-test.true) in
-    rw c.at.ensures.value (subst (λ (x : Said). TargetsFit c.args.starts.now (get_or c.args.starts.now (get_or c.args.origins.now c.loop-k.k 0) 0) x) (sym i) b)
+    rw c.at.ensures.value (subst (λ (x : SpecInsn). TargetsFit c.args.starts.now (get_or c.args.starts.now (get_or c.args.origins.now c.loop-k.k 0) 0) x) (sym i) b)
 
 pub loop-k-init : goal.loop-k-init
 loop-k-init c = record { put = put-none (NameRanks c.args.ranks.now) (map insn c.args.insns.now) c.args.starts.now c.args.out.now.items; rest = c.requires.indices }

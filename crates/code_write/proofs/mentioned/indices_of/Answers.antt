@@ -1,7 +1,7 @@
 use Rattle.std.proofs.Common.{List, ◌++◌, map, take, arith, take_all, subst, sym}
 use Rattle.std.proofs.lemmas.List.{length-map}
 use Rattle.std.specs.List.{AllByRecursion, flat_map}
-use Rattle.program_types.specs.Content.{Insn as Said}
+use Rattle.program_types.specs.Content.{Insn as SpecInsn}
 use Rattle.program_types.specs.Mentions.{names_of_insn}
 use Rattle.program_types.specs.View.{insn}
 use Rattle.program_types.specs.declared.insn.Insn.{Insn}
@@ -20,7 +20,7 @@ pub put_index-requires : goal.put_index-requires
 put_index-requires c =
     let m = length-map c.args.insns.now insn in
     let i = insn-at c.args.insns.now c.loop-one.one-index c.one-item.result c.loop-one-test.true c.one-item.is in
-    subst (λ (x : Said). AllByRecursion (HasIndexBelow (NameRanks c.args.ranks.now) 4294967296) (names_of_insn x)) (sym i) (names-at (HasIndexBelow (NameRanks c.args.ranks.now) 4294967296) (map insn c.args.insns.now) c.loop-one.one-index c.requires (omega (arith, m, c.loop-one-test.true)))
+    subst (λ (x : SpecInsn). AllByRecursion (HasIndexBelow (NameRanks c.args.ranks.now) 4294967296) (names_of_insn x)) (sym i) (names-at (HasIndexBelow (NameRanks c.args.ranks.now) 4294967296) (map insn c.args.insns.now) c.loop-one.one-index c.requires (omega (arith, m, c.loop-one-test.true)))
 
 pub loop-one-preserved : goal.loop-one-preserved
 loop-one-preserved c =

@@ -4,7 +4,7 @@ use Rattle.std.specs.Int.{w32}
 use mir.Val.{SFits}
 use Rattle.std.proofs.lemmas.Int.{to_z-of_z}
 use Rattle.std.proofs.lemmas.List.{take_more, length-append, map-append, take_all}
-use Rattle.code_read.specs.Linked.{lead}
+use Rattle.code_read.specs.Linked.{target_number}
 use Rattle.code_write.specs.Fits.{distance_of}
 use Rattle.code_write.proofs.ListLaws.{all-at}
 use Rattle.code_write.proofs.payloads.distances.Goals as goal
@@ -23,9 +23,9 @@ loop-to-preserved c =
     let leads = c.distance.ensures.leads in
     record {
       so_far =
-          ap (map (lead c.args.starts.now c.args.at)) e
-          ∙ map-append (lead c.args.starts.now c.args.at) c.loop-to.all.items (z ∷ [])
-          ∙ ap (λ (l : List ℕ). l ++ lead c.args.starts.now c.args.at z ∷ []) c.loop-to.invariant.so_far
+          ap (map (target_number c.args.starts.now c.args.at)) e
+          ∙ map-append (target_number c.args.starts.now c.args.at) c.loop-to.all.items (z ∷ [])
+          ∙ ap (λ (l : List ℕ). l ++ target_number c.args.starts.now c.args.at z ∷ []) c.loop-to.invariant.so_far
           ∙ ap (λ (n : ℕ). take c.loop-to.to-index c.args.targets.now ++ n ∷ []) leads
           ∙ sym (take_more c.args.targets.now c.loop-to.to-index 0 c.loop-to-test.true);
       count = let n = c.loop-to.invariant.count in omega (arith, ap length e, length-append c.loop-to.all.items (z ∷ []));

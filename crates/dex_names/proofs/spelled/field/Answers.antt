@@ -7,4 +7,4 @@ pub returns-in-Some-clause-none : goal.returns-in-Some-clause-none
 returns-in-Some-clause-none c =
     let spells = rw c.in-Some.is at c.in_ok-units.ensures.found in
     IfNone-weaker c.read_field.result
-    (no_form IsFieldText c.args.said.now c.in-Some.units.now spells) c.read_field.ensures.none
+    (no_form IsFieldText c.args.written.now c.in-Some.units.now spells) c.read_field.ensures.none

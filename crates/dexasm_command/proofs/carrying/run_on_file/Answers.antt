@@ -1,7 +1,7 @@
 use Rattle.std.proofs.Common.{◌≡◌, sym, true}
 use Rattle.std.specs.Prelude.{is_some}
 use Rattle.dexasm_world.specs.State.{place_of}
-use Rattle.dexasm_world.specs.inner.Looks.{Gives}
+use Rattle.dexasm_world.specs.inner.FileKinds.{Gives}
 use Rattle.dexasm_command.proofs.OnFile.{on_file}
 use Rattle.dexasm_command.proofs.carrying.run_on_file.Goals as goal
 

@@ -1,5 +1,5 @@
 use Rattle.dexasm_command.proofs.Putting.{puts}
 use Rattle.dexasm_command.proofs.serving.hold_back.Goals as goal
 
-pub returns-clause-told : goal.returns-clause-told
-returns-clause-told g c = puts _ _ _ _ c.write_all.result c.write_all.ensures
+pub returns-clause-reported : goal.returns-clause-reported
+returns-clause-reported g c = puts _ _ _ _ c.write_all.result c.write_all.ensures

@@ -1,13 +1,13 @@
 use Rattle.std.proofs.Common.{◌≡◌, inl, true, sym, subst}
 use Rattle.std.proofs.lemmas.Result.{on_ok_weaker}
 use Rattle.dexasm_world.specs.State.{Path}
-use Rattle.dexasm_world.specs.inner.Looks.{IsLinkTarget}
-use Rattle.dexasm_world.proofs.Leading.{cause_at_link, untouched, through_link, delivered_at_link, over_delivered, no_room_nowhere}
+use Rattle.dexasm_world.specs.inner.FileKinds.{IsLinkTarget}
+use Rattle.dexasm_world.proofs.Leading.{cause_at_link, untouched, through_link, delivered_at_link, over_delivered, no_space_nowhere}
 use Rattle.dexasm_world.proofs.Leaving.{leaves_at_link, leaves_tidy}
 use Rattle.dexasm_world.proofs.delivery.deliver.Goals as goal
 
-pub returns-in-Ok-look : goal.returns-in-Ok-look
-returns-in-Ok-look g c =
+pub returns-in-Ok-kind_of : goal.returns-in-Ok-kind_of
+returns-in-Ok-kind_of g c =
     let f = g.W.World.files c.args.world.now in
     let d = g.W.World.files c.deliver_over.new.world in
     let out = c.args.out.now in
@@ -36,7 +36,7 @@ returns-in-Err-Missing-target-clause-done g c k =
     let f = g.W.World.files c.args.world.now in
     let link = rw c.in-Ok-Link.field-0-is at (c.in-Ok-Link.ensures k) in
     let nowhere = rw c.in-Err-Missing-target.field-0-is at (c.in-Err-Missing-target.ensures k) in
-    on_ok_weaker c.overwrite.result (over_delivered f c.args.out.now c.args.answer.now (g.W.World.files c.overwrite.new.world).now (no_room_nowhere f c.args.out.now link nowhere) (c.overwrite.ensures.moments k).last) (c.overwrite.ensures.done k)
+    on_ok_weaker c.overwrite.result (over_delivered f c.args.out.now c.args.answer.now (g.W.World.files c.overwrite.new.world).now (no_space_nowhere f c.args.out.now link nowhere) (c.overwrite.ensures.moments k).last) (c.overwrite.ensures.done k)
 
 pub returns-in-Err-Missing-target-clause-left : goal.returns-in-Err-Missing-target-clause-left
 returns-in-Err-Missing-target-clause-left g c k =

@@ -1,13 +1,13 @@
 use Rattle.std.proofs.Common.{rules, ◌≡◌, ℕ, true, false, Some, ◌∙◌, sym, ap, subst, arith, refl, inl}
 use Rattle.std.proofs.lemmas.Result.{on_ok_weaker}
 use Rattle.dexasm_world.specs.State.{Path, Paths, FileState, Files, Passes, place_of}
-use Rattle.dexasm_world.specs.Safe.{IsSafe, CanGive, HasRoomBeside}
+use Rattle.dexasm_world.specs.Safe.{IsSafe, CanGive, HasSpaceBeside}
 use Rattle.dexasm_world.specs.inner.Steps.{Same, MadeAs}
 use Rattle.dexasm_world.proofs.States.{same_state}
 use Rattle.dexasm_world.proofs.Leaving.{leaves_tidy, tidy_unmade, leaves_brought}
 use Rattle.dexasm_world.proofs.Passing.{stays}
 use Rattle.dexasm_world.proofs.Bringing.{dressed_some}
-use Rattle.dexasm_world.proofs.Choosing.{IsBeside, IsNewBeside, beside_by, new_beside, safe_at_first, trying, has_part, bringing, delivered, in_place, in_place_delivered, no_room, true_or, made_keeps, taken_more, taken_at_first}
+use Rattle.dexasm_world.proofs.Choosing.{IsBeside, IsNewBeside, beside_by, new_beside, safe_at_first, trying, has_part, bringing, delivered, in_place, in_place_delivered, no_space, true_or, made_keeps, taken_more, taken_at_first}
 use Rattle.dexasm_world.proofs.delivery.deliver_beside.Given as given
 use Rattle.dexasm_world.proofs.delivery.deliver_beside.Goals as goal
 use Rattle.dexasm_world.proofs.delivery.deliver_beside.Goals.{After-make}
@@ -51,9 +51,9 @@ module _ (g : given.Over) (c : After-make g) (k : g.W.World.is_known ≡ true) w
   gives can = (ap (λ (x : Paths). x.is_fixed (x.place path)) tried.same_paths ∙ can.free, false_from_ne_true c.args.is_shared (λ is. c.requires.shared k is can))
 
   -- the folder takes no new file
-  none : before.paths.is_closed part ≡ true → HasRoomBeside first path → ⊥
+  none : before.paths.is_closed part ≡ true → HasSpaceBeside first path → ⊥
   none closed =
-      no_room first path part c.loop-number.number c.loop-number-test.true (c.as_str-name.ensures.value ∙ c.in-Ok.ensures) (c.requires.plain k) (c.loop-number.invariant.taken k) (ap (λ (x : Paths). x.is_closed part) (sym (c.loop-number.invariant.moments k).same_paths) ∙ closed)
+      no_space first path part c.loop-number.number c.loop-number-test.true (c.as_str-name.ensures.value ∙ c.in-Ok.ensures) (c.requires.plain k) (c.loop-number.invariant.taken k) (ap (λ (x : Paths). x.is_closed part) (sym (c.loop-number.invariant.moments k).same_paths) ∙ closed)
 
 -- nothing is changed at first
 pub loop-number-init : goal.loop-number-init

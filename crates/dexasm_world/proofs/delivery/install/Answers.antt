@@ -2,7 +2,7 @@ use Rattle.std.proofs.Common.{rules, ◌≡◌, inl, ◌∙◌, sym, subst, true
 use Rattle.std.proofs.lemmas.Result.{on_ok_weaker}
 use Rattle.dexasm_world.specs.State.{FileState, Files, Passes, place_of}
 use Rattle.dexasm_world.specs.Safe.{HasAnswer}
-use Rattle.dexasm_world.specs.inner.Looks.{CanReplace}
+use Rattle.dexasm_world.specs.inner.FileKinds.{CanReplace}
 use Rattle.dexasm_world.proofs.States.{same_state}
 use Rattle.dexasm_world.proofs.Leaving.{gone_since, leaves_since}
 use Rattle.dexasm_world.proofs.Installing.{IsFine, replacing, removing, otherwise, brought_otherwise, can_replace, carry_part}

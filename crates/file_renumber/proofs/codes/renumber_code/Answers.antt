@@ -26,14 +26,14 @@ renumber_insns-requires-clause-insns c =
     let are : AreBytes c.args.sections.now = subst AreBytes c.bytes.ensures.value c.are_bytes.ensures.each in
     (y.raws, y.insns.walk, can_renumber_all c.args.sections.now c.args.off c.args.numbers.now c.requires.carried.0 c.item_at-item.result c.requires.carried.1 x y are c.item_at-item.ensures.framed c.are_bytes-2.ensures.each c.item_at-item.ensures.units)
 
-pub starts_asked-requires-clause-even : goal.starts_asked-requires-clause-even
-starts_asked-requires-clause-even c = let u = c.item_at-item.ensures.units in omega (arith, u)
+pub starts_needed-requires-clause-even : goal.starts_needed-requires-clause-even
+starts_needed-requires-clause-even c = let u = c.item_at-item.ensures.units in omega (arith, u)
 
-pub starts_asked-requires-clause-short : goal.starts_asked-requires-clause-short
-starts_asked-requires-clause-short c = let u = c.item_at-item.ensures.units in omega (arith, u)
+pub starts_needed-requires-clause-short : goal.starts_needed-requires-clause-short
+starts_needed-requires-clause-short c = let u = c.item_at-item.ensures.units in omega (arith, u)
 
-pub starts_asked-requires-clause-insns : goal.starts_asked-requires-clause-insns
-starts_asked-requires-clause-insns c = let y = c.item_at-item.ensures.spelled c.requires.carried.1 c.requires.carried.2.stands in (y.raws, y.insns.walk)
+pub starts_needed-requires-clause-insns : goal.starts_needed-requires-clause-insns
+starts_needed-requires-clause-insns c = let y = c.item_at-item.ensures.spelled c.requires.carried.1 c.requires.carried.2.stands in (y.raws, y.insns.walk)
 
 pub lay_tries-requires-clause-tries : goal.lay_tries-requires-clause-tries
 lay_tries-requires-clause-tries c =

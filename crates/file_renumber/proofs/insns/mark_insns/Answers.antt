@@ -23,13 +23,13 @@ mark_insn-requires-clause-marks c =
     let m = c.loop-at.invariant.marked x.0 x.1 x.2 in
     has_marks_after c.args.sections.now c.args.marks.now c.loop-at.marks (flat_map names_of_insn (take (length m.before) x.1)) c.requires.marks m.marked
 
-pub mark_insn-requires-clause-says : goal.mark_insn-requires-clause-says
-mark_insn-requires-clause-says c =
+pub mark_insn-requires-clause-resolves : goal.mark_insn-requires-clause-resolves
+mark_insn-requires-clause-resolves c =
     let x = c.requires.insns in
     let m = c.loop-at.invariant.marked x.0 x.1 x.2 in
     let n = next_in c.args.units.now _ m.before x.0 c.loop-at.at (rest_is (2 * c.loop-at.at) c.args.units.now) m.run x.2.walk c.loop-at-test.true in
     let s = says_next c.args.sections.now c.args.units.now m.before x.0 x.1 c.loop-at.at n.one m.run x.2 c.loop-at-test.true n.stands in
-    (s.to, n.one, _, record { spelled = n.front; shaped = c.shape_at-shape.ensures n.one n.front }, s.says)
+    (s.to, n.one, _, record { spelled = n.front; shaped = c.shape_at-shape.ensures n.one n.front }, s.resolves)
 
 pub size_at-requires : goal.size_at-requires
 size_at-requires c =
@@ -71,7 +71,7 @@ loop-at-preserved c =
           let t = says_next c.args.sections.now c.args.units.now m.before rs is c.loop-at.at n.one m.run s c.loop-at-test.true n.stands in
           subst (λ (k : ℕ). MarkedTo c.args.sections.now c.args.marks.now c.mark_insn.new.marks c.args.units.now (c.loop-at.at + k) is) (sym size)
           (marked_more c.args.sections.now c.args.marks.now c.loop-at.marks c.mark_insn.new.marks c.args.units.now c.loop-at.at n.one is m t.inside n.stands
-          (c.in_ok-mark_insn.ensures.marked t.to n.one _ (record { spelled = n.front; shaped = c.shape_at-shape.ensures n.one n.front }) t.says));
+          (c.in_ok-mark_insn.ensures.marked t.to n.one _ (record { spelled = n.front; shaped = c.shape_at-shape.ensures n.one n.front }) t.resolves));
       inside = omega (arith, there, size);
     }
 

@@ -8,8 +8,8 @@ use Rattle.listing_lines.proofs.labels.read_all.Given as goal
 
 abbrev pub invariant-loop-i : goal.invariant-loop-i
 invariant-loop-i l = record {
-  all : (more : List Datum) → SpellsAll l.labels (drop l.i l.slots) (map word (drop l.i l.words)) more → SpellsAll l.labels l.slots (map word l.words) (map datum l.says.items ++ more);
+  all : (more : List Datum) → SpellsAll l.labels (drop l.i l.slots) (map word (drop l.i l.words)) more → SpellsAll l.labels l.slots (map word l.words) (map datum l.word_values.items ++ more);
   bad : (code : ℕ) → MisspellsAll l.labels (drop l.i l.slots) (map word (drop l.i l.words)) code → MisspellsAll l.labels l.slots (map word l.words) code;
-  valid : StayValid l.fn.spelled l.spelled (map datum l.says.items);
-  room : vec_len l.says + length l.slots ≤ l.i + vec_capacity l.says;
+  valid : StayValid l.fn.spelled l.spelled (map datum l.word_values.items);
+  room : vec_len l.word_values + length l.slots ≤ l.i + vec_capacity l.word_values;
 }

@@ -8,13 +8,13 @@ use Rattle.listing_lines.proofs.lines.ints_between.Goals as goal
 use Rattle.listing_lines.proofs.lines.ints_between.Goals.{then-is_due+in_ok-push, else-is_due}
 
 pub loop-i-init : goal.loop-i-init
-loop-i-init c = between_start int_of c.args.said.now c.new-numbers.result.items c.new-numbers.ensures.items
+loop-i-init c = between_start int_of c.args.word_values.now c.new-numbers.result.items c.new-numbers.ensures.items
 
 pub loop-i-preserved : goal.loop-i-preserved
 loop-i-preserved c = elim c.if-is_due.branch [
   | then-is_due+in_ok-push w ↦
-      between_step int_of c.args.said.now c.loop-i.i w.index-said-i.result c.loop-i.is_due _ c.loop-i.numbers.items c.if-is_due.numbers.items c.loop-i-test.true c.loop-i.invariant
-      (inl (w.if-is_due.true, ap (λ v. v.items) w.numbers-is ∙ (let e : w.push.new.self.items ≡ c.loop-i.numbers.items ++ w.int_of.result ∷ [] = search rules in e) ∙ ap (λ z. c.loop-i.numbers.items ++ z ∷ []) (w.int_of.ensures ∙ ap (λ x. int_of (datum x)) w.index-said-i.is)))
+      between_step int_of c.args.word_values.now c.loop-i.i w.index-word_values-i.result c.loop-i.is_due _ c.loop-i.numbers.items c.if-is_due.numbers.items c.loop-i-test.true c.loop-i.invariant
+      (inl (w.if-is_due.true, ap (λ v. v.items) w.numbers-is ∙ (let e : w.push.new.self.items ≡ c.loop-i.numbers.items ++ w.int_of.result ∷ [] = search rules in e) ∙ ap (λ z. c.loop-i.numbers.items ++ z ∷ []) (w.int_of.ensures ∙ ap (λ x. int_of (datum x)) w.index-word_values-i.is)))
   | else-is_due w ↦
-      between_step int_of c.args.said.now c.loop-i.i (made.Key key.Equals) c.loop-i.is_due _ c.loop-i.numbers.items c.if-is_due.numbers.items c.loop-i-test.true c.loop-i.invariant (inr (w.if-is_due.false, ap (λ v. v.items) w.numbers-is))
+      between_step int_of c.args.word_values.now c.loop-i.i (made.Key key.Equals) c.loop-i.is_due _ c.loop-i.numbers.items c.if-is_due.numbers.items c.loop-i-test.true c.loop-i.invariant (inr (w.if-is_due.false, ap (λ v. v.items) w.numbers-is))
 ]

@@ -6,4 +6,4 @@ use Rattle.listing_lines.proofs.lines.make_insn.Goals as goal
 
 pub returns-in-None : goal.returns-in-None
 unfolding insn_of
-returns-in-None c = ap (λ (f : Option Format). insn_of f c.args.op (map datum c.args.said.now)) c.in-None.ensures
+returns-in-None c = ap (λ (f : Option Format). insn_of f c.args.op (map datum c.args.word_values.now)) c.in-None.ensures

@@ -1,9 +1,9 @@
 use Rattle.std.proofs.Common.{refl}
 use Rattle.listing_slots.specs.Data.{byte_of, name_of}
 use Rattle.listing_lines.specs.Lines.{insn_of}
-use Rattle.listing_parse.proofs.ShortLaws.{byte_said, three_said}
+use Rattle.listing_parse.proofs.ShortLaws.{byte_read, three_read}
 use Rattle.listing_parse.proofs.short.of_registers_name.Goals as goal
 
-pub returns-clause-said : goal.returns-clause-said
+pub returns-clause-word_values : goal.returns-clause-word_values
 unfolding insn_of byte_of name_of
-returns-clause-said c = λ es. three_said es refl (byte_said es c.in-Some.ensures) (byte_said es c.in-Some-take4.ensures) ((rw c.in-Some-2.is at c.in_ok-name.ensures.said) es) (λ ws. refl) refl
+returns-clause-word_values c = λ es. three_read es refl (byte_read es c.in-Some.ensures) (byte_read es c.in-Some-take4.ensures) ((rw c.in-Some-2.is at c.in_ok-name.ensures.word_values) es) (λ ws. refl) refl

@@ -1,5 +1,5 @@
 use Rattle.std.proofs.Common.{◌∷◌, [], refl, arith}
-use Rattle.listing_parse.proofs.ShortLaws.{byte_said}
+use Rattle.listing_parse.proofs.ShortLaws.{byte_read}
 use Rattle.listing_parse.proofs.short_pieces.take_registers.Goals as goal
 
 pub returns-in_default-take4 : goal.returns-in_default-take4
@@ -8,7 +8,7 @@ returns-in_default-take4 c = record {
   count = refl;
   most = omega arith;
   padded = refl;
-  each = λ es. (c.in-Some.after.now, byte_said es c.in-Some.ensures, refl);
+  each = λ es. (c.in-Some.after.now, byte_read es c.in-Some.ensures, refl);
 }
 
 pub returns-in_default-take4-2 : goal.returns-in_default-take4-2
@@ -17,7 +17,7 @@ returns-in_default-take4-2 c = record {
   count = refl;
   most = omega arith;
   padded = refl;
-  each = λ es. (c.in-Some.after.now, byte_said es c.in-Some.ensures, (c.in-Some-take4.after_b.now, byte_said es c.in-Some-take4.ensures, refl));
+  each = λ es. (c.in-Some.after.now, byte_read es c.in-Some.ensures, (c.in-Some-take4.after_b.now, byte_read es c.in-Some-take4.ensures, refl));
 }
 
 pub returns-in_default-take4-3 : goal.returns-in_default-take4-3
@@ -26,7 +26,7 @@ returns-in_default-take4-3 c = record {
   count = refl;
   most = omega arith;
   padded = refl;
-  each = λ es. (c.in-Some.after.now, byte_said es c.in-Some.ensures, (c.in-Some-take4.after_b.now, byte_said es c.in-Some-take4.ensures, (c.in-Some-take4-2.after_c.now, byte_said es c.in-Some-take4-2.ensures, refl)));
+  each = λ es. (c.in-Some.after.now, byte_read es c.in-Some.ensures, (c.in-Some-take4.after_b.now, byte_read es c.in-Some-take4.ensures, (c.in-Some-take4-2.after_c.now, byte_read es c.in-Some-take4-2.ensures, refl)));
 }
 
 pub returns-in_default-take4-4 : goal.returns-in_default-take4-4
@@ -35,7 +35,7 @@ returns-in_default-take4-4 c = record {
   count = refl;
   most = omega arith;
   padded = refl;
-  each = λ es. (c.in-Some.after.now, byte_said es c.in-Some.ensures, (c.in-Some-take4.after_b.now, byte_said es c.in-Some-take4.ensures, (c.in-Some-take4-2.after_c.now, byte_said es c.in-Some-take4-2.ensures, (c.in-Some-take4-3.after_d.now, byte_said es c.in-Some-take4-3.ensures, refl))));
+  each = λ es. (c.in-Some.after.now, byte_read es c.in-Some.ensures, (c.in-Some-take4.after_b.now, byte_read es c.in-Some-take4.ensures, (c.in-Some-take4-2.after_c.now, byte_read es c.in-Some-take4-2.ensures, (c.in-Some-take4-3.after_d.now, byte_read es c.in-Some-take4-3.ensures, refl))));
 }
 
 pub returns : goal.returns
@@ -44,5 +44,5 @@ returns c = record {
   count = refl;
   most = omega arith;
   padded = refl;
-  each = λ es. (c.in-Some.after.now, byte_said es c.in-Some.ensures, (c.in-Some-take4.after_b.now, byte_said es c.in-Some-take4.ensures, (c.in-Some-take4-2.after_c.now, byte_said es c.in-Some-take4-2.ensures, (c.in-Some-take4-3.after_d.now, byte_said es c.in-Some-take4-3.ensures, (c.in-Some-take4-4.after_e.now, byte_said es c.in-Some-take4-4.ensures, refl)))));
+  each = λ es. (c.in-Some.after.now, byte_read es c.in-Some.ensures, (c.in-Some-take4.after_b.now, byte_read es c.in-Some-take4.ensures, (c.in-Some-take4-2.after_c.now, byte_read es c.in-Some-take4-2.ensures, (c.in-Some-take4-3.after_d.now, byte_read es c.in-Some-take4-3.ensures, (c.in-Some-take4-4.after_e.now, byte_read es c.in-Some-take4-4.ensures, refl)))));
 }

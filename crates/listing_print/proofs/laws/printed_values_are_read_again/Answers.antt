@@ -3,4 +3,4 @@ use Rattle.listing_print.proofs.MadeLaws.{value_made}
 use Rattle.listing_print.proofs.laws.printed_values_are_read_again.Goals as goal
 
 pub returns : goal.returns
-returns c = record { slots = value_whole; says = value_made }
+returns c = record { slots = value_whole; value = value_made }

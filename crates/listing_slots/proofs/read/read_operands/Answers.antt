@@ -9,10 +9,10 @@ returns-clause-all c = rw append-nil at (c.loop-i.invariant.all [] (all_end c.ar
 
 pub loop-i-preserved : goal.loop-i-preserved
 loop-i-preserved c =
-    let found = rw c.in-Some.is at c.in_ok-said.ensures.found in
+    let found = rw c.in-Some.is at c.in_ok-word_value.ensures.found in
     record {
-      all = λ more m. rw (c.in_ok-push.ensures.items, data_push c.loop-i.says.items c.in-Some.said more)
-          (c.loop-i.invariant.all (datum c.in-Some.said ∷ more) (all_more c.args.slots.now c.args.words.now c.loop-i.i _ _ (datum c.in-Some.said) more c.loop-i-test.true c.requires found m));
-      bad = λ code b. c.loop-i.invariant.bad code (bad_more c.args.slots.now c.args.words.now c.loop-i.i _ _ (datum c.in-Some.said) code c.loop-i-test.true c.requires found b);
-      valid = rw (c.in_ok-push.ensures.items, map-append) (stay_more c.args.spelled.now c.loop-i.spelled c.read_datum.new.spelled (map datum c.loop-i.says.items) (datum c.in-Some.said) c.loop-i.invariant.valid (rw c.in-Some.is at c.in_ok-said.ensures.valid));
+      all = λ more m. rw (c.in_ok-push.ensures.items, data_push c.loop-i.word_values.items c.in-Some.word_value more)
+          (c.loop-i.invariant.all (datum c.in-Some.word_value ∷ more) (all_more c.args.slots.now c.args.words.now c.loop-i.i _ _ (datum c.in-Some.word_value) more c.loop-i-test.true c.requires found m));
+      bad = λ code b. c.loop-i.invariant.bad code (bad_more c.args.slots.now c.args.words.now c.loop-i.i _ _ (datum c.in-Some.word_value) code c.loop-i-test.true c.requires found b);
+      valid = rw (c.in_ok-push.ensures.items, map-append) (stay_more c.args.spelled.now c.loop-i.spelled c.read_datum.new.spelled (map datum c.loop-i.word_values.items) (datum c.in-Some.word_value) c.loop-i.invariant.valid (rw c.in-Some.is at c.in_ok-word_value.ensures.valid));
     }

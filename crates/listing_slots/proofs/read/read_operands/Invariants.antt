@@ -8,7 +8,7 @@ use Rattle.listing_slots.proofs.read.read_operands.Given as goal
 
 abbrev pub invariant-loop-i : goal.invariant-loop-i
 invariant-loop-i l = record {
-  all : (more : List Datum) → SpellsSlots (drop l.i l.slots) (map word (drop l.i l.words)) more → SpellsSlots l.slots (map word l.words) (map datum l.says.items ++ more);
+  all : (more : List Datum) → SpellsSlots (drop l.i l.slots) (map word (drop l.i l.words)) more → SpellsSlots l.slots (map word l.words) (map datum l.word_values.items ++ more);
   bad : (code : ℕ) → MisspellsSlots (drop l.i l.slots) (map word (drop l.i l.words)) code → MisspellsSlots l.slots (map word l.words) code;
-  valid : StayValid l.fn.spelled l.spelled (map datum l.says.items);
+  valid : StayValid l.fn.spelled l.spelled (map datum l.word_values.items);
 }

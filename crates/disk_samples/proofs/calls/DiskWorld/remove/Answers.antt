@@ -33,12 +33,12 @@ returns-in-Failure-clause-cause c k = fails_fault (Remove c.in-Some.place) MayHa
 pub returns-in-Failure-clause-left : goal.returns-in-Failure-clause-left
 returns-in-Failure-clause-left c k = fails_leftover (Remove c.in-Some.place) MayHaveLeft c.args.self.now c.attempt.new.self refl c.in-Failure.ensures
 
-pub returns-in-NoRoom-clause-moments : goal.returns-in-NoRoom-clause-moments
-returns-in-NoRoom-clause-moments c k j =
+pub returns-in-NoSpace-clause-moments : goal.returns-in-NoSpace-clause-moments
+returns-in-NoSpace-clause-moments c k j =
     let s = (files_of c.args.self.now).now in
-    gains_pass _ _ _ (IsOnTheWay s c.args.path.now) (gains_after _ _ _ _ c.in-NoRoom.ensures c.take_away.ensures) (inr (removed_at c.in-Some.place c.args.path.now s c.in-Some.ensures.0))
+    gains_pass _ _ _ (IsOnTheWay s c.args.path.now) (gains_after _ _ _ _ c.in-NoSpace.ensures c.take_away.ensures) (inr (removed_at c.in-Some.place c.args.path.now s c.in-Some.ensures.0))
 
-pub returns-in-NoRoom-clause-removed : goal.returns-in-NoRoom-clause-removed
-returns-in-NoRoom-clause-removed c k j =
+pub returns-in-NoSpace-clause-removed : goal.returns-in-NoSpace-clause-removed
+returns-in-NoSpace-clause-removed c k j =
     let s = (files_of c.args.self.now).now in
-    subst (Removed c.args.path.now s) (sym (gains_now _ _ _ (gains_after _ _ _ _ c.in-NoRoom.ensures c.take_away.ensures))) (removed_at c.in-Some.place c.args.path.now s c.in-Some.ensures.0)
+    subst (Removed c.args.path.now s) (sym (gains_now _ _ _ (gains_after _ _ _ _ c.in-NoSpace.ensures c.take_away.ensures))) (removed_at c.in-Some.place c.args.path.now s c.in-Some.ensures.0)

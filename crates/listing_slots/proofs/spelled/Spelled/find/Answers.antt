@@ -8,8 +8,8 @@ use Rattle.listing_slots.specs.inner.View.{datum}
 use Rattle.listing_slots.proofs.KeyLaws.{same_true}
 use Rattle.listing_slots.proofs.spelled.Spelled.find.Goals as goal
 
-pub returns-then-is_same-clause-said : goal.returns-then-is_same-clause-said
-returns-then-is_same-clause-said c =
+pub returns-then-is_same-clause-word_value : goal.returns-then-is_same-clause-word_value
+returns-then-is_same-clause-word_value c =
     let one = c.in_ok-one.one in
     let kept = subst IsSpelled (sym c.index.ensures ∙ c.in_ok-one.was) (c.self.invariant.spelled c.args.at c.index.result.now (omega (arith, c.len.ensures, c.if-at-len.false))) in
     subst (λ (slot : Slot). SpellsSlot slot (plain_word c.args.text.now) (datum one.name)) (c.is_same_slot.ensures c.if-is_same_slot.true)
