@@ -21,6 +21,6 @@ mod program_laws;
 mod programs;
 
 pub use aligning::align;
-pub use laws::{aligned_is_one, aligned_is_same};
+pub use laws::{aligned_exists, aligned_is_one, aligned_is_same};
 pub use program_laws::{aligned_program_is_one, what_is_too_long_is_not_formed};
 pub use programs::align_all;
