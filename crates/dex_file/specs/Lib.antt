@@ -74,10 +74,10 @@ pub use Rattle.file_layout.specs.Sections
 pub use Rattle.file_layout.specs.Tiles
 pub use Rattle.file_limits.specs.Limits
 pub use Rattle.file_limits.specs.Wide as FileLimitsWide
-pub use Rattle.file_put.specs.Data
+pub use Rattle.file_write.specs.Data
 pub use Rattle.file_read.specs.Means
 pub use Rattle.file_read.specs.Refused
-pub use Rattle.file_strip.specs.AtLeast
+pub use Rattle.file_write.specs.AtLeast
 pub use Rattle.file_write.specs.Least
 pub use Rattle.file_write.specs.Packed
 pub use Rattle.file_write.specs.Written as FileWriteWritten

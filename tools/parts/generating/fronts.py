@@ -1,8 +1,9 @@
 """specs/Lib.antt of the crates that users name: each hands on the definitions that its public contracts rest on, so that
 whoever proves something about a program of their own names that crate alone. Its own modules stand there by hand.
 
-What stands in a crate that crates.txt lists for a front is handed on from there, all else from another front that is
-listed. A name that two modules have is preceded by that of its crate.
+A definition of a crate that crates.txt lists for a front is handed on from there, all others from another front that is
+listed, or from a listed crate that hands them on itself: each crate that a line of crates.txt names costs rt the paths
+below it. A name that two modules have is preceded by that of its crate.
 """
 import collections
 import os
@@ -34,6 +35,12 @@ def camel(crate: str) -> str:
     return "".join(word.capitalize() for word in crate.split("_"))
 
 
+def own_lines(crate: str) -> str:
+    """The lines of a crate's specs/Lib.antt, if it has definitions."""
+    lib = f"crates/{crate}/specs/Lib.antt"
+    return read(lib) if os.path.exists(lib) else ""
+
+
 def handed_on(front: str, path: str, name: str) -> str | None:
     """The line that hands a file on; None where no crate that is listed has it."""
     listed = stands_on()[front]
@@ -42,7 +49,9 @@ def handed_on(front: str, path: str, name: str) -> str | None:
     else:
         there = next((other for other in listed if other in FRONTS and path in names(other)), "")
         if not there:
-            return None
+            line = f"pub use Rattle.{crate_of(path)}.specs.{module_of(path)}\n"
+            by = next((other for other in listed if other not in FRONTS and line in own_lines(other)), None)
+            return by and f"pub use Rattle.{by}.specs.{module_of(path)}" + (f" as {name}" if name != module_of(path) else "")
         module = names(there)[path]
     return f"pub use Rattle.{there}.specs.{module}" + (f" as {name}" if name != module else "")
 
