@@ -34,7 +34,7 @@ units-even bytes w =
     let late = begins_late bytes in let l = w.fixed in
     slice-length bytes 16 (units_end bytes) (omega arith) (omega arith) ∙ (let z : units_end bytes - 16 ≡ 2 * insns_size bytes = omega arith in z)
 
--- what is asked of the units before they are read
+-- what has to hold of the units before they are read
 pub units-asked : (bytes us : List ℕ) → HasFixedParts bytes → us ≡ insns_bytes bytes → length bytes < 4294967296 → (length us % 2 ≡ 0) × (length us ≤ 8589934590)
 units-asked bytes us w are short =
     let e : length us ≡ 2 * insns_size bytes = ap length are ∙ units-even bytes w in

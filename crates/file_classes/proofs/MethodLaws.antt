@@ -261,7 +261,7 @@ module _ (b : List ℕ) (names : Names) (are : AreNamesOf b names) (off : ℕ) (
   pub found_some : {C : Type 0} (Is : C → Option Code → Type 0) (x : FoundCode C) → Is x.code (Some code) → IfNone x.past (Named code) → IfSome x.past (Overrun off code) → IsFound Is b off x
   found_some Is x is named past = record { some = Some code; body = body_stands_at; is = is; hold = code_holds_at x.past named; past = registers_fail_at x.past past }
 
--- no code stands at 0
+-- there is no code at 0
 pub found_none : {C : Type 0} (b : List ℕ) (off : ℕ) (Is : C → Option Code → Type 0) (c : C) → off ≡ 0 → Is c None → IsFound Is b off (record { code = c; past = None })
 found_none b off Is c zero is = record { some = None; body = at_none off _ _ zero refl; is = is; hold = (None, at_none off _ _ zero refl); past = tt }
 

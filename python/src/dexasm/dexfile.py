@@ -19,7 +19,7 @@ Parsed = TypeVar("Parsed")
 Kind = TypeVar("Kind", int, str)
 Owner = TypeVar("Owner")
 Claim = tuple[int, int, int]  # begin, end and kind
-Links = Sequence[tuple["Read", int]]  # what an item that isn't needed leads to, and how that is read
+Links = Sequence[tuple["Read", int]]  # what an item that isn't needed refers to, and how that is read
 Read = Callable[["Reader"], Links]
 
 HEADER, MAP_OFF = 112, 52

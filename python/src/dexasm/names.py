@@ -93,7 +93,7 @@ class MemberRef(Name):
     """What names of fields and methods have in common; none is of this kind itself."""
 
     __slots__ = ()
-    behind: str  # what stands behind the member's own name
+    behind: str  # what follows the member's own name
 
     @property
     def owner(self) -> Type:

@@ -120,7 +120,7 @@ IsNotAmong ts m n = (j : ℕ) (t : content.Units) → j < m → slice_get ts j �
 
 -- ---- methods with their code
 
--- This is kept of the body at an offset, and the code stands or this is the fault of its registers.
+-- This is kept of the body at an offset: its code is right, or this is the fault of its registers.
 pub record IsFound {C : Type 0} (Is : C → Option content.Code → Type 0) (b : List ℕ) (off : ℕ) (x : FoundCode C) : Type 0 where
   pub some : Option content.Code
   pub body : BodyAt b off some

@@ -1,4 +1,4 @@
--- Arrays of values that stand in a file and whose names have numbers, by which they are encoded again.
+-- Arrays of values of a file whose names have numbers, by which they are encoded again.
 -- Page: "Dalvik Executable format", "encoded_value encoding" and "encoded_array format".
 use Rattle.std.specs.Prelude.{◌≡◌, ℕ, List, [], ◌∷◌}
 use Rattle.dex_base.specs.Leb128.{Shortest}

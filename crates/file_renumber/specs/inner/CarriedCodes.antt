@@ -1,4 +1,4 @@
--- Codes that stand in a file and whose names have numbers, by which they are encoded again.
+-- Codes of a file whose names have numbers, by which they are encoded again.
 -- Page: "Dalvik Executable format", "code_item".
 use Rattle.std.specs.Prelude.{ℕ, ◌+◌, ◌*◌, ◌≤◌, ◌++◌, List}
 use Rattle.std.specs.List.{AllByRecursion, flat_map}

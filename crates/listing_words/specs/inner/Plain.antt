@@ -1,4 +1,4 @@
--- Units that stand for themselves: what the contracts of private functions cite.
+-- Units that are printed as they are: what the contracts of private functions cite.
 use Rattle.std.specs.Prelude.{◌≡◌, ℕ, ◌<◌, ◌≤◌, Bool, true, false, List, ◌++◌, take, length, slice_index, EachIndex}
 use Rattle.listing_words.specs.Texts.{IsUnescaped}
 

@@ -226,7 +226,7 @@ def explain_refusal(number: int, name: str, place: int, data: bytes | None) -> E
 
 
 def explain_line(line: str, inputs: list[Input]) -> Explanation | None:
-    """What is known of the refusal that a line has: of several files that whose entry of the archive stands before it."""
+    """What is known of the refusal that a line has: of several files that whose entry of the archive is before it."""
     found = REFUSAL.match(line)
     if found is None or int(found[1]) not in SENTENCES:
         return None

@@ -165,7 +165,7 @@ def main(parser: Parser) -> int:
         parser.add_argument(f"--{option}", action="store_true")
     parser.add_argument("query", choices=[*QUERIES, "tables", *NAMED])
     parser.add_argument("rest", nargs="*")
-    args = parser.parse_intermixed_args()  # (an option may stand behind the query)
+    args = parser.parse_intermixed_args()  # (an option may follow the query)
     file, names = args.rest[0] if args.rest else None, args.rest[1:]
     for option, query in OPTIONS.items():
         if getattr(args, option) and args.query != query:

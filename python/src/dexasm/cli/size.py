@@ -105,7 +105,7 @@ def change_line(row: Change) -> list[str]:
 def print_rows(
     args: Namespace, heads: Sequence[str], rows: list[list[Any]], lines: Iterable[Sequence[str]], **fields: Any
 ) -> None:
-    """Rows in the form that is asked for; as a table they are these lines, but where a page takes their place."""
+    """Rows in the requested form; as a table they are these lines, but where a page takes their place."""
     if args.json:
         print(json.dumps(fields | {"rows": [dict(zip(heads, row)) for row in rows]}, indent=1))
     elif args.csv or args.csv_raw:

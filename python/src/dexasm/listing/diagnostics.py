@@ -87,7 +87,7 @@ def _of_line(read: Listing, number: int, place: int) -> Place | None:
         one = read.class_at(index)
         found = target_missing(one, line) if one else None
     else:
-        # (a line that begins a class in the wrong place stands in the one before it, and 106 is of what stands up to it)
+        # (a line that begins a class in the wrong place is in the one before it, and 106 is of what comes before it)
         before = read.class_at(index - (number == 103 and line.key == "class"), place - (number != 106))
         found = in_line(read, number, line, before)
     return _placed(read, index, found or Diagnostic(line), place)

@@ -97,7 +97,7 @@ def _of_proto(line: Line, text: str) -> str | None:
 
 
 def _arrays_turned(type_: str, text: str) -> str:
-    """A text with the brackets before each type that stand behind it."""
+    """A text with the brackets before each type that follow it."""
     return re.sub(rf"({type_})((?:\[\])+)", lambda found: "[" * (len(found[2]) // 2) + found[1], text)
 
 

@@ -104,7 +104,7 @@ def _misaligned(one: Class, align: bool) -> Iterator[Diagnostic]:
 
 
 LIMITS: dict[int, Callable[[Class, bool], Iterator[Diagnostic]]] = {85: _branches, 86: _misaligned}
-# What is said of the class alone: where in it depends on how the writer lays out tables and handlers.
+# What names the class alone: where in it depends on how the writer lays out tables and handlers.
 _FAR = f"a %s that an instruction names has an index above {_MOST}: %s"
 OF_CLASS = {
     82: _FAR % ("string", "const-string/jumbo reaches each string"),

@@ -81,7 +81,7 @@ def _misplaced(read: Listing, line: Line, before: Class | None) -> Diagnostic:
     return Diagnostic(line, word, why)
 
 
-# Why a line may not stand in a class, outside of a code; "" is any other.
+# Why a line is not allowed in a class, outside of a code; "" is any other.
 _IN_CLASS = {
     "class": "`end class` is missing before it: line {} begins a class",
     "end": "no code is begun that it could end",

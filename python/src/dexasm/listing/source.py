@@ -29,7 +29,7 @@ class Kind(NamedTuple):
 
 
 _TARGET, _COUNT, _INT = Kind("target"), Kind("number", 16), Kind("number", 32, True)
-# What stands behind the first word of a line that is no instruction.
+# What follows the first word of a line that is no instruction.
 MEMBERS = {
     "static": ("NAME", "TYPE", "FLAGS"),
     "instance": ("NAME", "TYPE", "FLAGS"),
@@ -227,7 +227,7 @@ def plural(count: int, noun: str) -> str:
 
 
 def operands(form: Format) -> list[tuple[str, Kind]]:
-    """What stands behind a mnemonic, but for registers in braces, in the listing's order: each with its name in messages."""
+    """What follows a mnemonic, but for registers in braces, in the listing's order: each with its name in messages."""
     found = [(f"v{'ABC'[at]}", Kind("register", bits)) for at, bits in enumerate(form.registers)]
     found += [("count", Kind("number", 8))] * form.is_range
     found += [("number", Kind("number", form.literal, True))] * (form.literal > 0)

@@ -19,7 +19,7 @@ LONGEST_NEAR = 40  # characters of a word that others are near to
 MOST_LISTED = 5  # registers of a call
 NUMBER = r"-?(?:[0-9]+|0x[0-9A-Fa-f]+)"
 TYPE = r"\[*(?:[VZBSCIJFD]|L[^;]+;)"
-# How a word looks that stands at a place of this name; others are numbers.
+# The form of a word in a place of this name; others are numbers.
 PATTERNS = {
     "v": "v[0-9]+",
     ":": "[:@].*",

@@ -19,7 +19,7 @@ Require = Callable[["Method", RegisterLine, int, int], None]
 
 
 def single(attribute: str, wanted: str) -> Require:
-    """Asks that a register has such a kind."""
+    """Checks that a register has such a kind."""
     is_one: Callable[[RegType], bool] = attrgetter(attribute)
 
     def require(method: Method, line: RegisterLine, register: int, place: int) -> None:
@@ -30,7 +30,7 @@ def single(attribute: str, wanted: str) -> Require:
 
 
 def pair(attribute: str, wanted: str) -> Require:
-    """Asks that two registers have the halves of such a pair."""
+    """Checks that two registers have the halves of such a pair."""
     is_one: Callable[[RegType], bool] = attrgetter(attribute)
 
     def require(method: Method, line: RegisterLine, register: int, place: int) -> None:
